@@ -1,13 +1,16 @@
 """A recording, run again against a service."""
 import http.client
+from typing import Callable, List, Sequence, Tuple
 
-from ..service import Fault
+from ..service import Fault, Service
+from .compare import Pointer
 from .play import play
-from .record import find, parsed
-from .report import judged
+from .record import Recording, find, parsed
+from .report import Result, judged
 
 
-def rerun(service, recording, pointers=(), one_by_one=False, is_over=lambda: False, exact=False):
+def rerun(service: Service, recording: Recording, pointers: Sequence[Pointer] = (), one_by_one: bool = False,
+          is_over: Callable[[], bool] = lambda: False, exact: bool = False) -> Tuple[List[Result], str]:
     """Sends what was recorded to a service that is ready. Gives the results and the service's history."""
     served = [each for each in recording.invocations if each.was_served]
     names = {function["name"] for function in service.configuration["functions"]}
@@ -22,7 +25,8 @@ def rerun(service, recording, pointers=(), one_by_one=False, is_over=lambda: Fal
     results = []
     for then, made in zip(served, sent):
         found = find(now, then.function, made.identifier) if made.identifier else None
-        kind, body = (found.kind, found.body) if found else (f"status {made.status}", made.body)
+        kind = found.kind if found else f"status {made.status}"
+        body = found.body if found else made.body
         if kind == "stopped":
             raise Fault(
                 2, f"the service has ended while call {then.ticket} of {then.function} was sent again: it was stopped")

@@ -13,6 +13,8 @@ docs/rerun.md has an example.
 Each invocation is equal; changed, with what differs by JSON pointer; failed now (with what), or failed then.
 Exit statuses: 0, all are equal; 1, something differs; 2, a fault in the arguments or the files, or the functions could
 not be run to the end; 4, there is no program to start."""
+import argparse
+import io
 import os
 import stat
 import sys
@@ -27,7 +29,7 @@ from .record import read
 from .report import EQUAL, text_of, write_junit
 
 
-def options_of():
+def options_of() -> argparse.Namespace:
     parser = parser_of("rerun", __doc__)
     parser.add_argument("history", metavar="HISTORY")
     parser.add_argument("up", metavar="UP.json")
@@ -47,7 +49,7 @@ def options_of():
     return parser.parse_args()
 
 
-def write(path, text):
+def write(path: str, text: str) -> None:
     """Writes a file whole or not at all; it stays as private as the one in whose place it comes."""
     try:
         mode = stat.S_IMODE(os.stat(path).st_mode)
@@ -59,7 +61,7 @@ def write(path, text):
         raise Fault(2, f"--update: {path}: {fault.strerror}") from None
 
 
-def run(options):
+def run(options: argparse.Namespace) -> int:
     pointers = [pointer_of(text) for text in options.ignore]
     recording = read(options.history)
     functions = Functions(options.up, recording, options.program, options.ready, options.verbose)
@@ -74,10 +76,11 @@ def run(options):
     return 0 if all(result.verdict == EQUAL for result in results) else 1
 
 
-def main():
+def main() -> int:
     """Runs again what the command line names."""
     options = options_of()
-    sys.stdout.reconfigure(errors="backslashreplace")
+    if isinstance(sys.stdout, io.TextIOWrapper):
+        sys.stdout.reconfigure(errors="backslashreplace")
     try:
         return run(options)
     except Fault as fault:

@@ -1,44 +1,56 @@
 """The functions of an UP.json, started by what tools/up has, for as long as invocations are sent to them."""
+import argparse
 import threading
-from types import SimpleNamespace
+from typing import Callable, List, Optional, Tuple, TypeVar
 
 from ..service import Fault
+from ..up.environments import Environment
 from ..up.log import Log
 from ..up.members import load
 from ..up.session import Session
+from .record import Recording
+
+Given = TypeVar("Given")
 
 FAILED_STARTS = 3  # of an environment, before it is given up
 
 
-def silent(*_, **__):
+class Silent(Log):
     """Says nothing of what tools/up says."""
+
+    def __init__(self) -> None:
+        self.form = "text"
+
+    def __call__(self, who: str, text: str, level: str = "info", kind: str = "up", always: bool = False,
+                 **members: object) -> None:
+        pass
 
 
 class Functions(Session):
     """Prints nothing itself, unless it is verbose, and saves no history."""
 
-    def __init__(self, path, recording, program, ready, verbose):
-        options = SimpleNamespace(up=path, debug=None, salt=recording.salt, program=program, reload=False,
-                                  keep_credentials=False, ready=ready, command=["rerun"], history=None, only=None,
-                                  allow_unready=False, drain=5, report=None)
+    def __init__(self, path: str, recording: Recording, program: Optional[str], ready: float, verbose: bool) -> None:
+        options = argparse.Namespace(up=path, debug=None, salt=recording.salt, program=program, reload=False,
+                                     keep_credentials=False, ready=ready, command=["rerun"], history=None, only=None,
+                                     allow_unready=False, drain=5, report=False)
         names = {function.name for function in load(path)[1]}
         for invocation in recording.invocations:
             if invocation.was_served and invocation.function not in names:
                 raise Fault(2, f"{path}: there is no function {invocation.function}, which the history invokes")
-        super().__init__(options, Log() if verbose else silent)
+        super().__init__(options, Log() if verbose else Silent())
 
-    def late(self):
+    def late(self) -> Tuple[List[Environment], List[Environment]]:
         """As tools/up has it; a command that ends each time is not waited for."""
         for environment in self.environments:
             if environment.restarts.early >= FAILED_STARTS:
                 raise Fault(2, f"{self.options.up}: not ready: {self.lateness(environment)}")
         return super().late()
 
-    def used(self, use):
+    def used(self, use: Callable[[], Given]) -> Given:
         """What `use` gives once all are ready; whatever happens, nothing is left running."""
         for thread in self.threads:
             thread.start()
-        threading.Thread(target=lambda: (self.service.process.wait(), self.happened.set()), daemon=True).start()
+        threading.Thread(target=self.note_end, daemon=True).start()
         try:
             if not self.wait_until_ready():
                 raise Fault(2, "the service has ended before its functions were ready")

@@ -2,10 +2,11 @@
 import http.client
 import threading
 import time
-from typing import NamedTuple, Optional
+from typing import Callable, List, Mapping, NamedTuple, Optional, Sequence, Tuple
 from urllib.parse import quote
 
 from ..service import Fault
+from .record import Invocation
 
 LATE = 30  # seconds beyond a function's timeout, after which the service does not answer
 THROTTLED = 10  # seconds for which an invocation that was admitted when it was recorded is tried again
@@ -23,12 +24,14 @@ class Sent(NamedTuple):
 class Attempt(threading.Thread):
     """One invocation. `is_sent` is set once the service has it, so that the next one comes after it."""
 
-    def __init__(self, port, invocation, timeout):
+    def __init__(self, port: int, invocation: Invocation, timeout: float) -> None:
         super().__init__(daemon=True)
         self.port, self.invocation, self.timeout = port, invocation, timeout
-        self.is_sent, self.sent, self.fault = threading.Event(), None, None
+        self.is_sent = threading.Event()
+        self.sent: Optional[Sent] = None
+        self.fault: Optional[str] = None
 
-    def run(self):
+    def run(self) -> None:
         begun = time.monotonic()
         try:
             status, identifier, body = self.invoke()
@@ -41,7 +44,7 @@ class Attempt(threading.Thread):
         finally:
             self.is_sent.set()
 
-    def invoke(self):
+    def invoke(self) -> Tuple[int, Optional[str], bytes]:
         path = f"/2015-03-31/functions/{quote(self.invocation.function)}/invocations"
         if self.invocation.qualifier:
             path += "?Qualifier=$LATEST"
@@ -56,12 +59,15 @@ class Attempt(threading.Thread):
             connection.close()
 
 
-def play(port, invocations, timeouts, one_by_one=False, is_over=lambda: False):
+def play(port: int, invocations: Sequence[Invocation], timeouts: Mapping[str, int], one_by_one: bool = False,
+         is_over: Callable[[], bool] = lambda: False) -> List[Sent]:
     """Sends the invocations in their order, each once those are answered that were answered before it came, or once all
     are answered that came before it. Gives what came of each. `is_over` says that the service has gone."""
-    running, done = [], []
+    running: List[Attempt] = []
+    done: List[Attempt] = []
     for invocation in invocations:
-        for attempt in [other for other in running if one_by_one or other.invocation.end < invocation.ticket]:
+        for attempt in [other for other in running
+                        if one_by_one or (other.invocation.end or 0) < invocation.ticket]:
             wait(attempt, is_over)
             running.remove(attempt)
         attempt = Attempt(port, invocation, timeouts.get(invocation.function, 0) + LATE)
@@ -71,10 +77,10 @@ def play(port, invocations, timeouts, one_by_one=False, is_over=lambda: False):
         done.append(attempt)
     for attempt in running:
         wait(attempt, is_over)
-    return [attempt.sent for attempt in done]
+    return [attempt.sent for attempt in done if attempt.sent]
 
 
-def wait(attempt, is_over):
+def wait(attempt: Attempt, is_over: Callable[[], bool]) -> None:
     """Until it is answered. If the service does not answer, it may have ended, which is known a moment later."""
     words, looks = f"call {attempt.invocation.ticket} of {attempt.invocation.function}", 0
     while attempt.is_alive() or (attempt.fault and looks < LOOKS):

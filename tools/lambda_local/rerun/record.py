@@ -2,14 +2,15 @@
 import io
 import re
 from collections import Counter
-from typing import Dict, List, NamedTuple, Optional
+from typing import Counter as Counts, Dict, Iterator, List, NamedTuple, Optional, Sequence, Tuple
 
-from ..history import NotHistory, count_in, decoded, entries_of
+from ..history import Answer, Entry, NotHistory, count_in, decoded, entries_of
 from ..service import Fault
 from ..timeline.read import Lines, history_entries, read_configuration
 
 # The value of a header (RFC 9110, section 5.5), of letters, marks and spaces.
 TRACE = re.compile(r"(?:[!-~\x80-\xff](?:[\t -~\x80-\xff]*[!-~\x80-\xff])?)?")
+NOT_ANSWERED = (None, None)
 ANSWERED = ("output", "error", "timeout", "init-timeout", "too-large-output")  # by a function, or in its place
 
 
@@ -26,7 +27,7 @@ class Invocation(NamedTuple):
     end: Optional[int]  # the entry that answered it
 
     @property
-    def was_served(self):
+    def was_served(self) -> bool:
         return self.kind in ANSWERED
 
 
@@ -36,7 +37,7 @@ class Recording(NamedTuple):
     invocations: List[Invocation]
 
 
-def read(path):
+def read(path: str) -> Recording:
     """The recording in a file."""
     try:
         with open(path, "rb") as file:
@@ -46,7 +47,7 @@ def read(path):
     return parsed(text, path)
 
 
-def parsed(text, path):
+def parsed(text: bytes, path: str) -> Recording:
     """The recording in a history's text, whose lines are looked at first."""
     try:
         lines = Lines(io.BytesIO(text))
@@ -69,7 +70,7 @@ def parsed(text, path):
     return Recording(configuration.salt, timeouts, list(invocations_of(entries, path)))
 
 
-def trace_of(field, number, path):
+def trace_of(field: str, number: int, path: str) -> Optional[str]:
     """The trace of an Invoke, which is sent again as a header: what no header has is refused."""
     if field == "-":
         return None
@@ -79,21 +80,23 @@ def trace_of(field, number, path):
     return trace
 
 
-def invocations_of(entries, path):
-    answers = {answer.ticket: (entry.number, answer) for entry in entries for answer in entry.answers}
-    counts = Counter()
+def invocations_of(entries: Sequence[Entry], path: str) -> Iterator[Invocation]:
+    answers: Dict[int, Tuple[Optional[int], Optional[Answer]]] = {
+        answer.ticket: (entry.number, answer) for entry in entries for answer in entry.answers}
+    counts: Counts[str] = Counter()
     for entry in entries:
         if entry.kind != "invoke":
             continue
-        counts[entry.function] += 1
-        end, answer = answers.get(entry.number, (None, None))
+        function = str(entry.function)
+        counts[function] += 1
+        end, answer = answers.get(entry.number, NOT_ANSWERED)
         _, qualifier, trace, _ = entry.fields
-        yield Invocation(entry.number, entry.function, counts[entry.function], qualifier == "q",
-                         trace_of(trace, entry.number, path), entry.body,
+        yield Invocation(entry.number, function, counts[function], qualifier == "q",
+                         trace_of(trace, entry.number, path), entry.body or b"",
                          answer.kind if answer else "open", answer.body if answer else None, end)
 
 
-def find(invocations, function, identifier):
+def find(invocations: Sequence[Invocation], function: str, identifier: str) -> Optional[Invocation]:
     """The invocation that has this request identifier."""
     place = count_in(identifier)
     return next((each for each in invocations if each.function == function and each.place == place), None)

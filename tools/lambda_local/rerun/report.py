@@ -1,10 +1,10 @@
 """What came of each invocation, compared with what was recorded: as lines, and as JUnit XML."""
 from collections import Counter
-from typing import List, NamedTuple
+from typing import List, NamedTuple, Optional, Sequence
 
 from ..junit import Suite
-from .compare import differences, of_reports, shown
-from .record import Invocation
+from .compare import Pointer, differences, of_reports, shown
+from .record import Invocation, Recording
 
 EQUAL, CHANGED, FAILED_NOW, FAILED_THEN = "equal", "changed", "failed now", "failed then"
 
@@ -19,12 +19,13 @@ class Result(NamedTuple):
     seconds: float
 
 
-def words_of(kind, body):
+def words_of(kind: str, body: Optional[bytes]) -> str:
     """An answer in a few words."""
     return kind if body is None else f"{kind} {shown(body)}"
 
 
-def judged(then, kind, body, seconds, pointers, exact=False):
+def judged(then: Invocation, kind: str, body: Optional[bytes], seconds: float, pointers: Sequence[Pointer],
+           exact: bool = False) -> Result:
     """A recorded invocation beside the `kind` and the body of its answer now. Errors are compared by type and message,
     unless they are to be exact."""
     failed = [each != "output" for each in (then.kind, kind)]
@@ -40,14 +41,14 @@ def judged(then, kind, body, seconds, pointers, exact=False):
     return Result(then, CHANGED if lines else EQUAL, lines, seconds)
 
 
-def left_out(invocations):
+def left_out(invocations: Sequence[Invocation]) -> str:
     """The recorded invocations that are not sent, in words."""
     counts = Counter("without an answer" if each.kind == "open" else each.kind for each in invocations
                      if not each.was_served)
     return ", ".join(f"{count} {kind}" for kind, count in sorted(counts.items()))
 
 
-def text_of(results, recording):
+def text_of(results: Sequence[Result], recording: Recording) -> List[str]:
     """The lines of a report: one for each that is not equal, and the counts."""
     lines = []
     for result in results:
@@ -63,7 +64,7 @@ def text_of(results, recording):
     return lines + [f"{len(results)} invocations: {words or 'none'}" + (f"; not sent: {others}" if others else "")]
 
 
-def write_junit(path, results):
+def write_junit(path: str, results: Sequence[Result]) -> None:
     suite = Suite("rerun")
     for result in results:
         failure = None if result.verdict == EQUAL else f"{result.verdict}: {result.lines[0]}"

@@ -32,7 +32,9 @@ runtime or command is yours to start, at the address that is printed. docs/up.md
 Its own lines and those of the functions go to standard error. Exit statuses: the command's, else the service's
 (docs/formats.md); 2 for a fault in the arguments or in UP.json; 4 if something cannot be started; 5 if an environment
 does not become ready; 70 if a fault in this tool itself ends it."""
+import argparse
 import sys
+from typing import List
 
 from ..outgoing import tell
 from ..service import Fault
@@ -43,7 +45,7 @@ from .session import Session
 USAGE = "[OPTION..] UP.json [-- COMMAND ..]"
 
 
-def salt_of(text):
+def salt_of(text: str) -> int:
     number = int(text)
     if not 0 <= number < 1 << 64:
         raise ValueError
@@ -53,7 +55,7 @@ def salt_of(text):
 salt_of.__name__ = "whole number below 2^64"  # (so does argparse call it in its message)
 
 
-def seconds_of(text):
+def seconds_of(text: str) -> float:
     number = float(text)
     if not 0 <= number < 1e6:
         raise ValueError
@@ -63,7 +65,7 @@ def seconds_of(text):
 seconds_of.__name__ = "number of seconds"
 
 
-def names_of(text):
+def names_of(text: str) -> List[str]:
     names = [name.strip() for name in text.split(",")]
     if not all(names):
         raise ValueError
@@ -73,7 +75,7 @@ def names_of(text):
 names_of.__name__ = "list of names of functions, separated by commas"
 
 
-def parser():
+def parser() -> argparse.ArgumentParser:
     made = parser_of("up", __doc__, USAGE)
     made.add_argument("up", metavar="UP.json")
     made.add_argument("--reload", action="store_true", help="spin idle environments down when files change")
@@ -101,9 +103,10 @@ def parser():
     return made
 
 
-def options_of(words):
+def options_of(words: List[str]) -> argparse.Namespace:
     """The options of a command line. A fault ends it with status 2."""
-    command, split = [], words.index("--") if "--" in words else None
+    command: List[str] = []
+    split = words.index("--") if "--" in words else None
     if split is not None:
         words, command = words[:split], words[split + 1:]
         if not command:
@@ -118,7 +121,7 @@ def options_of(words):
     return options
 
 
-def main():
+def main() -> int:
     log = None
     try:
         options = options_of(sys.argv[1:])

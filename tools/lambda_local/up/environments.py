@@ -8,12 +8,18 @@ import json
 import select
 import threading
 import time
+from typing import Dict, List, Optional, Set, Tuple
 
-from ..service import EXTENSION, RUNTIME, ask
-from .members import NAME
+from ..life import Generation
+from ..service import EXTENSION, RUNTIME, Service, ask
+from .invocation_lines import Printed
+from .log import Log
+from .members import NAME, Function
 from .processes import Process, reason_of
 from .reports import kind_in
+from .restarts import Restarts
 from .supervised import told
+from .watch import Watch
 
 FAULT = "Extension.Fault"  # how a fault of this tool itself is reported
 SHUTDOWN_SECONDS = 2.0  # an environment's, for its extensions
@@ -22,23 +28,30 @@ SOON = 1.0  # a runtime that ends within this many seconds of its start, without
 
 
 class Environment(threading.Thread):
-    def __init__(self, service, watch, function, number, port, variables, restarts, stopping, log, printed):
+    def __init__(self, service: Service, watch: Watch, function: Function, number: int, port: int,
+                 variables: Dict[str, str], restarts: Restarts, stopping: threading.Event, log: Log,
+                 printed: Printed) -> None:
         self.number, self.function, self.port, self.variables = number, function, port, variables
         self.service, self.watch, self.stopping, self.log, self.printed = service, watch, stopping, log, printed
         super().__init__(name=watch.environment(number).name, daemon=True)
-        self.runtime, self.extensions = None, []  # processes; of extensions each with the name by which it registers
-        self.generation, self.identifier = 0, None  # of tools/up in this generation
+        self.runtime: Optional[Process] = None
+        self.extensions: List[Tuple[str, Process]] = []  # each with the name by which it registers
+        self.generation = 0
+        self.identifier: Optional[str] = None  # of tools/up in this generation
         self.restarts, self.hurry = restarts, threading.Event()
-        self.reporting, self.report, self.tried = threading.Lock(), None, set()  # what callers hear in a pause
-        self.last_report, self.reported = b"{}", None  # the last generation that ended by this tool's own report
+        self.reporting = threading.Lock()
+        self.report: Optional[bytes] = None  # what callers hear in a pause
+        self.tried: Set[int] = set()
+        self.last_report = b"{}"
+        self.reported: Optional[Generation] = None  # the last one that ended by this tool's own report
         # One beyond the function's least number is started once it is wanted.
         self.is_extra = watch.environment(number).place > function.least
         self.is_started, self.wanted = not self.is_extra, threading.Event()
 
-    def say(self, line, **members):
-        self.log(self.name, f"-- {line}", **members)
+    def say(self, line: str, level: str = "info", kind: str = "up", **members: object) -> None:
+        self.log(self.name, f"-- {line}", level, kind, False, **members)
 
-    def run(self):
+    def run(self) -> None:
         try:
             while not self.stopping.is_set() and self.one_guarded_generation():
                 pass
@@ -48,7 +61,7 @@ class Environment(threading.Thread):
         finally:
             self.end(0)
 
-    def one_guarded_generation(self):
+    def one_guarded_generation(self) -> bool:
         """Whether another one follows. A fault of this tool in one generation is reported, and the next is begun."""
         try:
             return self.one_generation()
@@ -65,7 +78,7 @@ class Environment(threading.Thread):
 
     # ---- a generation ------------------------------------------------------------------------------------------------
 
-    def one_generation(self):
+    def one_generation(self) -> bool:
         """Whether another one follows."""
         self.wait_until_wanted()
         self.wait_out_pause()
@@ -83,18 +96,18 @@ class Environment(threading.Thread):
                 if not self.begins_unseen:
                     self.start_runtime()
             except OSError as fault:
-                self.ended_by(f"Runtime could not be started: {fault}", "Runtime.ExitError", self.identifier)
+                self.ended_by(f"Runtime could not be started: {fault}", "Runtime.ExitError", str(self.identifier))
                 return self.close(0, time.time() + SHUTDOWN_SECONDS)
             return self.attend(waiting)
         finally:
             waiting.close()
 
     @property
-    def begins_unseen(self):
+    def begins_unseen(self) -> bool:
         """Whether its Init may take longer than the service allows: the service hears of it once it is over."""
         return self.function.debug or self.function.init is not None
 
-    def wait_until_wanted(self):
+    def wait_until_wanted(self) -> None:
         if not self.is_extra:
             return
         self.is_started = False
@@ -102,21 +115,21 @@ class Environment(threading.Thread):
         self.wanted.clear()
         self.is_started = True
 
-    def begin(self):
+    def begin(self) -> None:
         """An invocation is bound to it."""
         self.say("is started: no other environment is free")
         self.is_started = True
         self.wanted.set()
 
-    def wake(self):
+    def wake(self) -> None:
         """At the end it waits for nothing any more."""
         self.hurry.set()
         self.wanted.set()
 
-    def me(self):
-        return {"Lambda-Extension-Identifier": self.identifier}
+    def me(self) -> Dict[str, str]:
+        return {"Lambda-Extension-Identifier": str(self.identifier)}
 
-    def register(self):
+    def register(self) -> Optional[str]:
         """This generation's identifier; none after the end."""
         told = None
         while True:
@@ -133,7 +146,7 @@ class Environment(threading.Thread):
             if self.stopping.wait(1 if status == 500 else 0.1):
                 return None
 
-    def start_extensions(self):
+    def start_extensions(self) -> None:
         """Before the runtime: once it and all that came have asked, no extension can register. (With a debugger, after
         it: the first to register starts Init's clock, and this tool is awaited too.)"""
         for name, words in self.function.extensions.items():
@@ -141,16 +154,18 @@ class Environment(threading.Thread):
                 self.extensions.append((name, Process(f"{self.name} {name}", words, self.function.directory,
                                                       self.variables, self.printed)))
 
-    def start_runtime(self):
+    def start_runtime(self) -> Process:
+        assert self.function.command is not None  # (what has none is started by hand)
         self.generation += 1
         self.printed.begins()
         self.runtime = Process(self.name, self.function.command, self.function.directory, self.variables, self.printed)
+        return self.runtime
 
-    def begin_unseen(self):
+    def begin_unseen(self) -> bool:
         """For a debugger, or an Init that may take long: this tool's registration would start Init's clock, so it waits
         for the runtime's first Next."""
         try:
-            self.start_runtime()
+            runtime = self.start_runtime()
         except OSError as fault:
             self.say(str(fault), level="error")
             self.restarts.note(True)
@@ -162,13 +177,13 @@ class Environment(threading.Thread):
             self.watch.refresh()
             if self.watch.environment(self.number).generation.poll is not None:
                 return True
-            if self.runtime.ended(0.1):
-                return self.fail_unseen(reason_of(self.runtime.status()), "Runtime.ExitError")
-            if limit is not None and time.monotonic() - self.runtime.begun > limit:
+            if runtime.ended(0.1):
+                return self.fail_unseen(reason_of(runtime.status()), "Runtime.ExitError")
+            if limit is not None and time.monotonic() - runtime.begun > limit:
                 return self.fail_unseen(f"Init timed out after {limit} s", "Init.Timeout")
         return False
 
-    def fail_unseen(self, reason, kind):
+    def fail_unseen(self, reason: str, kind: str) -> bool:
         """Ends an Init of which the service knows nothing. (What the runtime has reported itself comes first.)"""
         self.end(0)
         before = self.watch.environment(self.number).before
@@ -182,9 +197,11 @@ class Environment(threading.Thread):
         self.restarts.note(True)
         return False
 
-    def attend(self, waiting):
+    def attend(self, waiting: http.client.HTTPConnection) -> bool:
         """Until the service says that the environment closes, or a process ends."""
-        processes = [self.runtime] + [process for _, process in self.extensions]
+        runtime = self.runtime
+        assert runtime is not None and waiting.sock is not None
+        processes = [runtime] + [process for _, process in self.extensions]
         sources = select.poll()
         sources.register(waiting.sock, select.POLLIN)
         for process in processes:
@@ -199,24 +216,23 @@ class Environment(threading.Thread):
         if told in ready:
             return self.shut_down(waiting)
         gone = next(process for process in processes if process.handle in ready)
-        return self.runtime_exited() if gone is self.runtime else self.extension_exited(gone, waiting)
+        return self.runtime_exited(runtime) if gone is runtime else self.extension_exited(gone, waiting)
 
-    def runtime_exited(self):
-        reason = reason_of(self.runtime.status())
-        self.ended_by(reason, "Runtime.ExitError", self.identifier)
+    def runtime_exited(self, runtime: Process) -> bool:
+        self.ended_by(reason_of(runtime.status()), "Runtime.ExitError", str(self.identifier))
         return self.close(0, time.time() + SHUTDOWN_SECONDS)
 
-    def extension_exited(self, process, waiting):
+    def extension_exited(self, process: Process, waiting: http.client.HTTPConnection) -> bool:
         """It is reported in its own name, so that its shutdown isn't waited for, and the service says that all
         closes."""
         name = next(name for name, other in self.extensions if other is process)
         generation = self.watch.generation(self.number, self.identifier)
         found = generation.named(name) if generation else None
         reason, identifier = reason_of(process.status(), "Extension"), found.identifier if found else self.identifier
-        self.ended_by(reason, "Extension.Crash", identifier, process.name)
+        self.ended_by(reason, "Extension.Crash", str(identifier), process.name)
         return self.shut_down(waiting) if found else self.close(0, time.time() + SHUTDOWN_SECONDS)
 
-    def ended_by(self, reason, kind, identifier, who=None):
+    def ended_by(self, reason: str, kind: str, identifier: str, who: Optional[str] = None) -> None:
         """The service's caller hears at once that a process has ended."""
         with self.watch.muted(self.number):
             ask(self.port, "POST", EXTENSION + "exit/error", self.remember(reason, kind),
@@ -226,14 +242,14 @@ class Environment(threading.Thread):
         self.say(f"{init}{who + ': ' if who else ''}{reason}", level="error", kind="exit", function=self.function.name,
                  errorType=kind)
 
-    def remember(self, reason, kind):
+    def remember(self, reason: str, kind: str) -> bytes:
         """The body of a report, which callers get in a pause as well."""
         self.last_report = json.dumps({"errorMessage": reason, "errorType": kind}).encode()
         return self.last_report
 
     # ---- its end -----------------------------------------------------------------------------------------------------
 
-    def shut_down(self, waiting):
+    def shut_down(self, waiting: http.client.HTTPConnection) -> bool:
         answer = waiting.getresponse()
         body = answer.read()
         if answer.status != 200:
@@ -246,7 +262,7 @@ class Environment(threading.Thread):
         return self.close(min(deadline - time.time(), SHUTDOWN_SECONDS) - SPARE, deadline, reason == "SPINDOWN",
                           asks=True)
 
-    def close(self, seconds, deadline, spins_down=False, asks=False):
+    def close(self, seconds: float, deadline: float, spins_down: bool = False, asks: bool = False) -> bool:
         """Ends all processes, says that this generation is done, and waits for the end of its Closing."""
         lived = time.monotonic() - self.runtime.begun if self.runtime else 0.0
         self.end(seconds if asks else max(0.0, deadline - time.time() - SPARE), spins_down)
@@ -264,7 +280,7 @@ class Environment(threading.Thread):
         self.restarts.note(is_early and not spins_down)
         return True
 
-    def end(self, seconds, gently=False):
+    def end(self, seconds: float, gently: bool = False) -> None:
         """Ends all processes: the runtime at once or gently, extensions by themselves within this many seconds."""
         until = time.monotonic() + seconds
         if self.runtime:
@@ -277,7 +293,7 @@ class Environment(threading.Thread):
             if seconds > 0:
                 self.say_done(name)
 
-    def say_done(self, name):
+    def say_done(self, name: str) -> None:
         """Asks in the name of an extension that has gone. If it was not yet notified of the end, the first request does
         that; a request after it says that the extension is done."""
         generation = self.watch.generation(self.number, self.identifier) if self.identifier else None
@@ -291,7 +307,7 @@ class Environment(threading.Thread):
 
     # ---- between two generations -------------------------------------------------------------------------------------
 
-    def wait_out_pause(self):
+    def wait_out_pause(self) -> None:
         """After generations that ended early. A caller who comes meanwhile hears why at once."""
         if self.restarts.needs_a_change or self.restarts.pause:
             self.report = self.last_report
@@ -307,16 +323,16 @@ class Environment(threading.Thread):
             self.restarts.note(False)
         self.hurry.clear()
 
-    def answer_callers(self):
+    def answer_callers(self) -> None:
         """In a pause: ends the Init that an invocation may be bound to, with what was reported last."""
         with self.reporting:
             waiting = set(self.watch.waiting(self.function.name)) if self.report is not None else set()
-            if waiting - self.tried:
+            if self.report is not None and waiting - self.tried:
                 self.fail_init(self.report)
                 self.watch.refresh()
             self.tried = waiting
 
-    def fail_init(self, report):
+    def fail_init(self, report: bytes) -> None:
         """Reports a failed Init for the runtime, which its caller receives; prints no line."""
         kind = kind_in(report, "Runtime.ExitError")
         with self.watch.muted(self.number):

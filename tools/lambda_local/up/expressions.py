@@ -168,7 +168,7 @@ def expression_of(text: str) -> "Rate | Cron":
     found = CRON.fullmatch(text)
     if not found and not text.startswith("rate("):
         raise WrongExpression(f"write {EXAMPLES}")
-    made = cron_of(found[1]) if found else rate_of(text)
+    made: "Rate | Cron" = cron_of(found[1]) if found else rate_of(text)
     if made.next_after(datetime.now(timezone.utc)) is None:
         raise WrongExpression("it never fires: no date is as it says")
     return made

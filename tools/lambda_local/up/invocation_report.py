@@ -82,11 +82,12 @@ class InvocationReport(threading.Thread):
             held.marks.append(Mark(end, end_line(identifier), {"request": identifier}))
             held.marks.append(Mark(end, report_line(figures), figures.members))
 
-    def tell(self, who: str, text: str, level: str = "info", kind: str = "up", **members: object) -> None:
+    def tell(self, who: str, text: str, level: str = "info", kind: str = "up", always: bool = False,
+             **members: object) -> None:
         """A line of tools/up: one about an invocation comes after that."""
         held = next((held for held in self.held.values() if held.name == who), None)
         if kind != "invocation" or held is None:
-            self.log(who, text, level, kind, False, **members)
+            self.log(who, text, level, kind, always, **members)
             return
         with self.changed:
             held.marks.append(Mark(held.marks[-1].moment if held.marks else 0.0, text, members, level, kind))

@@ -6,6 +6,7 @@ import shutil
 import stat
 import tempfile
 import zipfile
+from typing import Dict, List, Mapping, Sequence, Tuple
 
 from ..guard import GUARD
 from ..service import Fault
@@ -25,9 +26,9 @@ class Unsafe(Exception):
     """What a .zip file must not do, in words."""
 
 
-def folders_of(names, base, where):
+def folders_of(names: Sequence[str], base: str, where: str) -> List[str]:
     """The folder of each layer, unpacked if it is a .zip file."""
-    found = []
+    found: List[str] = []
     for name in names:
         path = os.path.join(base, name)
         if os.path.isdir(path):
@@ -40,7 +41,7 @@ def folders_of(names, base, where):
 
 
 @functools.lru_cache(maxsize=None)
-def unpacked(path, where):
+def unpacked(path: str, where: str) -> str:
     """A folder with what the file has, which is gone at the end."""
     folder = tempfile.mkdtemp(prefix="lambda_local.")
     GUARD.hold(folder)
@@ -55,9 +56,10 @@ def unpacked(path, where):
     return folder
 
 
-def unpack(archive, folder):
+def unpack(archive: zipfile.ZipFile, folder: str) -> None:
     """Files first, and each into folders of this one's own; then links, all of which must lead to something inside."""
-    links, left = [], MOST_BYTES
+    links: List[Tuple[str, zipfile.ZipInfo]] = []
+    left = MOST_BYTES
     members = archive.infolist()
     if len(members) > MOST_FILES:
         raise Unsafe(f"it has {len(members)} files, and {MOST_FILES} are the most")
@@ -79,18 +81,18 @@ def unpack(archive, folder):
             raise Unsafe(f"the link {member.filename} leads out of the layer")
 
 
-def place_of(name, folder):
+def place_of(name: str, folder: str) -> str:
     parts = name.rstrip("/").split("/")
     if name.startswith("/") or "\\" in name or "\0" in name or any(part in ("", ".", "..") for part in parts):
         raise Unsafe(f"it has a file named {name[:100]!r}, whose place is not inside")
     return os.path.join(folder, *parts)
 
 
-def is_inside(path, folder):
+def is_inside(path: str, folder: str) -> bool:
     return path == folder or path.startswith(folder + os.sep)
 
 
-def write(archive, member, path, left):
+def write(archive: zipfile.ZipFile, member: zipfile.ZipInfo, path: str, left: int) -> int:
     """Writes a file, of up to this many bytes; how many it has."""
     os.makedirs(os.path.dirname(path), exist_ok=True)
     written = 0
@@ -105,7 +107,7 @@ def write(archive, member, path, left):
     return written
 
 
-def link(archive, member, path, folder):
+def link(archive: zipfile.ZipFile, member: zipfile.ZipInfo, path: str, folder: str) -> None:
     above = os.path.dirname(path)
     os.makedirs(above, exist_ok=True)
     target = os.fsdecode(archive.read(member)) if member.file_size <= 4096 else "/"
@@ -115,10 +117,10 @@ def link(archive, member, path, folder):
     os.symlink(target, path)
 
 
-def variables_of(folders, variables, versions):
+def variables_of(folders: Sequence[str], variables: Mapping[str, str], versions: Mapping[str, str]) -> Dict[str, str]:
     """The variables of a function with these layers: its own ones, and the parts of layers, those of the last layer
     first, since on Lambda it covers the others. `versions` are those of "python" and "node"."""
-    found = {}
+    found: Dict[str, str] = {}
     for name, places in PLACES.items():
         parts = [os.path.join(folder, place.format(**versions)) for folder in reversed(folders) for place in places]
         parts = [part for part in parts if os.path.isdir(part)]

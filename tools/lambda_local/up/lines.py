@@ -1,10 +1,13 @@
 """A line for each invocation and each Init that failed, from what goes on in the account."""
 import time
 from collections import Counter
+from typing import Counter as Counts, Dict, Iterable, Tuple
 
 from ..history import EXPIRE
-from ..life import FAILURES, Closes, Ended, Throttled
-from .members import NAME
+from ..life import Closes, Ended, Environment, Event, Generation, Throttled
+from ..outgoing import Log
+from ..phases import FAILURES
+from .members import NAME, Function
 from .reports import Report, shortened
 
 REASONS = {"ReservedFunctionConcurrentInvocationLimitExceeded": "reserved concurrency",
@@ -15,12 +18,13 @@ SUMMED_SECONDS = 1.0  # of throttled invocations of a function in one line
 
 
 class Lines:
-    def __init__(self, log, functions):
+    def __init__(self, log: Log, functions: Iterable[Function]) -> None:
         self.log = log
         self.functions = {function.name: function for function in functions}
-        self.throttled = {}  # by function: since when, and how often for which reason
+        # By function: since when, and how often for which reason
+        self.throttled: Dict[str, Tuple[float, Counts[str]]] = {}
 
-    def take(self, event):
+    def take(self, event: Event) -> None:
         if isinstance(event, Throttled):
             self.throttled.setdefault(event.function, (time.monotonic(), Counter()))[1][event.reason] += 1
         elif isinstance(event, Ended):
@@ -28,18 +32,22 @@ class Lines:
         elif isinstance(event, Closes) and not event.was_ready:
             self._init_failed(event)
 
-    def _ended(self, event):
+    def say(self, where: str, text: str, level: str, kind: str, members: Dict[str, object]) -> None:
+        self.log(where, text, level, kind, False, **members)
+
+    def _ended(self, event: Ended) -> None:
         invocation, function = event.invocation, self.functions[event.invocation.function]
         where = event.environment.name if event.environment else function.name
         duration = None if invocation.delivered is None else event.moment - invocation.delivered
-        members = {"function": function.name, "environment": event.environment.place if event.environment else None,
-                   "request": invocation.identifier, "moment": event.moment, "duration_ms": duration}
+        members: Dict[str, object] = {
+            "function": function.name, "environment": event.environment.place if event.environment else None,
+            "request": invocation.identifier, "moment": event.moment, "duration_ms": duration}
         if event.kind == "output":
-            self.log(where, f"{invocation.identifier} ok {duration} ms", level="ok", kind="invocation", status="ok",
-                     **members)
+            members["status"] = "ok"
+            self.say(where, f"{invocation.identifier} ok {duration} ms", "ok", "invocation", members)
             return
         if event.kind == "error":
-            report = Report(event.body, function.directory)
+            report = Report(event.body or b"", function.directory)
             text = f"error {report}"
             members.update(report.members)
         else:
@@ -47,25 +55,24 @@ class Lines:
                     "init-timeout": f"Init timed out after {INIT_SECONDS} s",
                     "too-large-output": "error: its response has more than 6291456 bytes",
                     "stopped": "ended by the stop"}[event.kind]
-        self.log(where, f"{invocation.identifier} {text}", level="error", kind="invocation", status=event.kind,
-                 **members)
+        self.say(where, f"{invocation.identifier} {text}", "error", "invocation", {"status": event.kind, **members})
 
-    def _init_failed(self, event):
+    def _init_failed(self, event: Closes) -> None:
         environment, function = event.environment, self.functions[event.environment.function]
-        members = {"function": function.name, "environment": environment.place, "moment": event.moment}
+        members: Dict[str, object] = {"function": function.name, "environment": environment.place,
+                                      "moment": event.moment}
         if event.kind == EXPIRE:
             text = f"Init failed: timed out after {INIT_SECONDS} s, {self.waited_for(environment, event.generation)}"
-            self.log(environment.name, text, level="error", kind="init", **members)
+            self.say(environment.name, text, "error", "init", members)
         elif event.kind in FAILURES:
-            report = Report(event.generation.report, function.directory)
+            report = Report(event.generation.report or b"", function.directory)
             of = f"of the extension {event.extension.name} " if event.extension else ""
-            self.log(environment.name, f"Init {of}failed {report}", level="error", kind="init", **report.members,
-                     **members)
+            self.say(environment.name, f"Init {of}failed {report}", "error", "init", {**report.members, **members})
             for line in report.lines:
                 self.log(environment.name, f"  {shortened(line)}", level="error", kind="trace")
 
     @staticmethod
-    def waited_for(environment, generation):
+    def waited_for(environment: Environment, generation: Generation) -> str:
         """Returns who has not come in an Init."""
         late = [f"its extension {name}, which must "
                 f"{'ask for its next event' if generation.named(name) else 'register by this name'}"
@@ -78,14 +85,14 @@ class Lines:
             late.append("its runtime, which must ask for its next invocation")
         return "which waited for " + (" and ".join(late) or "tools/up")
 
-    def tell_throttled(self, at_the_end=False):
+    def tell_throttled(self, at_the_end: bool = False) -> None:
         """One line for each function that was throttled, a second after the first time that it sums."""
         for name, (since, reasons) in list(self.throttled.items()):
             if at_the_end or time.monotonic() - since >= SUMMED_SECONDS:
                 del self.throttled[name]
                 count = sum(reasons.values())
-                why = ", ".join(REASONS[reason] + (f" {times}" if len(reasons) > 1 else "")
-                                for reason, times in reasons.most_common())
+                why = ", ".join(REASONS[reason] + (f" {often}" if len(reasons) > 1 else "")
+                                for reason, often in reasons.most_common())
                 times = "" if count == 1 else f" {count} times"
                 self.log(name, f"throttled{times}: {why}", level="warning", kind="throttled", function=name,
                          count=count, reasons=dict(reasons))

@@ -1,12 +1,14 @@
 """UP.json: a service's configuration in which each function says how its processes are started."""
 import difflib
+import itertools
 import os
 import shlex
 import shutil
 import sys
+from typing import Dict, Iterator, List, Optional, Sequence, Tuple, Union
 
-from ..configuration import (OF_FUNCTION, OF_SERVICE, Kind, is_list_of, is_text, is_whole, mistakes, mistakes_of, named,
-                             shown)
+from ..configuration import (OF_FUNCTION, OF_SERVICE, Kind, Members, is_list_of, is_text, is_whole, mistakes,
+                             mistakes_of, named, shown)
 from ..front import settings
 from ..json_reader import NotJson, read_json
 from ..outgoing import is_for_the_system, is_name_of_variable
@@ -26,24 +28,24 @@ LONGEST_INIT = 900  # seconds
 IDLE_SECONDS = 60  # after which an environment beyond the least number ends
 
 
-def is_command(value):
-    return is_text(value) and value.strip() != "" or value != [] and is_list_of(is_text)(value)
+def is_command(value: object) -> bool:
+    return isinstance(value, str) and value.strip() != "" or value != [] and is_list_of(is_text)(value)
 
 
-def is_extensions(value):
+def is_extensions(value: object) -> bool:
     if isinstance(value, dict):
         return all(command is None or is_command(command) for command in value.values())
     return is_list_of(is_text)(value)
 
 
-def is_count(value):
-    return is_whole(value, 257) and value > 0
+def is_count(value: object) -> bool:
+    return is_whole(value, 257) and value != 0
 
 
 OF_ENVIRONMENTS = {
     "min": Kind(lambda value: is_whole(value, 257), "a whole number from 0 to 256"),
     "max": Kind(is_count, "a whole number from 1 to 256"),
-    "idle": Kind(lambda value: is_whole(value, 86401) and value > 0, "a whole number of seconds, from 1 to 86400"),
+    "idle": Kind(lambda value: is_whole(value, 86401) and value != 0, "a whole number of seconds, from 1 to 86400"),
 }
 OWN = {
     "command": Kind(is_command, "a string, or a list of strings"),
@@ -51,7 +53,7 @@ OWN = {
     "python": Kind(lambda value: is_text(value) and value != "", "a string: a Python interpreter"),
     "environments": Kind(lambda value: is_count(value) or isinstance(value, dict),
                          "a whole number from 1 to 256, or an object with \"min\" and \"max\""),
-    "init": Kind(lambda value: is_whole(value, LONGEST_INIT + 1) and value > 0,
+    "init": Kind(lambda value: is_whole(value, LONGEST_INIT + 1) and value != 0,
                  "a whole number of seconds, from 1 to 900"),
     "layers": Kind(is_list_of(is_text), "a list of folders and .zip files"),
     "variables": VARIABLES,
@@ -65,7 +67,7 @@ MEMBERS = {**OF_FUNCTION, **OWN, **settings.OF_FUNCTION, **sources.OF_FUNCTION}
 AT_THE_TOP = {**OF_SERVICE, **settings.AT_THE_TOP}
 
 
-def words_of(command, where):
+def words_of(command: Union[str, List[str]], where: str) -> List[str]:
     try:
         return shlex.split(command) if isinstance(command, str) else command
     except ValueError as fault:
@@ -76,8 +78,10 @@ class Function:
     """A function of UP.json, and its part of the service's configuration. If it may be unready, what cannot be started
     is a note in place of a fault."""
 
-    def __init__(self, member, path, debug=False, may_be_unready=False):
-        self.name, self.debug, self.may_be_unready, self.notes = member["name"], debug, may_be_unready, []
+    def __init__(self, member: Members, path: str, debug: bool = False, may_be_unready: bool = False) -> None:
+        self.name: str = member["name"]
+        self.debug, self.may_be_unready = debug, may_be_unready
+        self.notes: List[str] = []
         self.where, base = f"{path}: function {self.name}", os.path.dirname(os.path.abspath(path))
         self.directory = os.path.join(base, member.get("directory", ""))
         if not os.path.isdir(self.directory):
@@ -86,12 +90,13 @@ class Function:
             for path in member.get(name, []):
                 if not is_for_the_system(path):
                     raise Fault(2, f"{self.where}: {name}: {shown(path)}: no path has a NUL, or half a character")
-        self.init = member.get("init")
+        self.init: Optional[int] = member.get("init")
         self.layers = layers.folders_of(member.get("layers", []), base, self.where)
         self.variables = self._variables(member.get("variables", {}))
-        self.memory = member.get("memory", 128)
+        self.memory: int = member.get("memory", 128)
         self.watch = [os.path.join(self.directory, name) for name in member.get("watch", ["."])]
-        self.handler, self.member = member.get("handler", "index.handler"), member
+        self.handler: str = member.get("handler", "index.handler")
+        self.member = member
         self.command = self._command(member)
         self.extensions = self._extensions(member.get("extensions", {}))
         self.expected = list(self.extensions) + ([NAME] if self.command else [])
@@ -101,13 +106,13 @@ class Function:
         if self.layers:
             self.variables.update(layers.variables_of(self.layers, self.variables, self._versions(member)))
 
-    def _refuse(self, status, sentence):
+    def _refuse(self, status: int, sentence: str) -> None:
         """What cannot be started now, and may be mended while all else runs."""
         if not self.may_be_unready:
             raise Fault(status, f"{self.where}: {sentence}")
         self.notes.append(sentence)
 
-    def _variables(self, given):
+    def _variables(self, given: Members) -> Dict[str, str]:
         variables = {name: text_of(value) for name, value in given.items()}
         for name, text in variables.items():
             if not is_name_of_variable(name):
@@ -118,7 +123,7 @@ class Function:
                                "a character")
         return variables
 
-    def _command(self, member):
+    def _command(self, member: Members) -> Optional[List[str]]:
         if "runtime" not in member:
             if "python" in member:
                 raise Fault(2, f"{self.where}: python is for \"runtime\": \"python\": leave it out")
@@ -136,21 +141,21 @@ class Function:
             self._refuse(4, f"{what} needs the program {program}, which is not on PATH: install it, or write a command")
         return [program, path]
 
-    def _versions(self, member):
+    def _versions(self, member: Members) -> Dict[str, str]:
         """The versions of the interpreters, for the folders of layers that have them in their names."""
         of = {language: (program, language) for language, program in (("python", sys.executable), ("node", "node"))}
-        if "runtime" in member:
+        if "runtime" in member and self.command:
             language = programs.language_of(member["runtime"])
             of[language] = (program_of(self.command[0], self.directory), language)
         return {language: programs.version_of(*words) for language, words in of.items()}
 
-    def _extensions(self, given):
+    def _extensions(self, given: Union[List[str], Members]) -> Dict[str, Optional[List[str]]]:
         """Returns the words of each extension's command by its name; None for one that is started by hand."""
         commands = dict.fromkeys(given) if isinstance(given, list) else given
         return {name: words_of(command, f"{self.where}: extension {name}") if command else None
                 for name, command in commands.items()}
 
-    def _look(self):
+    def _look(self) -> None:
         """Whether its extensions can be, and the programs of its commands are there."""
         if self.command and (NAME in self.extensions or len(self.extensions) > MOST_EXTENSIONS):
             raise Fault(2, f"{self.where}: extensions: at most nine, none of them {NAME}: the tenth is tools/up")
@@ -163,11 +168,12 @@ class Function:
                     self._refuse(4, f"{words[0]} is not a program (looked for in "
                                     f"{self.directory if '/' in words[0] else 'PATH'})")
 
-    def _scale(self, member):
+    def _scale(self, member: Members) -> None:
         """How many environments are started at once, and after which time without work a further one ends. All others
         are started once an invocation waits for one."""
         given = member.get("environments")
-        self.least, self.idle = len(self.part["ports"]), None
+        self.least = len(self.part["ports"])
+        self.idle: Optional[int] = None  # seconds
         if not isinstance(given, dict):
             return
         if not self.command:
@@ -177,7 +183,7 @@ class Function:
         if given.get("min", 1) > most:
             raise Fault(2, f"{self.where}: environments: min is {given['min']}, which is more than max, {most}")
 
-    def _part(self, member):
+    def _part(self, member: Members) -> Members:
         part = {name: value for name, value in member.items() if name in OF_FUNCTION}
         count = member.get("environments", 1)
         if isinstance(count, dict):
@@ -194,7 +200,7 @@ class Function:
         return part
 
 
-def read(path):
+def read(path: str) -> Members:
     """What the file says, whose members have been looked at."""
     try:
         with open(path, "rb") as file:
@@ -204,14 +210,15 @@ def read(path):
         raise Fault(2, f"{path}: {fault.strerror}: name a file as `{usage}` describes it") from None
     except NotJson as fault:
         raise Fault(2, f"{path}: this is not JSON: {fault}") from None
-    for looked in (mistakes(whole, AT_THE_TOP, MEMBERS, ["functions"], ["name"]), mistakes_inside(whole),
-                   settings.mistakes(whole), sources.mistakes(whole)):
-        for mistake in looked:
-            raise Fault(2, f"{path}: {mistake}")
+    for mistake in mistakes(whole, AT_THE_TOP, MEMBERS, ["functions"], ["name"]):
+        raise Fault(2, f"{path}: {mistake}")
+    assert isinstance(whole, dict)
+    for mistake in itertools.chain(mistakes_inside(whole), settings.mistakes(whole), sources.mistakes(whole)):
+        raise Fault(2, f"{path}: {mistake}")
     return whole
 
 
-def mistakes_inside(whole):
+def mistakes_inside(whole: Members) -> Iterator[str]:
     if not whole["functions"]:
         yield "functions: there is no function: write at least one"
     for member in whole["functions"]:
@@ -220,7 +227,7 @@ def mistakes_inside(whole):
             yield from mistakes_of(member["environments"], OF_ENVIRONMENTS, where)
 
 
-def limited(whole, names, path):
+def limited(whole: Members, names: Sequence[str], path: str) -> Members:
     """UP.json with these functions alone, and with what leads to them."""
     there = [member["name"] for member in whole["functions"]]
     for name in names:
@@ -228,7 +235,7 @@ def limited(whole, names, path):
             near = difflib.get_close_matches(name, there, 1, 0.6)
             raise Fault(2, f"--only {name}: {path} has no such function" + (
                 f", did you mean {near[0]}?" if near else f"; there are {', '.join(there)}"))
-    found = {**whole, "functions": [member for member in whole["functions"] if member["name"] in names]}
+    found: Members = {**whole, "functions": [member for member in whole["functions"] if member["name"] in names]}
     if "routes" in whole:
         found["routes"] = {route: of for route, of in whole["routes"].items()
                            if (of["function"] if isinstance(of, dict) else of) in names}
@@ -238,7 +245,8 @@ def limited(whole, names, path):
     return found
 
 
-def load(path, debug=None, salt=None, only=None, may_be_unready=False):
+def load(path: str, debug: Optional[str] = None, salt: Optional[int] = None, only: Optional[Sequence[str]] = None,
+         may_be_unready: bool = False) -> Tuple[Members, List[Function], settings.Settings]:
     """Returns the service's configuration, the functions of UP.json, one of which may be for a debugger, and what is in
     front of them."""
     whole = read(path)
@@ -248,8 +256,8 @@ def load(path, debug=None, salt=None, only=None, may_be_unready=False):
     if debug and not any(function.debug and function.command for function in functions):
         raise Fault(2, f"--debug {debug}: {path} has no such function with a command")
     own = {name: value for name, value in whole.items() if name in OF_SERVICE}
-    configuration = {"account": "123456789012", "region": "us-east-1", **own,
-                     "functions": [function.part for function in functions]}
+    configuration: Members = {"account": "123456789012", "region": "us-east-1", **own,
+                              "functions": [function.part for function in functions]}
     front = settings.settings_of(whole, os.path.dirname(os.path.abspath(path)))
     configuration.pop("invokePort", None)  # (the front has it)
     if salt is not None:

@@ -5,6 +5,7 @@ import re
 import shutil
 import subprocess
 import sys
+from typing import Optional, Tuple
 
 from ..service import Fault
 
@@ -13,22 +14,23 @@ LONGEST_SECONDS = 20.0  # for a program to say its version
 FILES = {"python": "runtime.py", "node": "runtime.mjs"}
 
 
-def is_runtime(value):
+def is_runtime(value: object) -> bool:
     return isinstance(value, str) and NAMED.fullmatch(value) is not None
 
 
-def language_of(runtime):
+def language_of(runtime: str) -> str:
     return "python" if runtime.startswith("python") else "node"
 
 
-def python_of(runtime, given, directory):
+def python_of(runtime: str, given: Optional[str], directory: str) -> Tuple[str, str]:
     """The interpreter, and a note if it is of another version than the runtime. By default it is the one that runs this
     tool, since that has the packages of the project; one of the wanted version on PATH comes before it if this is of
     another."""
     own = sys.executable or "python3"
     if given is not None:
         return (os.path.join(directory, given) if "/" in given else given), ""
-    minor = NAMED.fullmatch(runtime)[3]
+    named = NAMED.fullmatch(runtime)
+    minor = named[3] if named else None
     if minor is None or int(minor) == sys.version_info[1]:
         return own, ""
     if shutil.which(f"python3.{minor}"):
@@ -37,7 +39,7 @@ def python_of(runtime, given, directory):
                  "write another \"python\" to have it run by that")
 
 
-def program_of_runtime(runtime, given, directory, where):
+def program_of_runtime(runtime: str, given: Optional[str], directory: str, where: str) -> Tuple[str, str]:
     """The program of a runtime, and a note on it."""
     if language_of(runtime) == "python":
         return python_of(runtime, given, directory)
@@ -47,7 +49,7 @@ def program_of_runtime(runtime, given, directory, where):
 
 
 @functools.lru_cache(maxsize=None)
-def version_of(program, language):
+def version_of(program: str, language: str) -> str:
     """The version of an interpreter as the folders of layers have it: "3.11" or "20"; nothing if it does not say."""
     code = {"python": ["-I", "-c", "import sys; print('%d.%d' % sys.version_info[:2])"],
             "node": ["-p", "process.versions.node.split('.')[0]"]}[language]

@@ -5,22 +5,42 @@ import os
 import re
 import threading
 import time
+from typing import Dict, FrozenSet, List, NamedTuple, Optional, Protocol, Sequence, Tuple
 
-from ..service import ask
+from ..service import Service, ask
+from .environments import Environment
+from .log import Log
+from .members import Function
 
 SKIPPED = {"__pycache__", "node_modules", "venv", "dist", "build", "target"}
 ENVIRONMENT = "pyvenv.cfg"  # what a virtual environment of Python has
 BETWEEN_LOOKS = 0.5  # seconds
 MOST_IGNORED = 1 << 20  # bytes of a .gitignore
+Times = Dict[str, int]  # nanoseconds, by the paths of files
+
+
+class Pattern(NamedTuple):
+    """A line of a .gitignore."""
+    is_taken_back: bool  # what others ignore
+    of_folders: bool  # alone
+    folder: Optional[str]  # where it is anchored
+    text: str
+
+
+class Watched(Protocol):
+    """What says which files are looked at."""
+    watch: List[str]
+    handler: str
+    command: Optional[List[str]]
 
 
 class Ignored:
     """What the .gitignore files of a folder and of those above it leave out. (** in a pattern counts as one *.)"""
 
-    def __init__(self, patterns=()):
+    def __init__(self, patterns: Tuple[Pattern, ...] = ()) -> None:
         self.patterns = patterns
 
-    def below(self, folder):
+    def below(self, folder: str) -> "Ignored":
         """The same with the file of this folder."""
         try:
             with open(os.path.join(folder, ".gitignore"), encoding="utf-8", errors="replace") as file:
@@ -29,7 +49,7 @@ class Ignored:
             return self
         return Ignored((*self.patterns, *filter(None, (pattern_of(line, folder) for line in lines))))
 
-    def has(self, path, is_folder):
+    def has(self, path: str, is_folder: bool) -> bool:
         found = False
         for is_taken_back, of_folders, folder, pattern in self.patterns:
             if is_folder or not of_folders:
@@ -39,34 +59,35 @@ class Ignored:
         return found
 
 
-def pattern_of(line, folder):
-    """Whether it takes back what others ignore, whether it is of folders alone, where it is anchored, and its text."""
+def pattern_of(line: str, folder: str) -> Optional[Pattern]:
+    """None for an empty line and a comment."""
     line = line.rstrip()
     if not line or line.startswith("#"):
         return None
     is_taken_back, line = line.startswith("!"), line.lstrip("!")
     of_folders, text = line.endswith("/"), line.strip("/")
     is_anchored = "/" in line.rstrip("/") and not text.startswith("**/")
-    return (is_taken_back, of_folders, folder if is_anchored else None, text[3:] if text.startswith("**/") else text)
+    return Pattern(is_taken_back, of_folders, folder if is_anchored else None,
+                   text[3:] if text.startswith("**/") else text)
 
 
 class Files:
     """The watched files of a function, hidden ones left out, those that its .gitignore names, and folders that hold
     packages or what was built. What its handler or its command names is watched in any case."""
 
-    def __init__(self, function):
+    def __init__(self, function: Watched) -> None:
         self.paths = tuple(function.watch)
         words = [function.handler, *(function.command or ())]
         self.named = frozenset(part for word in words for part in re.split(r"[/:]", word) if part)
 
     @property
-    def key(self):
+    def key(self) -> Tuple[Tuple[str, ...], FrozenSet[str]]:
         """Functions with the same key have the same files."""
         return self.paths, self.named
 
-    def times(self):
+    def times(self) -> Times:
         """The time of each file."""
-        seen = {}
+        seen: Times = {}
         for path in self.paths:
             if os.path.isfile(path):
                 note(seen, path)
@@ -74,7 +95,7 @@ class Files:
                 self.walk(path, Ignored(), seen)
         return seen
 
-    def walk(self, folder, ignored, seen):
+    def walk(self, folder: str, ignored: Ignored, seen: Times) -> None:
         ignored = ignored.below(folder)
         try:
             entries = list(os.scandir(folder))
@@ -91,26 +112,27 @@ class Files:
             elif not self.is_skipped(entry):
                 self.walk(entry.path, ignored, seen)
 
-    def is_skipped(self, entry):
+    def is_skipped(self, entry: "os.DirEntry[str]") -> bool:
         if entry.name in self.named:
             return False
         return entry.name in SKIPPED or os.path.exists(os.path.join(entry.path, ENVIRONMENT))
 
 
-def times(paths):
+def times(paths: Sequence[str]) -> Times:
     """The times of all files below these paths."""
     return Files(Paths(paths)).times()
 
 
 class Paths:
     """Paths to watch, of no function."""
-    handler, command = "", ()
+    handler = ""
+    command: Optional[List[str]] = None
 
-    def __init__(self, watch):
-        self.watch = watch
+    def __init__(self, watch: Sequence[str]) -> None:
+        self.watch = list(watch)
 
 
-def is_output(seen):
+def is_output(seen: os.stat_result) -> bool:
     """Whether it is the file that this process writes to, as its standard output or error."""
     for number in (1, 2):
         try:
@@ -121,7 +143,7 @@ def is_output(seen):
     return False
 
 
-def note(seen, path):
+def note(seen: Times, path: str) -> None:
     """Notes a file's time, but for the file that tools/up itself writes to: it would begin all anew by saying so."""
     try:
         seen_now = os.stat(path)
@@ -135,13 +157,15 @@ class Reload(threading.Thread):
     """Looks at the times of the watched files twice a second, more seldom if that takes long. Functions that have the
     same files are looked at once."""
 
-    def __init__(self, environments, service, stopping, log, path):
+    def __init__(self, environments: List[Environment], service: Service, stopping: threading.Event, log: Log,
+                 path: str) -> None:
         super().__init__(name="reload")
         self.environments, self.service, self.stopping, self.log = environments, service, stopping, log
         self.path = path  # of UP.json
-        self.due = {}  # the environments to be spun down, with their generation when the file changed
+        # The environments to be spun down, with their generation when the file changed
+        self.due: Dict[Environment, int] = {}
 
-    def run(self):
+    def run(self) -> None:
         functions = {environment.function.name: environment.function for environment in self.environments}
         files = {name: Files(function) for name, function in functions.items()}
         seen, own, took = self.look(files), times([self.path]), 0.0
@@ -161,23 +185,24 @@ class Reload(threading.Thread):
             except (OSError, http.client.HTTPException):
                 return  # (the service has ended)
 
-    def look(self, files):
+    def look(self, files: Dict[str, Files]) -> Dict[str, Times]:
         """The times of each function's files. UP.json is none of them: its changes are told apart."""
-        found, own = {}, os.path.realpath(self.path)
+        found: Dict[Tuple[Tuple[str, ...], FrozenSet[str]], Times] = {}
+        own = os.path.realpath(self.path)
         for each in files.values():
             if each.key not in found:
                 found[each.key] = {path: moment for path, moment in each.times().items()
                                    if os.path.realpath(path) != own}
         return {name: found[each.key] for name, each in files.items()}
 
-    def changed(self, function, paths):
+    def changed(self, function: Function, paths: List[str]) -> None:
         self.log("up", f"{function.name} begins anew: {os.path.relpath(paths[0])} changed")
         for environment in self.environments:
             if environment.function is function and environment.is_started:
                 self.due[environment] = environment.generation
                 environment.hurry.set()
 
-    def spin_down(self):
+    def spin_down(self) -> None:
         """One that is busy or in its Init is asked again at the next look (409)."""
         for environment, generation in list(self.due.items()):
             path = f"/_local/env/{environment.number}/spindown"

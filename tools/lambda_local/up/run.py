@@ -4,6 +4,7 @@ import signal
 import subprocess
 import threading
 import time
+from typing import Callable, Dict, List, Union
 
 from ..guard import GUARD, Single
 from ..service import Fault
@@ -12,7 +13,7 @@ PATIENCE = 10.0  # seconds for a command that was interrupted
 TERM_SECONDS = 5.0
 
 
-def has_terminal():
+def has_terminal() -> bool:
     """Whether a terminal's Ctrl-C comes to the group of this process, and so to each process in it."""
     try:
         terminal = os.open("/dev/tty", os.O_RDONLY | os.O_NOCTTY)
@@ -31,27 +32,27 @@ class Run:
     and Ctrl-C reaches both. Elsewhere it has its own group: a signal to this process, or to its whole group,
     interrupts the command once, through this process."""
 
-    def __init__(self, words, variables, when_ended):
+    def __init__(self, words: List[str], variables: Dict[str, str], when_ended: Callable[[], None]) -> None:
         self.shares = has_terminal()
         try:
             self.child = subprocess.Popen(words, env=variables, start_new_session=not self.shares)
         except OSError as fault:
             raise Fault(4, f"{words[0]}: {fault.strerror}: write a program after --") from None
-        self.held = Single(self.child.pid) if self.shares else self.child.pid
+        self.held: Union[Single, int] = Single(self.child.pid) if self.shares else self.child.pid
         GUARD.hold(self.held)
         self.waiting = threading.Thread(target=self._wait, args=(when_ended,))
         self.waiting.start()
 
-    def _wait(self, when_ended):
+    def _wait(self, when_ended: Callable[[], None]) -> None:
         os.waitid(os.P_PID, self.child.pid, os.WEXITED | os.WNOWAIT)
         GUARD.release(self.held)  # (while its number cannot be another's)
         self.child.wait()
         when_ended()
 
-    def is_over(self):
+    def is_over(self) -> bool:
         return not self.waiting.is_alive()
 
-    def interrupt(self, is_hurried):
+    def interrupt(self, is_hurried: Callable[[], bool]) -> None:
         """After a Ctrl-C: it may end by itself, with all that it does at its end, unless somebody hurries."""
         if not self.shares:
             self._signal(signal.SIGINT)
@@ -59,20 +60,20 @@ class Run:
         while not self.is_over() and time.monotonic() < end and not is_hurried():
             self.waiting.join(0.05)
 
-    def end(self):
+    def end(self) -> None:
         for number, seconds in ((signal.SIGTERM, TERM_SECONDS), (signal.SIGKILL, None)):
             if not self.is_over():
                 self._signal(number)
                 self.waiting.join(seconds)
 
-    def _signal(self, number):
+    def _signal(self, number: int) -> None:
         try:
             (os.kill if self.shares else os.killpg)(self.child.pid, number)
         except ProcessLookupError:
             pass
 
     @property
-    def status(self):
+    def status(self) -> int:
         """As a shell has it."""
         self.waiting.join()
         return self.child.returncode if self.child.returncode >= 0 else 128 - self.child.returncode

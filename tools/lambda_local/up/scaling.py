@@ -1,21 +1,27 @@
 """Environments beyond a function's least number: each is started once an invocation is bound to it, and ends after a
 while without work."""
 import time
+from typing import Dict, Iterable, Tuple
 
-from ..service import ask
+from .. import life
+from ..service import Service, ask
+from .environments import Environment
+from .watch import Watch
 
 # Seconds between two looks at the history, if there are environments that may have to be started.
 BETWEEN_LOOKS = 0.03
+Work = Tuple[life.Generation, int]  # with how many invocations it was given
 
 
 class Scaling:
     """Looks after the environments of all functions that have a least number and a greater one."""
 
-    def __init__(self, environments, watch, service):
+    def __init__(self, environments: Iterable[Environment], watch: Watch, service: Service) -> None:
         self.environments = [environment for environment in environments if environment.is_extra]
-        self.watch, self.service, self.last = watch, service, {}
+        self.watch, self.service = watch, service
+        self.last: Dict[Environment, Tuple[Work, float]] = {}
 
-    def look(self):
+    def look(self) -> None:
         now = time.monotonic()
         for environment in self.environments:
             here = self.watch.environment(environment.number)
@@ -26,11 +32,11 @@ class Scaling:
             elif here.generation.is_ready:
                 self.look_at_idle(environment, here, now)
 
-    def look_at_idle(self, environment, here, now):
+    def look_at_idle(self, environment: Environment, here: life.Environment, now: float) -> None:
         """One that had no work for long enough is spun down; if it works just now, the service refuses (409)."""
         work = (here.generation, here.generation.deliveries)
         seen, since = self.last.get(environment, (None, now))
-        if seen != work or now - since < environment.function.idle:
+        if seen != work or now - since < (environment.function.idle or 0):
             self.last[environment] = (work, since if seen == work else now)
             return
         self.last[environment] = (work, now)

@@ -1,21 +1,24 @@
 """One run of tools/up: all is started, the command is run or a signal waited for, and all is stopped in order."""
+import argparse
 import http.client
 import signal
 import threading
 import time
+from typing import Callable, Dict, Iterator, List, Optional, Sequence, Tuple, TypeVar
 
 from ..front.front import Front
 from ..guard import GUARD
 from ..guarding import end_all_below
 from ..outgoing import opened_for_payloads
 from ..service import Fault, Service
+from ..variables import of_callers
 from . import surroundings
 from .environments import Environment
-from .invocation_lines import Printed
+from .invocation_lines import Line, Printed
 from .invocation_log import Invocations, Tails
 from .invocation_report import InvocationReport
 from .lines import Lines
-from .log import OUTPUT
+from .log import OUTPUT, Log
 from .members import load
 from .queues import pollers_of
 from .reload import Reload
@@ -28,6 +31,8 @@ from .sources import queues_of, refuse_aws
 from .supervised import BROKEN, Supervisor, told
 from .watch import Watch
 
+Given = TypeVar("Given")
+
 SAVED = "lambda_local.history.txt"
 NAMED = 8  # environments in one line
 READY_SECONDS = 60  # for all environments, if no other time is asked for
@@ -35,8 +40,10 @@ LAST_SECONDS = 20.0  # for all threads at the end
 
 
 class Session:
-    def __init__(self, options, log):
-        self.options, self.log, self.service, self.command = options, log, None, None
+    def __init__(self, options: argparse.Namespace, log: Log) -> None:
+        self.options, self.log = options, log
+        self.command: Optional[Run] = None
+        self.is_served = False
         self.happened, self.stopping = threading.Event(), threading.Event()  # something to look at; all is to end
         self.signals, self.signal_number, self.kills_at = 0, 0, 2
         self.supervisor = Supervisor(log, self.happened.set)
@@ -57,12 +64,13 @@ class Session:
             signal.signal(number, self.signalled)
         self.service = Service(configuration, options.program, lambda line: log("service", line, kind="service"),
                                options.up)
-        self.watch = Watch(self.service, None, log, self.stopping)
+        self.is_served = True
+        self.watch = Watch(self.service, log, self.stopping)
         self.printed = {number: Printed() for number in self.watch.life.environments}
         invocations = self.make_invocations()
         self.watch.followers.append(invocations.take)
         self.report = self.make_report(invocations) if options.report else None
-        self.watch.lines = Lines(self.report.tell if self.report else log, self.functions)
+        self.watch.lines = Lines(self.report.tell, self.functions) if self.report else Lines(log, self.functions)
         self.front.serve(self.service, Tails(invocations, self.watch))
         self.environments = list(self.make_environments())
         self.watch.hooks += [environment.answer_callers for environment in self.environments]
@@ -71,33 +79,35 @@ class Session:
             self.watch.between_looks = BETWEEN_LOOKS
         if self.report:
             self.watch.between_looks = BETWEEN_LOOKS
-        self.threads = [self.watch, *self.environments]
+        self.threads: List[threading.Thread] = [self.watch, *self.environments]
         self.clients, self.ending = surroundings.Clients(log, self.stopping), threading.Event()
-        self.sources = [Schedules(front.functions, self.service, self.ending, log),
-                        *pollers_of(queues, self.service, options.keep_credentials, self.ending, log)]
+        self.sources: List[threading.Thread] = [
+            Schedules(list(front.functions), self.service, self.ending, log),
+            *pollers_of(queues, self.service, options.keep_credentials, self.ending, log)]
         if options.reload:
             self.threads.append(Reload(self.environments, self.service, self.stopping, log, options.up))
 
-    def show(self, line):
+    def show(self, line: Line) -> None:
         """A line that a process printed."""
         self.log(line.source, line.text, kind=OUTPUT)
 
-    def say(self, line, **members):
-        self.log("up", line, **members)
+    def say(self, line: str, level: str = "info", kind: str = "up", always: bool = False, **members: object) -> None:
+        self.log("up", line, level, kind, always, **members)
 
-    def make_invocations(self):
-        here, numbers = self.watch.life.environments, {}
+    def make_invocations(self) -> Invocations:
+        here = self.watch.life.environments
+        numbers: Dict[str, List[int]] = {}
         for number, environment in here.items():
             numbers.setdefault(environment.function, []).append(number)
 
-        def measure():
+        def measure() -> None:
             for number, environment in here.items():
                 invocations.measure(number, environment.generation.is_ready)
         invocations = Invocations({function.name: function for function in self.functions}, self.printed, numbers)
         self.watch.hooks.append(measure)
         return invocations
 
-    def make_report(self, invocations):
+    def make_report(self, invocations: Invocations) -> InvocationReport:
         """With --report, what environments print goes through it; else it is shown as it comes."""
         report = InvocationReport(invocations, self.log)
         for number, here in self.watch.life.environments.items():
@@ -106,7 +116,7 @@ class Session:
         self.watch.readers.append(report.know)
         return report
 
-    def make_environments(self):
+    def make_environments(self) -> Iterator[Environment]:
         number = 0
         for function, part in zip(self.functions, self.service.configuration["functions"]):
             if function.debug:
@@ -127,8 +137,8 @@ class Session:
                     yield Environment(self.service, self.watch, function, number, port, variables, restarts,
                                       self.stopping, self.log, self.printed[number])
 
-    def signalled(self, number, _frame):
-        if self.service is None:  # it is being built, or does not listen yet: nothing has to end in order
+    def signalled(self, number: int, _frame: object) -> None:
+        if not self.is_served:  # it is being built, or does not listen yet: nothing has to end in order
             raise SystemExit(128 + number)
         self.signals, self.signal_number = self.signals + 1, number
         if self.signals == 1 and number == signal.SIGINT and self.command:
@@ -138,18 +148,22 @@ class Session:
             # (it ends, and with it each environment's thread, which kills its processes)
             self.service.process.kill()
 
-    def guard_lost(self):
+    def guard_lost(self) -> None:
         """The guard has been killed: all that it had started is below this process now, and ends with it."""
         self.has_guard = False
         self.supervisor.broken("its guard process has ended")
 
-    def wait(self):
+    def note_end(self) -> None:
+        self.service.process.wait()
+        self.happened.set()
+
+    def wait(self) -> None:
         """Until something happens. (The system may give a signal to any thread, and Python runs its handler in this
         one: only when it comes out of a wait.)"""
         while not self.happened.wait(0.1):
             pass
 
-    def run(self):
+    def run(self) -> int:
         status = 0
         self.say(f"callers: AWS_ENDPOINT_URL_LAMBDA={self.service.endpoint_url}", kind="address",
                  always=not self.options.command, endpoint=self.service.endpoint_url)
@@ -157,7 +171,7 @@ class Session:
             self.say(text, kind="address", always=not self.options.command, function=function, endpoint=url)
         for thread in [*self.threads, *([self.report] if self.report else [])]:
             thread.start()
-        threading.Thread(target=lambda: (self.service.process.wait(), self.happened.set()), daemon=True).start()
+        threading.Thread(target=self.note_end, daemon=True).start()
         try:
             if self.wait_until_ready():
                 for thread in (self.clients, *self.sources):
@@ -177,7 +191,7 @@ class Session:
 
     # ---- ready -------------------------------------------------------------------------------------------------------
 
-    def late(self):
+    def late(self) -> Tuple[List[Environment], List[Environment]]:
         """The environments whose Init is not over, and those of them that are waited for: if no command is to be run,
         one that is debugged and one that a changed file must mend may take any time."""
         late = [environment for environment in self.environments if not environment.is_extra
@@ -188,7 +202,7 @@ class Session:
         return late, [environment for environment in late
                       if not (environment.function.debug or environment.restarts.needs_a_change)]
 
-    def wait_until_ready(self):
+    def wait_until_ready(self) -> bool:
         """Whether all that is waited for is ready before time is over or something else happens."""
         begun, tell_at = time.monotonic(), 2
         while not self.happened.wait(0.05):
@@ -211,11 +225,11 @@ class Session:
         return False
 
     @staticmethod
-    def names(environments):
+    def names(environments: Sequence[Environment]) -> str:
         return ", ".join(environment.name
                          for environment in environments[:NAMED]) + (" .." if len(environments) > NAMED else "")
 
-    def lateness(self, environment):
+    def lateness(self, environment: Environment) -> str:
         """Why an environment is not ready."""
         if environment.restarts.early:
             return (f"{environment.name}, whose Init fails: "
@@ -225,8 +239,8 @@ class Session:
 
     # ---- the command -------------------------------------------------------------------------------------------------
 
-    def run_command(self):
-        variables = surroundings.of_callers(self.service, self.options.keep_credentials)
+    def run_command(self) -> int:
+        variables = of_callers(self.service, self.options.keep_credentials)
         self.command = Run(self.options.command, variables, self.happened.set)
         self.wait()
         if not self.command.is_over() and self.signal_number == signal.SIGINT:
@@ -240,7 +254,7 @@ class Session:
 
     # ---- the end -----------------------------------------------------------------------------------------------------
 
-    def save(self):
+    def save(self) -> None:
         path = self.options.history or SAVED
         try:
             with opened_for_payloads(path) as file:
@@ -249,7 +263,7 @@ class Session:
         except (OSError, http.client.HTTPException) as fault:
             self.say(f"the history could not be saved: {fault}", level="error")
 
-    def step(self, what, done, otherwise=None):
+    def step(self, what: str, done: Callable[[], Given], otherwise: Optional[Given] = None) -> Optional[Given]:
         """What a step of the end gives. A fault in it is reported, and the next step is made."""
         try:
             return done()
@@ -258,7 +272,7 @@ class Session:
             self.say(f"{what} failed: {told(fault)}", level="error", kind="fault")
             return otherwise
 
-    def finish(self, failed):
+    def finish(self, failed: bool) -> int:
         """Stops the service and all processes in order; the service's status. The history is saved if that is asked, or
         the command failed."""
         self.ending.set()
@@ -287,7 +301,7 @@ class Session:
             self.step("the end of all processes", end_all_below)
         return status if status >= 0 else 4
 
-    def join(self):
+    def join(self) -> None:
         """Waits for all threads: the guard ends what one leaves that does not end."""
         end = time.monotonic() + LAST_SECONDS
         for thread in [*self.threads, self.clients, *self.sources]:

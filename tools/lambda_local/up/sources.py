@@ -14,7 +14,7 @@ OF_AWS = re.compile(r"(?:.*\.)?(?:amazonaws\.com(?:\.cn)?|amazonaws\.eu|api\.aws
 OF_QUEUE = {
     "url": Kind(is_text,
                 "a string: the address of an SQS queue, such as \"http://127.0.0.1:9324/000000000000/orders\""),
-    "batchSize": Kind(lambda value: is_whole(value, 10_001) and value > 0, "a whole number from 1 to 10000"),
+    "batchSize": Kind(lambda value: is_whole(value, 10_001) and value != 0, "a whole number from 1 to 10000"),
     "window": Kind(lambda value: is_whole(value, 301), "a whole number of seconds, from 0 to 300"),
 }
 OF_SCHEDULE = {"expression": Kind(is_text, f"a string, such as {EXAMPLES}"),

@@ -5,9 +5,13 @@ import signal
 import subprocess
 import threading
 import time
+from typing import Callable, Dict, Iterator, List, Optional, Sequence, Tuple
 
 from ..guard import GUARD
+from ..service import Service
 from ..variables import of_callers, of_function, past_proxies
+from .log import Log
+from .members import Function
 
 # The first that read AWS_ENDPOINT_URL_LAMBDA; older ones call AWS itself.
 OLDEST_BOTO3 = (1, 28)
@@ -15,7 +19,8 @@ OLDEST_AWS = {1: (1, 29), 2: (2, 13)}
 LONGEST_SECONDS = 10.0  # for a client to say its version
 
 
-def of_environment(service, function, number, port, keeps_credentials):
+def of_environment(service: Service, function: Function, number: int, port: int,
+                   keeps_credentials: bool) -> Dict[str, str]:
     """The variables of an environment's processes."""
     found = {
         "TZ": ":UTC", "PYTHONUNBUFFERED": "1", **of_callers(service, keeps_credentials),
@@ -26,16 +31,16 @@ def of_environment(service, function, number, port, keeps_credentials):
     return {**found, **past_proxies(found)}
 
 
-def written(version):
+def written(version: Sequence[int]) -> str:
     return ".".join(map(str, version))
 
 
-def warning(client, version, newer, otherwise):
+def warning(client: str, version: Sequence[int], newer: str, otherwise: str) -> str:
     return (f"{client} {written(version)} ignores AWS_ENDPOINT_URL_LAMBDA and would call AWS itself: take {newer} or "
             f"newer, or give it {otherwise}")
 
 
-def old_clients(version_of):
+def old_clients(version_of: Callable[[List[str]], Optional[Tuple[int, int]]]) -> Iterator[str]:
     """A sentence on each client on PATH that is too old to come here by itself."""
     boto3 = version_of(["python3", "-c", "import importlib.metadata as m; print(m.version('boto3'))"])
     if boto3 and boto3 < OLDEST_BOTO3:
@@ -49,15 +54,15 @@ def old_clients(version_of):
 class Clients(threading.Thread):
     """Looks for old clients while all else starts."""
 
-    def __init__(self, log, stopping):
+    def __init__(self, log: Log, stopping: threading.Event) -> None:
         super().__init__(name="clients")
         self.log, self.stopping = log, stopping
 
-    def run(self):
+    def run(self) -> None:
         for sentence in old_clients(self.version_of):
             self.log("up", sentence, level="warning", kind="client")
 
-    def version_of(self, words):
+    def version_of(self, words: List[str]) -> Optional[Tuple[int, int]]:
         """The first version that a program prints; none if it is not here, fails, or takes long."""
         if self.stopping.is_set():
             return None

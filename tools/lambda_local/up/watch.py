@@ -3,17 +3,22 @@ import contextlib
 import http.client
 import threading
 import time
+from typing import Callable, Iterator, List, Optional, Set
 
-from ..history import Follower
-from ..life import FAILURES, Begun, Closes, Ended, Life
+from ..history import Entry, Follower
+from ..life import Begun, Closes, Ended, Environment, Event, Generation, Life
+from ..phases import FAILURES
+from ..service import Service
 from . import memory
 from .invocation_lines import now
+from .lines import Lines
+from .log import Log
 from .supervised import told
 
 NEARLY_FULL = 0.9
 
 
-def what(event):
+def what(event: Event) -> str:
     """An event in words."""
     if isinstance(event, Ended):
         return f"invocation {event.invocation.identifier} of {event.invocation.function}, {event.kind}"
@@ -25,17 +30,22 @@ def what(event):
 
 
 class Watch(threading.Thread):
-    def __init__(self, service, lines, log, stopping):
+    def __init__(self, service: Service, log: Log, stopping: threading.Event) -> None:
         super().__init__(name="watch", daemon=True)
-        self.lines, self.log, self.stopping = lines, log, stopping
+        self.log, self.stopping = log, stopping
+        self.lines = Lines(log, ())
         self.life, self.follower, self.lock = Life(service.configuration), Follower(service.port), threading.RLock()
         self.most = service.configuration.get("maxEntries", 1_000_000)
-        self.warnings, self.hooks, self.mute, self.look_at = set(), [], None, 0.0
+        self.warnings: Set[str] = set()
+        self.hooks: List[Callable[[], None]] = []
+        self.mute: Optional[int] = None  # the number of an environment
+        self.look_at = 0.0
         self.between_looks = 0.1  # seconds
-        self.followers = []  # that are given each event
-        self.readers = []  # that are told up to which moment, in milliseconds, all events were given
+        self.followers: List[Callable[[Event], None]] = []  # that are given each event
+        # That are told up to which moment, in milliseconds, all events were given
+        self.readers: List[Callable[[float], None]] = []
 
-    def run(self):
+    def run(self) -> None:
         took = 0.0
         # A service that gives its whole history each time is asked seldom enough.
         while not self.stopping.wait(max(self.between_looks, 10 * took)):
@@ -45,7 +55,7 @@ class Watch(threading.Thread):
             for hook in self.hooks:
                 self._call(hook)
 
-    def _call(self, hook):
+    def _call(self, hook: Callable[[], None]) -> None:
         try:
             hook()
         except (OSError, http.client.HTTPException):
@@ -53,11 +63,11 @@ class Watch(threading.Thread):
         except Exception as fault:
             self._tell(fault, "could not answer a caller in a pause")
 
-    def _tell(self, fault, what):
+    def _tell(self, fault: BaseException, what: str) -> None:
         """A fault in one event, which is reported with it: the next one is taken."""
         self.log("up", f"{what}: {told(fault)}", level="error", kind="fault")
 
-    def refresh(self):
+    def refresh(self) -> None:
         """Takes what has come since the last time. If the service does not answer, the next time does."""
         with self.lock:
             begun = now()
@@ -75,7 +85,7 @@ class Watch(threading.Thread):
             self._look_at_room()
             self._look_at_memory()
 
-    def _take(self, entry):
+    def _take(self, entry: Entry) -> None:
         try:
             for event in self.life.take(entry):
                 if not self._is_muted(event):
@@ -83,7 +93,7 @@ class Watch(threading.Thread):
         except Exception as fault:
             self._tell(fault, f"could not follow entry {entry.number} of the history, {entry.kind}")
 
-    def _report(self, event):
+    def _report(self, event: Event) -> None:
         for take in (*self.followers, self.lines.take):
             try:
                 take(event)
@@ -91,7 +101,7 @@ class Watch(threading.Thread):
                 self._tell(fault, f"could not write the line of {what(event)}")
 
     @contextlib.contextmanager
-    def muted(self, environment):
+    def muted(self, environment: int) -> Iterator[None]:
         """What this would report about the environment is reported elsewhere."""
         with self.lock:
             self.refresh()
@@ -102,10 +112,10 @@ class Watch(threading.Thread):
             finally:
                 self.mute = None
 
-    def _is_muted(self, event):
+    def _is_muted(self, event: Event) -> bool:
         return isinstance(event, Closes) and event.kind in FAILURES and event.environment.number == self.mute
 
-    def _look_at_room(self):
+    def _look_at_room(self) -> None:
         """Room for a stop is kept back: each environment may expire before it, and once more at it."""
         count, kept = self.follower.next, 2 * (len(self.life.environments) + 1)
         if count > self.most - kept:
@@ -115,7 +125,7 @@ class Watch(threading.Thread):
             self._warn("nearly", f"the history has {count} of its {self.most} entries: once it is full every call is "
                                  "answered 500; write a higher maxEntries into UP.json", "warning")
 
-    def _look_at_memory(self):
+    def _look_at_memory(self) -> None:
         """Once a second, since asking costs some files."""
         now = time.monotonic()
         if now < self.look_at:
@@ -126,22 +136,22 @@ class Watch(threading.Thread):
                 self._warn(use.by, f"{use.used >> 20} MB of {use.allowed >> 20} MB are used of {use.by}: events and "
                                    "the history take memory; stop, or allow more", "warning")
 
-    def _warn(self, name, text, level):
+    def _warn(self, name: str, text: str, level: str) -> None:
         if name not in self.warnings:
             self.warnings.add(name)
             self.log("up", text, level=level, kind="history")
 
-    def environment(self, number):
+    def environment(self, number: int) -> Environment:
         return self.life.environments[number]
 
-    def generation(self, number, identifier):
+    def generation(self, number: int, identifier: Optional[str]) -> Optional[Generation]:
         """The generation of this environment in which an extension is registered, as it is now; none if it is not
         known."""
         with self.lock:
             self.refresh()
-            return self.environment(number).of(identifier)
+            return self.environment(number).of(identifier) if identifier is not None else None
 
-    def waiting(self, function):
+    def waiting(self, function: str) -> List[int]:
         """The tickets of the function's invocations that no runtime was given yet."""
         with self.lock:
             return [ticket for ticket, invocation in self.life.invocations.items()
