@@ -83,11 +83,11 @@ def is_file(descriptor: int) -> bool:
         return False
 
 
-# ---- the launcher of an installed package (in a checkout it is a shell: tools/library/explained.sh) -------------------
+# ---- the launcher of an installed package (in a checkout it is a shell: tools/library/explained.sh) ----------------
 
 def before_serving(program: str, path: str) -> None:
-    """Ends this process with status 2, and a sentence, if the program would refuse to serve this configuration. (`serve`
-    itself must be this process, so that signals reach it.)"""
+    """Ends this process with status 2, and a sentence, if the program would refuse to serve this configuration.
+    (`serve` itself must be this process, so that signals reach it.)"""
     found = list(of_configuration(program, path))
     if found and subprocess.run([program, "serve", path]).returncode == 2:
         for line in found:

@@ -3,8 +3,8 @@
 # sentence beside the program's own line. $root is the folder of the checkout.
 #
 # `serve` must be this process, so that signals reach it: it is asked beforehand, by a replay of its configuration
-# without a call, whether it takes it. A replay of a file ends by itself, and is a child, to which signals are passed on.
-# A replay of a pipe is this process: what it has read is gone.
+# without a call, whether it takes it. A replay of a file ends by itself, and is a child, to which signals are passed
+# on. A replay of a pipe is this process: what it has read is gone.
 
 explain() {
   PYTHONPATH=$root/tools python3 -m lambda_local.explain "$program" "$@" || exit 2
