@@ -141,11 +141,12 @@ class Guard:
         self._begin()
         return ["/bin/sh", "-c", '(echo "+ group $$" >&0) 2>/dev/null; exec "$@" </dev/null', "sh", *words], self.pipe
 
-    def start(self, words: List[str], directory: str, variables: Mapping[str, str], output: int) -> Started:
-        """Starts a process below the guard, whose standard output and error are this descriptor. OSError if it cannot
-        be."""
+    def start(self, words: List[str], directory: str, variables: Mapping[str, str], output: int,
+              forks: bool = False) -> Started:
+        """Starts a process below the guard, whose standard output and error are this descriptor. One that `forks`, a
+        Python program, may be forked by a process that has its imports (`forking`). OSError if it cannot be."""
         channel = self._begin()
-        answer = channel.ask({"start": words, "cwd": directory, "env": dict(variables)}, (output,))
+        answer = channel.ask({"start": words, "cwd": directory, "env": dict(variables), "forks": forks}, (output,))
         pid, number = answer.get("pid"), answer.get("errno")
         if not isinstance(pid, int):
             number = number if isinstance(number, int) else 0

@@ -15,11 +15,18 @@ import struct
 import subprocess
 import sys
 import time
-from typing import Dict, List, Optional, Tuple, cast
+from typing import Dict, List, Mapping, Optional, Tuple, Union, cast
 
 SET_CHILD_SUBREAPER = 36  # <linux/prctl.h>
 LENGTH = struct.Struct("!I")
 PATIENCE = 10.0  # seconds for killed processes to end (one may wait for a device)
+FORKER_SECONDS = 10.0  # for a forker to be ready, and for its answer
+MOST_FORKERS = 8
+SWITCH = "LAMBDA_LOCAL_FORK"  # with "0" each runtime is a fresh interpreter
+# The variables in which the environments of functions differ: none of them is read before a runtime is.
+OF_ENVIRONMENTS = ("AWS_LAMBDA_RUNTIME_API", "AWS_LAMBDA_FUNCTION_NAME", "AWS_LAMBDA_FUNCTION_VERSION",
+                   "AWS_LAMBDA_FUNCTION_MEMORY_SIZE", "AWS_LAMBDA_LOG_GROUP_NAME", "AWS_LAMBDA_LOG_STREAM_NAME",
+                   "_HANDLER", "LAMBDA_TASK_ROOT")
 
 
 def adopt_orphans() -> None:
@@ -104,11 +111,107 @@ def received(channel: socket.socket) -> Tuple[Optional[Dict[str, object]], List[
     return message, handles
 
 
+class Forker:
+    """A process that forks runtimes (`forking`): it has the imports of one that was started by these words and with these
+    variables."""
+
+    def __init__(self, words: List[str], env: Mapping[str, str]):
+        self.channel, its = socket.socketpair()
+        self.channel.settimeout(FORKER_SECONDS)
+        path = os.path.join(os.path.dirname(os.path.realpath(__file__)), "forking.py")
+        try:
+            self.process = subprocess.Popen([*words[:-1], path, words[-1], str(its.fileno())], env=env, cwd="/",
+                                            stdin=subprocess.DEVNULL, stdout=subprocess.DEVNULL,
+                                            stderr=subprocess.DEVNULL, start_new_session=True, pass_fds=[its.fileno()])
+        except OSError:
+            self.channel.close()
+            raise
+        finally:
+            its.close()
+        if not self._answer().get("ready"):
+            raise OSError("it cannot fork")
+
+    def _answer(self) -> Dict[str, object]:
+        message = received(self.channel)[0]
+        if message is None:
+            raise OSError("it has ended")
+        return message
+
+    def start(self, cwd: str, env: Mapping[str, str], output: int) -> int:
+        """The number of a runtime that it has forked, which is a child of this process."""
+        data = framed({"cwd": cwd, "env": dict(env)})
+        sent = socket.send_fds(self.channel, [data], [output])
+        self.channel.sendall(data[sent:])
+        pid = self._answer().get("pid")
+        if not isinstance(pid, int):
+            raise OSError("it cannot fork")
+        with open(f"/proc/{pid}/stat", "rb") as file:
+            parent = int(file.read().rpartition(b")")[2].split()[1])
+        if parent != os.getpid():  # (nothing is adopted here)
+            kill_tree(pid)
+            raise OSError("what it forks is not below the guard")
+        return pid
+
+    def end(self) -> None:
+        self.channel.close()
+        with contextlib.suppress(AttributeError):  # (it was never started)
+            kill_tree(self.process.pid)
+            self.process.wait()
+
+
+class Forked:
+    """A child that another process has forked for this one."""
+
+    def __init__(self, pid: int):
+        self.pid = pid
+
+    def wait(self) -> None:
+        with contextlib.suppress(ChildProcessError):
+            os.waitpid(self.pid, 0)
+
+
+class Forkers:
+    """Those that there are, by what a fresh interpreter would begin with: its program and all variables but those that
+    name the function and the environment."""
+
+    def __init__(self) -> None:
+        self.forkers: Dict[str, Optional[Forker]] = {}  # none for one that has failed
+        self.seen: Dict[str, bool] = {}
+
+    def start(self, words: List[str], cwd: str, env: Mapping[str, str], output: int) -> Optional[Forked]:
+        """A runtime that was forked; none if it is to be started afresh. The first of its kind is."""
+        kept = {name: value for name, value in env.items() if name not in OF_ENVIRONMENTS}
+        key = json.dumps([words, sorted(kept.items())])
+        if env.get(SWITCH) == "0" or not self.seen.get(key):
+            self.seen[key] = True
+            return None
+        try:
+            forker = self.forkers[key] if key in self.forkers else self._made(key, words, env)
+            return Forked(forker.start(cwd, env, output)) if forker else None
+        except (OSError, ValueError):
+            self._failed(key)
+            return None
+
+    def _made(self, key: str, words: List[str], env: Mapping[str, str]) -> Optional[Forker]:
+        if len(self.forkers) >= MOST_FORKERS:
+            return None
+        self.forkers[key] = None  # (until it is ready)
+        self.forkers[key] = found = Forker(words, env)
+        return found
+
+    def _failed(self, key: str) -> None:
+        forker = self.forkers.get(key)
+        self.forkers[key] = None
+        if forker is not None:
+            forker.end()
+
+
 class Guard:
     def __init__(self, channel: socket.socket):
         self.channel = channel
         self.held: List[Tuple[str, str]] = []
-        self.started: Dict[int, "subprocess.Popen[bytes]"] = {}
+        self.started: Dict[int, "Union[subprocess.Popen[bytes], Forked]"] = {}
+        self.forkers = Forkers()
         self.ended: Dict[int, int] = {}  # the statuses that the tool was sent
         self.unread = b""  # of standard input
 
@@ -165,7 +268,7 @@ class Guard:
         try:
             if "start" in message:
                 self.tell(self.start(cast(List[str], message["start"]), cast(str, message["cwd"]),
-                                     cast(Dict[str, str], message["env"]), handles[0]))
+                                     cast(Dict[str, str], message["env"]), handles[0], bool(message.get("forks"))))
             else:
                 self.kill(cast(int, message["end"]))
         finally:
@@ -177,7 +280,11 @@ class Guard:
         with contextlib.suppress(OSError):  # (the tool has gone, which standard input says)
             self.channel.sendall(framed(message))
 
-    def start(self, words: List[str], cwd: str, env: Dict[str, str], output: int) -> Dict[str, object]:
+    def start(self, words: List[str], cwd: str, env: Dict[str, str], output: int, forks: bool) -> Dict[str, object]:
+        forked = self.forkers.start(words, cwd, env, output) if forks else None
+        if forked is not None:
+            self.started[forked.pid] = forked
+            return {"pid": forked.pid}
         try:
             child = subprocess.Popen(words, cwd=cwd, env=env, stdin=subprocess.DEVNULL, stdout=output, stderr=output,
                                      start_new_session=True)

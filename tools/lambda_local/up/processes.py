@@ -19,14 +19,15 @@ def program_of(word: str, directory: str) -> str:
 class Process:
     """A process in a session of its own, whose lines `printed` takes under its name."""
 
-    def __init__(self, name: str, words: List[str], directory: str, variables: Mapping[str, str], printed: Printed):
+    def __init__(self, name: str, words: List[str], directory: str, variables: Mapping[str, str], printed: Printed,
+                 forks: bool = False):
         self.name, self.printed, self.begun = name, printed, time.monotonic()
         program = program_of(words[0], directory)
         if not shutil.which(program):
             raise FileNotFoundError(f"{words[0]} is not a program (any more)")
         reading, writing = os.pipe()
         try:
-            self.started = GUARD.start([program, *words[1:]], directory, variables, writing)
+            self.started = GUARD.start([program, *words[1:]], directory, variables, writing, forks)
         except OSError:
             os.close(reading)
             raise

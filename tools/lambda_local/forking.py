@@ -1,0 +1,114 @@
+"""Starts Python runtimes by forking: a process that has imported what the bundled runtime imports, and nothing of a
+function. What it forks is a runtime as a fresh interpreter would be, for a fraction of the time: handlers and all that
+they import are loaded after the fork, each for itself.
+
+usage: forking.py RUNTIME DESCRIPTOR (the guard calls it, by the function's interpreter and with its variables)
+
+On the socket with that number it says {"ready": true} once, or {"reason": ..} and ends. Then each request, a length and
+JSON with "cwd" and "env" and the descriptor of the output, is answered by {"pid": ..}: the runtime's parent has ended
+by then, so that the guard has it. This file is read by any Python from 3.6 on, and imports nothing beside what the
+runtime does."""
+import array
+import gc
+import json
+import os
+import socket
+import sys
+import time
+import types
+
+LENGTH = 4  # bytes, the most significant first
+MODULE = "lambda_local_runtime"
+
+
+def framed(message: object) -> bytes:
+    data = json.dumps(message).encode()
+    return len(data).to_bytes(LENGTH, "big") + data
+
+
+def received(channel):  # type: ignore[no-untyped-def]
+    """The next request with the descriptor that came with it; none at the end."""
+    data, handles, wanted = b"", array.array("i"), LENGTH
+    while len(data) < wanted:
+        piece, extra, _, _ = channel.recvmsg(wanted - len(data), socket.CMSG_SPACE(handles.itemsize))
+        for level, kind, held in extra:
+            if level == socket.SOL_SOCKET and kind == socket.SCM_RIGHTS:
+                handles.frombytes(held[:len(held) - len(held) % handles.itemsize])
+        if not piece:
+            return None, -1
+        data += piece
+        if len(data) == LENGTH == wanted:
+            wanted += int.from_bytes(data, "big")
+    return json.loads(data[LENGTH:].decode()), handles[0]
+
+
+def has_threads() -> bool:
+    return len(os.listdir("/proc/self/task")) > 1
+
+
+def forked(channel):  # type: ignore[no-untyped-def]
+    """Serves requests. In each process that it forks, gives its request and its output; at the end, nothing."""
+    while True:
+        request, output = received(channel)
+        if request is None:
+            return None, -1
+        reading, writing = os.pipe()
+        between = os.fork()
+        if between == 0:
+            runtime = os.fork()
+            if runtime == 0:
+                os.close(reading)
+                os.close(writing)
+                channel.close()
+                return request, output
+            os.write(writing, str(runtime).encode())
+            os._exit(0)
+        os.close(writing)
+        os.close(output)
+        pid = os.read(reading, 32)
+        os.close(reading)
+        os.waitpid(between, 0)
+        channel.sendall(framed({"pid": int(pid)} if pid else {"reason": "it could not fork"}))
+
+
+def become(path, request, output):  # type: ignore[no-untyped-def]
+    """Makes this process what the runtime at this path is at its start; the module whose code is to be run."""
+    os.setsid()
+    os.chdir(request["cwd"])
+    os.dup2(output, 1)
+    os.dup2(output, 2)
+    os.close(output)
+    os.environ.clear()
+    os.environ.update(request["env"])
+    time.tzset()
+    sys.argv[:] = [path]
+    sys.path[0] = os.path.dirname(path)
+    module = types.ModuleType("__main__")
+    module.__file__ = path
+    module.__dict__["__builtins__"] = __builtins__
+    sys.modules["__main__"] = module
+    return module
+
+
+def prepared(path, channel):  # type: ignore[no-untyped-def]
+    """The code of the runtime, whose imports have been made; none if no fork could be as a fresh interpreter."""
+    with open(path, "rb") as file:
+        code = compile(file.read(), path, "exec")
+    module = types.ModuleType(MODULE)
+    module.__file__ = path
+    exec(code, module.__dict__)  # (as a module it only defines)
+    if has_threads():  # (what starts with the interpreter has started some, and a fork has none)
+        channel.sendall(framed({"reason": "there are threads"}))
+        return None
+    gc.freeze() if hasattr(gc, "freeze") else None
+    channel.sendall(framed({"ready": True}))
+    return code
+
+
+if __name__ == "__main__":
+    _channel = socket.socket(fileno=int(sys.argv[2]))
+    _code = prepared(sys.argv[1], _channel)
+    _request, _output = forked(_channel) if _code is not None else (None, -1)
+    if _request is not None:
+        _own = sys.modules["__main__"]  # (kept: its names are in use)
+        exec(_code, become(sys.argv[1], _request, _output).__dict__)
