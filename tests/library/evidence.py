@@ -13,6 +13,7 @@ from page_facts import pages_of, text_of
 
 MEASURED = re.compile(r"^<!-- measured at ([0-9a-f]{7,40}) -->$", re.M)
 SOURCES = ("src", "specs", "proofs")
+OLDEST = 30  # commits that changed sources of crates, after which what the gate does not run is run again for a release
 
 
 def git(root, *words):
@@ -97,14 +98,46 @@ def age(root, commit):
     if git(root, "rev-parse", "--is-shallow-repository") != "false":
         return f"{commit}: this checkout has no whole history"
     count = git(root, "rev-list", "--count", f"{commit}..HEAD")
+    return f"{commit}, {count} commits ago, {changes_since(root, commit)} of which changed sources of crates"
+
+
+def changes_since(root, commit):
+    """How many commits since then changed sources of crates."""
     sources = [f":(glob)crates/*/{it}/**" for it in SOURCES]
-    changes = git(root, "rev-list", "--count", f"{commit}..HEAD", "--", *sources)
-    return f"{commit}, {count} commits ago, {changes} of which changed sources of crates"
+    return int(git(root, "rev-list", "--count", f"{commit}..HEAD", "--", *sources) or 0)
+
+
+def last_refused(root):
+    return text_of(root, "tests", "must_fail", "LAST_REFUSED").split(" ")[0].removesuffix("-dirty")
+
+
+def ages(root):
+    """What the gate does not renew: its name, the commit at which it was last run, and what runs it again."""
+    yield "tests/must_fail: all edits", last_refused(root), "tests/must_fail/run"
+    for page in pages_of(root):
+        for part in re.split(r"^(?=## )", text_of(root, page), flags=re.M):
+            for commit in MEASURED.findall(part):
+                yield f"{page}: {part.split(chr(10))[0].strip('# ')}", commit, "bench/"
+
+
+def too_old(root, oldest=OLDEST):
+    """For each of these its name, and the fault if it is too old for a release, else nothing. (A checkout without its
+    whole history cannot tell.)"""
+    if git(root, "rev-parse", "--is-shallow-repository") != "false":
+        return
+    for name, commit, by in ages(root):
+        if not is_known(root, commit):
+            yield f"{name}: its age", f"it was run at {commit or 'no commit'}, which git does not know"
+            continue
+        changes = changes_since(root, commit)
+        yield f"{name}: its age", "" if changes <= oldest else (
+            f"last run at {commit}: {changes} commits since changed sources of crates, and {oldest} are the most; "
+            f"{by} renews it")
 
 
 def age_of_edits(root):
     """When the further edits were last refused, and how many of them have changed since, or their crates have."""
-    commit = text_of(root, "tests", "must_fail", "LAST_REFUSED").split(" ")[0].removesuffix("-dirty")
+    commit = last_refused(root)
     if not is_known(root, commit):
         return f"LAST_REFUSED names {commit or 'no commit'}, which git does not know"
     changed = git(root, "diff", "--name-only", commit).split("\n")

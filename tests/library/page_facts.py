@@ -7,6 +7,7 @@ import subprocess
 import sys
 
 sys.path.insert(0, os.path.join(os.path.dirname(os.path.realpath(__file__)), "..", "..", "tools", "library"))
+import drawings
 import tools_map
 from crate_list import uses
 
@@ -15,8 +16,10 @@ FENCED = re.compile(r"(?:^<!-- (\w[\w ]*) -->\n)?^```(\w*)\n(.*?)^```$", re.M | 
 NUMBERS = {word: number for number, word in enumerate(
     "one two three four five six seven eight nine ten eleven twelve thirteen fourteen fifteen sixteen seventeen "
     "eighteen nineteen twenty twenty-one twenty-two twenty-three twenty-four twenty-five twenty-six".split(), 1)}
-COMMAND = re.compile(r"(tools/conformance (?:runtime|extension|service)|tools/\w+|tests/\w+/run|tests/must_fail/gate"
-                     r"|tests/\w+|tables/run|bench/serve/\w+|bench/\w+|\./lambda_local)\b(.*)")
+COMMAND = re.compile(r"((?:\./lambda_local |tools/)conformance (?:runtime|extension|service)"
+                     r"|\./lambda_local (?:check|from_template|invoke|package|rerun|timeline|up)|tools/\w+"
+                     r"|tests/\w+/run|tests/must_fail/gate|tests/\w+|tables/run"
+                     r"|bench/serve/\w+|bench/\w+|\./lambda_local)\b(.*)")
 
 
 def text_of(*parts):
@@ -73,10 +76,7 @@ def options(root, page, text):
         given = found and re.findall(r"(?<=\s)--[a-z][\w-]*", found[2].split(" -- ")[0].split("|")[0])
         if given and os.access(os.path.join(root, found[1].split()[0]), os.X_OK):
             if found[1] not in told:
-                script, *subcommand = found[1].split()
-                ran = subprocess.run([os.path.join(root, script), *subcommand, "--help"], stdin=subprocess.DEVNULL,
-                                     stdout=subprocess.PIPE, stderr=subprocess.STDOUT)
-                told[found[1]] = ran.stdout.decode()
+                told[found[1]] = help_of(root, found[1])
             for option in given:
                 if not re.search(re.escape(option) + r"\b", told[found[1]]):
                     yield f"{found[1]} --help does not name {option}"
@@ -84,6 +84,40 @@ def options(root, page, text):
 
 def sources_of(root, crate):
     return "\n".join(map(text_of, glob.glob(f"{root}/crates/{crate}/src/**/*.rt", recursive=True)))
+
+
+# The tools whose options a page lists, each of them.
+HELPS = {"docs/up.md": ("tools/up", "tools/invoke"), "docs/rerun.md": ("tools/rerun",),
+         "docs/timeline.md": ("tools/timeline",), "docs/ci.md": ("tools/package",),
+         "docs/conformance.md": tuple(f"tools/conformance {it}" for it in ("runtime", "extension", "service"))}
+
+
+def help_of(root, command):
+    script, *subcommand = command.split()
+    ran = subprocess.run([os.path.join(root, script), *subcommand, "--help"], stdin=subprocess.DEVNULL,
+                         stdout=subprocess.PIPE, stderr=subprocess.STDOUT)
+    return ran.stdout.decode()
+
+
+def unlisted(root, page, text):
+    """Each option that the help of a tool names is on its page. (--program, of all of them: docs/variables.md)"""
+    for command in HELPS.get(page, ()):
+        told = set(re.findall(r"(?<![\w-])--[a-z][\w-]*", help_of(root, command))) - {"--help", "--program"}
+        if not told:
+            yield f"{command} --help names no option"
+        for option in sorted(told):
+            if not re.search(re.escape(option) + r"(?![\w-])", text):
+                yield f"does not name {option}, which {command} --help names"
+
+
+# The pages that a user lives on: each has a block that tests/newcomer runs.
+FOR_USERS = ("README.md", "docs/ci.md", "docs/debugging.md", "docs/events.md", "docs/pytest.md", "docs/rerun.md",
+             "docs/timeline.md", "docs/up.md", "docs/your_function.md")
+
+
+def runs(root, page, text):
+    if page in FOR_USERS and not any(marks.split(" ")[0] in ("run", "serve") for marks, _, _ in FENCED.findall(text)):
+        yield "has no block that tests/newcomer runs"
 
 
 def names(root, page, text):
@@ -168,6 +202,7 @@ def of_proofs(root, page, text):
     said = set(re.findall(r"`(\w+)`", listed[1])) if listed else set()
     if said != of_kit:
         yield f"kit's crates: not named {sorted(of_kit - said)}, not used {sorted(said - of_kit)}"
+    yield from drawings.refinement_faults(root, uses(root), text_of(root, "docs", "refinement.svg"))
     table = text.split("## By crate")[-1].split("\n## ")[0]
     for it in unnamed(root, table):
         yield f"the table by crate has no {it}"
@@ -236,6 +271,21 @@ def of_first_names(root, page, text):
                     yield f"no crate has {word}"
 
 
+def of_semantics(root, page, text):
+    """Its table of phases and its drawing are those of the definitions."""
+    definitions = text_of(root, drawings.TABLE)
+    yield from drawings.table_faults(definitions, text)
+    yield from drawings.life_cycle_faults(definitions, text_of(root, "docs", "life_cycle.svg"))
+
+
+def of_up(root, page, text):
+    """The pauses before a restart."""
+    said = re.search(r"a pause of (\d+) s, then of ([\d, and]+) s", text)
+    there = re.search(r"^PAUSES = \(([\d, ]+)\)", text_of(root, "tools", "lambda_local", "up", "restarts.py"), re.M)
+    if not said or not there or re.findall(r"\d+", said[0]) != re.findall(r"\d+", there[1]):
+        yield f"the pauses are {there and there[1]}"
+
+
 def of_tools(root, page, text):
     return tools_map.faults(root, text)
 
@@ -247,7 +297,8 @@ def figures(root, page, text):
         yield "has a second list of what is not claimed: it stands in docs/proofs.md"
 
 
-OF_EACH = (links, files, options, names, numbers, kit, figures)
+OF_EACH = (links, files, options, unlisted, runs, names, numbers, kit, figures)
 OF_ONE = {"README.md": of_readme, "docs/formats.md": of_formats, "docs/proofs.md": of_proofs,
           "docs/checks.md": of_checks, "docs/architecture.md": of_architecture, "docs/variables.md": of_variables,
-          "docs/DECISIONS.md": of_decisions, "docs/first_names.md": of_first_names, "docs/tools.md": of_tools}
+          "docs/DECISIONS.md": of_decisions, "docs/first_names.md": of_first_names, "docs/tools.md": of_tools,
+          "docs/semantics.md": of_semantics, "docs/up.md": of_up}
