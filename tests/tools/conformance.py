@@ -188,13 +188,14 @@ def wrong(kind, mistake, is_whole):
 
 
 def caught(run, kind, mistake):
-    """A wrong one is caught by its own check, and by no other that can do without."""
+    """A wrong one has one FAIL, of its own check, or of one that cannot but catch it too: those that follow from the
+    same cause are only named. One that is a NOTE or a SHOULD has no FAIL."""
     outcome, also = getattr(mistake, "outcome", "FAIL"), set(getattr(mistake, "also", ())) - {mistake.check}
-    told = len(re.findall(r"^FAIL  ", run.output, re.MULTILINE))  # (those of one cause are told once)
-    seen = (run.status, told, run.verdicts("FAIL") - also, mistake.check in run.verdicts(outcome))
-    wanted = (1, 1, {mistake.check}, True) if outcome == "FAIL" else (0, 0, set(), True)
-    others = f", and {' '.join(sorted(also))}" if also else ""
-    check(f"{kind.name} {mistake.__name__} is a {outcome} of {mistake.check}{others}, and of no other", seen, wanted)
+    told = re.findall(r"^FAIL  (\w+)", run.output, re.MULTILINE)
+    is_own = mistake.check in run.verdicts(outcome)
+    seen = (run.status, len(told), is_own, [name for name in told if name not in {mistake.check, *also}])
+    wanted = (1, 1, True, []) if outcome == "FAIL" else (0, 0, True, [])
+    check(f"{kind.name} {mistake.__name__} is a {outcome} of {mistake.check}, and of no other cause", seen, wanted)
     run.told(seen == wanted)
 
 

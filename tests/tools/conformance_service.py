@@ -84,6 +84,8 @@ SHOWS_AS = {
     "ends-polls": {"next waits answered"},
     "forgets-the-name": {"register registered member-functionName"},
     "flags-outputs": {"invoke output function-error"},
+    "counts-characters": {"next deliver connection", "next deliver payload", "invoke output connection",
+                          "invoke output output"},
     "types-by-number": {f"{call} {label} member-errorType"
                         for call in ("response", "failure", "next", "ext-next", "init-failure", "register")
                         for label in ("State", "Replaced", "BadId", "Unknown", "Container")},

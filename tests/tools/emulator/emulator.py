@@ -61,7 +61,8 @@ async def serve(life, routes, reader, writer):
             reply = await answer(life, reply, reader) if asyncio.isfuture(reply) else reply
             if reply.status >= 400 and "types-by-number" in life.faults:
                 reply = Reply(reply.status, {**json.loads(reply.body), "errorType": 17})
-            lines = [f"HTTP/1.1 {reply.status} Status", f"Content-Length: {len(reply.body)}",
+            length = len(reply.body.decode("utf-8", "replace") if "counts-characters" in life.faults else reply.body)
+            lines = [f"HTTP/1.1 {reply.status} Status", f"Content-Length: {length}",
                      f"Content-Type: {life.content_type}",
                      *(f"{name}: {value}" for name, value in reply.headers.items())]
             writer.write("\r\n".join(lines).encode() + b"\r\n\r\n" + reply.body)

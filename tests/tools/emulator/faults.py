@@ -53,6 +53,7 @@ FAULTS = {
     "ends-polls": "a Next that waits for a second is answered 504",
     "forgets-the-name": "a registration is answered without functionName",
     "flags-outputs": "each answer to an Invoke has X-Amz-Function-Error",
+    "counts-characters": "the length of a reply is that of its characters",
     "types-by-number": "errorType of a refusal is a number",
 }
 LATER = {"tells-a-later-deadline": 2000, "tells-events-another-deadline": 5000}  # milliseconds

@@ -1,9 +1,9 @@
 """Whether what a process holds stops growing: it is looked at after each part of a long run of the same requests."""
 import os
 import tempfile
-import time
 from typing import Callable, Dict, Iterator, List, NamedTuple, Tuple
 
+from .clock import CLOCK
 from .kit import FAIL, NOTE, PASS, SHOULD
 from .process import Holds, Process
 from .stage import Stage
@@ -79,15 +79,15 @@ class Looks:
 def repeat(process: Process, once: Callable[[int], None], count: int, seconds: float, patience: float) -> Looks:
     """Calls `once` with the numbers from 0 on, this often or for so many seconds, and then for as long as memory grows,
     up to `patience` seconds more. Returns what the process held."""
-    looks, done, begun = Looks(process), 0, time.monotonic()
+    looks, done, begun = Looks(process), 0, CLOCK.now()
     part = max(1, min(PART, count // (4 * LEAST_PARTS)))
-    while done < count and time.monotonic() - begun < seconds:
+    while done < count and CLOCK.now() - begun < seconds:
         for _ in range(part):
             once(done)
             done += 1
         looks.look(done)
-    end = time.monotonic() + patience
-    while looks.grows() and time.monotonic() < end and done < LARGEST * count:
+    end = CLOCK.now() + patience
+    while looks.grows() and CLOCK.now() < end and done < LARGEST * count:
         for _ in range(part):
             once(done)
             done += 1

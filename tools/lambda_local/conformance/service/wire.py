@@ -1,4 +1,5 @@
-"""The connections to the tested service: requests that are sent, and replies that come when they come. One thread."""
+"""The connections to the tested service: requests that are sent, and replies that come when they come, read as strictly
+as `lambda_local.http1` reads them. One thread."""
 import collections
 import contextlib
 import select
@@ -6,8 +7,9 @@ import socket
 import time
 from typing import Deque, Dict, List, Optional, Sequence, Tuple
 
+from ...http1 import CutShort, Data, EndOfMessage, Malformed, Response, ResponseReader
 from ..clock import CLOCK
-from ..messages import Malformed, Message
+from ..exchanges import shown_bytes
 
 LEAST_SETTLE, MOST_SETTLE = 0.002, 0.1  # seconds after which a request that is not answered is taken for one that waits
 RECENT = 64  # round trips by which that is measured
@@ -17,8 +19,11 @@ class Exchange:
     """A request and what came of it: `status` of a reply, `ended` if the connection ended without one, else it
     waits."""
 
-    def __init__(self, address: Tuple[str, int]) -> None:
-        self.address, self.message = address, Message()
+    def __init__(self, address: Tuple[str, int], method: str) -> None:
+        self.address, self._reader = address, ResponseReader()
+        self._reader.method = method
+        self.response: Optional[Response] = None
+        self._body, self.is_whole = bytearray(), False
         self.sent = time.monotonic()
         self.answered: Optional[float] = None
         self.wall = 0.0  # then, in Unix milliseconds
@@ -28,13 +33,34 @@ class Exchange:
     def over(self) -> bool:
         return bool(self.status or self.ended)
 
+    def take(self, data: bytes) -> None:
+        """Takes bytes as they come; none at the end. Malformed if they are no reply."""
+        self._reader.receive(data)
+        while isinstance(event := self._reader.next_event(), (Response, Data, EndOfMessage)):
+            if isinstance(event, Response) and event.status >= 200:
+                self.response = event
+            elif isinstance(event, Data):
+                self._body += event.data
+            elif isinstance(event, EndOfMessage):
+                self.is_whole = True
+                return
+        if not data:
+            raise CutShort(502, "the connection ended")
+
+    @property
+    def behind(self) -> bytes:
+        """What came behind the reply."""
+        return bytes(self._reader.buffer)
+
     @property
     def headers(self) -> Dict[str, str]:
-        return self.message.headers
+        """Values by names in lower case, the first of each."""
+        pairs = self.response.headers if self.response else []
+        return {name.lower(): value for name, value in reversed(pairs)}
 
     @property
     def body(self) -> bytes:
-        return bytes(self.message.body)
+        return bytes(self._body)
 
 
 class Wire:
@@ -59,7 +85,7 @@ class Wire:
         if body is not None:
             lines.append(f"Content-Length: {len(body)}")
         data = ("\r\n".join(lines) + "\r\n\r\n").encode() + (body or b"")
-        exchange = Exchange(address)
+        exchange = Exchange(address, method)
         connection = self._connection(address)
         # (what it answered before it had read all is read)
         with contextlib.suppress(BrokenPipeError, ConnectionResetError):
@@ -94,30 +120,28 @@ class Wire:
     def _read(self, connection: socket.socket) -> None:
         exchange = self.open[connection]
         try:
-            data = connection.recv(65536)
-            if data:
-                exchange.message.feed(data)
-            elif not exchange.message.ended():
-                exchange.ended = "the connection ended"
+            exchange.take(connection.recv(65536))
         except OSError as fault:
             exchange.ended = f"the connection ended ({fault.strerror})"
+        except CutShort:
+            exchange.ended = "the connection ended"
         except Malformed as fault:
-            exchange.ended = f"what came is no HTTP/1.1: {fault}"
-        if exchange.message.whole:
-            self._end(connection, exchange, data)
+            exchange.ended = f"what came is not an HTTP/1.1 response: {fault}"
+        if exchange.is_whole:
+            self._end(connection, exchange)
         elif exchange.ended:
             del self.open[connection]
             connection.close()
 
-    def _end(self, connection: socket.socket, exchange: Exchange, data: bytes) -> None:
-        words = exchange.message.start.split(" ")
-        if len(words) > 1 and words[1].isdigit():
-            exchange.status = int(words[1])
-        else:
-            exchange.ended = f"what came is no HTTP/1.1: {exchange.message.start[:80]!r}"
+    def _end(self, connection: socket.socket, exchange: Exchange) -> None:
+        response = exchange.response
+        if exchange.behind:
+            exchange.ended = f"behind the reply come the bytes {shown_bytes(exchange.behind)}"
+        elif response:
+            exchange.status = response.status
         exchange.answered, exchange.wall = time.monotonic(), time.time() * 1000
         del self.open[connection]
-        if not data or exchange.headers.get("connection", "").lower() == "close":
+        if exchange.ended or not response or not response.keeps_alive:
             connection.close()
         else:
             self.idle.setdefault(exchange.address, []).append(connection)
