@@ -94,7 +94,7 @@ TABLE: Iterable[Tuple[str, str, Set[str], str, Rewrite]] = (
     ("WritesTinyNumbersAsZero", "numbers", set(), EVENT,
      numbers(lambda value: 0 if isinstance(value, float) and abs(value) < 1e-300 else value)),
     ("DropsWhatIsFalsy", "kinds", {"payload_scalars"}, OUTPUT, without(lambda name, member: not member and name)),
-    ("DropsEmptyLists", "kinds", set(), OUTPUT, without(lambda name, member: member == [])),
+    ("DropsEmptyLists", "kinds", {"payload_scalars"}, OUTPUT, without(lambda name, member: member == [])),
     ("WritesNullForEmptyTexts", "kinds", set(), OUTPUT,
      objects(lambda value: {name: None if member == "" else member for name, member in value.items()})),
     ("ReadsNumbersFromTexts", "kinds", set(), EVENT, texts(as_number)),

@@ -95,6 +95,12 @@ class ExtensionStage(Stage):
             proxy.rule = Rule("event", reply=(200, ANOTHER_EVENT), headers=[("Lambda-Extension-Event-Identifier", "1")])
             proxy.then = Rule("event", holds=True)
 
+    def cause(self) -> str:
+        own = ("event", "extension_init_error", "extension_exit_error")
+        is_unknown = any(one.status == 403 and not one.by_rule and b"Unknown" in one.came
+                         for one in self.environment.proxy.of(*own))
+        return super().cause() or ("its identifier is not known" if is_unknown else "")
+
     def start(self) -> None:
         """Starts the extension's process."""
         self.environment.start()
