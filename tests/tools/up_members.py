@@ -31,7 +31,8 @@ OF_FUNCTION = {
     "a member that nobody knows": ({"timeuot": 5}, "unknown member timeuot, did you mean timeout?"),
     "one that is like no other": ({"zzz": 1}, "unknown member zzz; there are command, directory, environments, "
                                               "extensions, handler, init, layers, memory, name, ports, python, "
-                                              "queue, reserved, runtime, schedule, timeout, url, variables, watch"),
+                                              "queue, reserved, runtime, schedule, telemetry, timeout, url, variables, "
+                                              "watch"),
     "what others call it": ({"environment": {"A": "x"}}, "unknown member environment, did you mean variables?"),
     "a text for a number": ({"timeout": "5"}, 'timeout must be a whole number of seconds, from 1 to 900, not "5"'),
     "a broken number": ({"memory": 1.5}, "memory must be a whole number of MB, not 1.5"),

@@ -4,7 +4,7 @@ import contextlib
 import socket
 import threading
 import time
-from typing import Any, Callable, Dict, Iterator, Optional, Tuple
+from typing import Any, Callable, Dict, Iterator, List, Optional, Protocol, Sequence, Tuple
 
 from ..outgoing import Log
 from ..service import Fault, Service, free_ports
@@ -44,6 +44,16 @@ def url_of(listener: socket.socket) -> str:
     return f"http://127.0.0.1:{listener.getsockname()[1]}"
 
 
+class Served(Protocol):
+    """What the front's thread runs: a port, and all connections to it."""
+
+    async def start(self) -> None:
+        """Begins to accept."""
+
+    async def stop(self) -> None:
+        """Closes all."""
+
+
 class Front(threading.Thread):
     """Its ports are open from the start; requests are answered once it has the service and is started."""
 
@@ -65,17 +75,18 @@ class Front(threading.Thread):
         if self.routing:
             yield None, f"routes: {url_of(self.routing)}", url_of(self.routing)
 
-    def serve(self, service: Service, tails: Optional[Tails] = None) -> None:
-        """Begins to answer, by this service; `tails` has what Invoke answers with the log type Tail."""
+    def serve(self, service: Service, tails: Optional[Tails] = None, others: Sequence[Served] = ()) -> None:
+        """Begins to answer, by this service; `tails` has what Invoke answers with the log type Tail, and `others` are
+        further servers that its thread runs."""
         self.service, configuration = service, service.configuration
         self.client = Client(service.port)
-        self.places = Places(places_for(sum(len(one["ports"]) for one in configuration["functions"])))
+        self.places = Places(places_for(sum(len(one["ports"]) for one in configuration["functions"]), len(others)))
         port = InvokePort(self.client, self.settings.asynchronous, configuration, self.drain_seconds, self.log,
                           tails)
         self.queue, identifiers = port.queue, port.identifiers
         urls = {function: url_of(listener) for function, listener in self.urls.items()}
         management = Management(port, self.client, self.settings, configuration, urls)
-        self.servers = [Server(self.invoking, management, self.places, self.log)]
+        self.servers: List[Served] = [Server(self.invoking, management, self.places, self.log)]
         service.endpoint_url = url_of(self.invoking)
         for function, listener in self.urls.items():
             url = Url(self.client, self.settings.urls[function], identifiers, self.log, function, configuration)
@@ -83,6 +94,7 @@ class Front(threading.Thread):
         if self.routing:
             api = Api(self.client, self.settings.api, identifiers, self.log, self.settings.routes, configuration)
             self.servers.append(Server(self.routing, api, self.places, self.log))
+        self.servers += others
         self.start()
 
     def run(self) -> None:

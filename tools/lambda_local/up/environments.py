@@ -12,6 +12,7 @@ from typing import Dict, List, Optional, Set, Tuple
 
 from ..life import Generation
 from ..service import EXTENSION, RUNTIME, Service, ask
+from ..telemetry.beside import Beside
 from .invocation_lines import Printed
 from .log import Log
 from .members import NAME, Function
@@ -30,10 +31,11 @@ SOON = 1.0  # a runtime that ends within this many seconds of its start, without
 class Environment(threading.Thread):
     def __init__(self, service: Service, watch: Watch, function: Function, number: int, port: int,
                  variables: Dict[str, str], restarts: Restarts, stopping: threading.Event, log: Log,
-                 printed: Printed) -> None:
+                 printed: Printed, beside: Beside) -> None:
         self.number, self.function, self.port, self.variables = number, function, port, variables
         self.service, self.watch, self.stopping, self.log, self.printed = service, watch, stopping, log, printed
         super().__init__(name=watch.environment(number).name, daemon=True)
+        self.beside = beside  # what is between its processes and its port
         self.runtime: Optional[Process] = None
         self.extensions: List[Tuple[str, Process]] = []  # each with the name by which it registers
         self.generation = 0
@@ -83,6 +85,7 @@ class Environment(threading.Thread):
         self.wait_until_wanted()
         self.wait_out_pause()
         self.identifier = None
+        self.beside.begins()
         if self.stopping.is_set() or self.begins_unseen and not self.begin_unseen():
             return not self.stopping.is_set()
         self.identifier = self.register()
@@ -234,6 +237,7 @@ class Environment(threading.Thread):
 
     def ended_by(self, reason: str, kind: str, identifier: str, who: Optional[str] = None) -> None:
         """The service's caller hears at once that a process has ended."""
+        self.beside.fails(kind)
         with self.watch.muted(self.number):
             ask(self.port, "POST", EXTENSION + "exit/error", self.remember(reason, kind),
                 {"Lambda-Extension-Identifier": identifier, "Lambda-Extension-Function-Error-Type": kind})
@@ -257,6 +261,7 @@ class Environment(threading.Thread):
             return True
         event = json.loads(body)
         reason, deadline = event["shutdownReason"], event["deadlineMs"] / 1000
+        self.beside.closes(reason)
         if not self.stopping.is_set():
             self.say(f"shuts down, {reason}")
         return self.close(min(deadline - time.time(), SHUTDOWN_SECONDS) - SPARE, deadline, reason == "SPINDOWN",
@@ -265,6 +270,7 @@ class Environment(threading.Thread):
     def close(self, seconds: float, deadline: float, spins_down: bool = False, asks: bool = False) -> bool:
         """Ends all processes, says that this generation is done, and waits for the end of its Closing."""
         lived = time.monotonic() - self.runtime.begun if self.runtime else 0.0
+        self.beside.closes("FAILURE")  # (unless the service has said why)
         self.end(seconds if asks else max(0.0, deadline - time.time() - SPARE), spins_down)
         if asks:
             ask(self.port, "GET", EXTENSION + "event/next", headers=self.me())
@@ -292,6 +298,7 @@ class Environment(threading.Thread):
             process.end()
             if seconds > 0:
                 self.say_done(name)
+        self.beside.ends()
 
     def say_done(self, name: str) -> None:
         """Asks in the name of an extension that has gone. If it was not yet notified of the end, the first request does

@@ -88,6 +88,11 @@ class Printed:
             used = sum(peak_of(process.pid) for process in list(self.processes))
             self.starts[-1].peak = max(self.starts[-1].peak, used)
 
+    def peak(self) -> int:
+        """The most that they have used since the last runtime was started, in bytes; 0 if none is known."""
+        self.measure()
+        return self.starts[-1].peak if self.starts else 0
+
     def start_before(self, moment: float) -> Optional[Start]:
         """The last start of a runtime before this moment, if it is remembered."""
         return next((start for start in reversed(self.starts) if start.moment <= moment), None)

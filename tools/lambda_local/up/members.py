@@ -62,6 +62,7 @@ OWN = {
     "watch": Kind(is_list_of(is_text), "a list of files and folders"),
     "extensions": Kind(is_extensions,
                        "an object: the name by which each registers, and its command, or null if you start it"),
+    "telemetry": Kind(lambda value: isinstance(value, bool), "true or false"),
 }
 MEMBERS = {**OF_FUNCTION, **OWN, **settings.OF_FUNCTION, **sources.OF_FUNCTION}
 AT_THE_TOP = {**OF_SERVICE, **settings.AT_THE_TOP}
@@ -101,6 +102,7 @@ class Function:
         self.extensions = self._extensions(member.get("extensions", {}))
         self.expected = list(self.extensions) + ([NAME] if self.command else [])
         self._look()
+        self.has_telemetry = self._telemetry(member)
         self.part = self._part(member)
         self._scale(member)
         if self.layers:
@@ -154,6 +156,14 @@ class Function:
         commands = dict.fromkeys(given) if isinstance(given, list) else given
         return {name: words_of(command, f"{self.where}: extension {name}") if command else None
                 for name, command in commands.items()}
+
+    def _telemetry(self, member: Members) -> bool:
+        """Whether its extensions may subscribe to telemetry."""
+        if member.get("telemetry") and not (self.extensions and self.command):
+            raise Fault(2, f"{self.where}: telemetry is for its extensions: " + (
+                "write \"extensions\", or leave it out" if self.command
+                else "you start its runtime yourself, so leave it out"))
+        return bool(member.get("telemetry"))
 
     def _look(self) -> None:
         """Whether its extensions can be, and the programs of its commands are there."""

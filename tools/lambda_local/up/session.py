@@ -11,6 +11,7 @@ from ..guard import GUARD
 from ..guarding import end_all_below
 from ..outgoing import opened_for_payloads
 from ..service import Fault, Service
+from ..telemetry.beside import Sidecars
 from ..variables import of_callers
 from . import surroundings
 from .environments import Environment
@@ -57,6 +58,7 @@ class Session:
         self.patience = options.ready or max([READY_SECONDS, *(function.init + READY_SECONDS // 2 for function
                                                                in self.functions if function.init)])
         self.front = Front(front, options.up, options.drain, log)
+        self.sidecars = Sidecars(self.functions, options.up, log)
         if salt is None and "salt" not in configuration:
             configuration["salt"] = int(1000 * time.time()) << 16  # so that no two runs have the same identifiers
         # From here on a signal ends it in order; a second one kills.
@@ -71,7 +73,8 @@ class Session:
         self.watch.followers.append(invocations.take)
         self.report = self.make_report(invocations) if options.report else None
         self.watch.lines = Lines(self.report.tell, self.functions) if self.report else Lines(log, self.functions)
-        self.front.serve(self.service, Tails(invocations, self.watch))
+        self.front.serve(self.service, Tails(invocations, self.watch),
+                         self.sidecars.serve(self.service.configuration, self.printed))
         self.environments = list(self.make_environments())
         self.watch.hooks += [environment.answer_callers for environment in self.environments]
         if any(environment.is_extra for environment in self.environments):
@@ -125,17 +128,18 @@ class Session:
                 self.say(f"{function.name}: {note}", level="warning")
             for port in part["ports"]:
                 number += 1
-                here = self.watch.environment(number)
-                self.say(f"{here.name}: 127.0.0.1:{port}{'' if function.command else ', start its runtime yourself'}",
-                         kind="address", function=function.name, environment=here.place, port=port)
+                here, beside = self.watch.environment(number), self.sidecars.of(number, port)
+                todo = "" if function.command else ", start its runtime yourself"
+                self.say(f"{here.name}: 127.0.0.1:{beside.port}{todo}", kind="address", function=function.name,
+                         environment=here.place, port=beside.port)
                 if self.report is None:
                     self.printed[number].follow(self.show)
                 if function.command:
-                    variables = surroundings.of_environment(self.service, function, number, port,
+                    variables = surroundings.of_environment(self.service, function, number, beside.port,
                                                             self.options.keep_credentials)
                     restarts = Restarts(self.options.reload)
                     yield Environment(self.service, self.watch, function, number, port, variables, restarts,
-                                      self.stopping, self.log, self.printed[number])
+                                      self.stopping, self.log, self.printed[number], beside)
 
     def signalled(self, number: int, _frame: object) -> None:
         if not self.is_served:  # it is being built, or does not listen yet: nothing has to end in order

@@ -1,0 +1,128 @@
+"""What tools/up has beside an environment: its proxy, if the function's extensions may subscribe to telemetry;
+otherwise nothing, at no cost."""
+import json
+import uuid
+from typing import Any, Callable, Dict, Iterable, List, Mapping, Optional, Protocol
+
+from ..front import origins
+from ..front.front import listener_at
+from ..http1 import Request
+from .conversation import Answer
+from .desk import Desk
+from .ears import EnvironmentEars
+from .proxy import Proxy
+from .story import About
+
+KINDS = {400: "InvalidHost", 403: "AccessDenied", 501: "NotImplemented"}  # the service's, at an environment's port
+REASONS = {400: "Bad Request", 403: "Forbidden", 501: "Not Implemented"}
+
+
+class Line(Protocol):
+    """A line that a process has printed."""
+    @property
+    def source(self) -> str:
+        """The name of the process."""
+
+    @property
+    def text(self) -> str:
+        ...
+
+
+class Printed(Protocol):
+    """What the processes of an environment print."""
+
+    def follow(self, take: Callable[[Any], None]) -> None:
+        """`take` is given each line."""
+
+    def peak(self) -> int:
+        """The most memory that they have used since the runtime was started, in bytes; 0 if it is not known."""
+
+
+class Beside:
+    """Nothing: the processes have the environment's own port."""
+
+    def __init__(self, port: int):
+        self.port = port
+
+    def begins(self) -> None:
+        """A generation begins: its first process is started next."""
+
+    def fails(self, kind: str) -> None:
+        """A process has ended, which the service is told next."""
+
+    def closes(self, reason: str) -> None:
+        """The service has said that the generation ends."""
+
+    def ends(self) -> None:
+        """All its processes have ended."""
+
+
+class WithTelemetry(Beside):
+    """`printed` has the lines of the processes; those of its runtime are under the environment's own name."""
+
+    def __init__(self, desk: Desk, proxy: Proxy, name: str, printed: Printed):
+        super().__init__(proxy.address[1])
+        self.desk, self.proxy, self.name = desk, proxy, name
+        desk.memory = lambda: printed.peak() or None
+        printed.follow(self.take)
+
+    def take(self, line: Line) -> None:
+        self.desk.line("function" if line.source == self.name else "extension", line.text)
+
+    def begins(self) -> None:
+        self.desk.begins()
+
+    def fails(self, kind: str) -> None:
+        self.desk.fails(kind)
+
+    def closes(self, reason: str) -> None:
+        self.desk.closes(reason)
+
+    def ends(self) -> None:
+        self.desk.ends()
+
+
+def refusal_of(head: Request) -> Optional[Answer]:
+    """The service's own answer to a web page, or to a foreign host."""
+    refused = origins.refusal_of(head, origins.further_hosts())
+    if refused is None:
+        return None
+    body = json.dumps({"errorMessage": refused.message, "errorType": KINDS[refused.status]}, separators=(",", ":"))
+    return Answer(refused.status, REASONS[refused.status], body.encode())
+
+
+def about(function: Any) -> About:
+    """What telemetry says of a function of UP.json."""
+    form = str(function.variables.get("AWS_LAMBDA_LOG_FORMAT", "")).upper()
+    return About(function.name, function.memory, str(uuid.uuid4()), form == "JSON", tuple(function.extensions))
+
+
+class Sidecars:
+    """Those of all environments, by their numbers."""
+
+    def __init__(self, functions: Iterable[Any], path: str, log: Callable[..., None]):
+        self.functions, self.path, self.log = list(functions), path, log
+        self.found: Dict[int, WithTelemetry] = {}
+
+    def serve(self, configuration: Mapping[str, Any], printed: Mapping[int, Printed]) -> List[Proxy]:
+        """Makes the proxies of a service with this configuration, whose environments' processes print this; its front
+        runs them."""
+        number = 0
+        for function, part in zip(self.functions, configuration["functions"]):
+            for place, port in enumerate(part["ports"], 1):
+                number += 1
+                if function.has_telemetry:
+                    self.found[number] = self._made(function, place, port, printed[number])
+        return [each.proxy for each in self.found.values()]
+
+    def _made(self, function: Any, place: int, port: int, printed: Printed) -> WithTelemetry:
+        name = f"{function.name}/{place}"
+
+        def tell(text: str) -> None:
+            self.log(name, f"-- {text}", level="warning", kind="telemetry", function=function.name)
+        desk = Desk(about(function), tell)
+        listener = listener_at(0, f"telemetry of {name}", self.path)
+        return WithTelemetry(desk, Proxy(listener, port, EnvironmentEars(desk, refusal_of), tell), name, printed)
+
+    def of(self, number: int, port: int) -> Beside:
+        return self.found.get(number) or Beside(port)

@@ -1,0 +1,243 @@
+"""The port that an environment's processes have as AWS_LAMBDA_RUNTIME_API: connections that are read as they pass, each
+with one of its own to the environment's port. Nothing ends a connection here but one of its sides, however long it
+waits. What one side does not take, the other is not asked for."""
+import asyncio
+import errno
+import socket
+import struct
+from typing import Callable, Dict, Optional, Set, Tuple, cast
+
+from .conversation import Conversation, Ears
+
+MOST = 64  # connections at once; a runtime and ten extensions have eleven polls
+AT_ONCE = 16  # newcomers that are accepted before others have their turn
+WITHOUT_ROOM = (errno.EMFILE, errno.ENFILE, errno.ENOBUFS, errno.ENOMEM)
+PAUSE = 0.1  # seconds, after a newcomer for whom there is no descriptor
+HELD_SECONDS = 20.0  # for the rest of a request that is answered here, as the service has it for a head
+BY_RESET = struct.pack("ii", 1, 0)  # of SO_LINGER
+HERE = "127.0.0.1"
+Tell = Callable[[str], None]
+
+
+class Side(asyncio.Protocol):
+    """One of the two connections of a pair."""
+
+    def __init__(self, pair: "Pair", is_client: bool):
+        self.pair, self.is_client = pair, is_client
+        self.transport: Optional[asyncio.Transport] = None
+        self.has_ended = self.is_lost = self.is_paused = False
+
+    def connection_made(self, transport: asyncio.BaseTransport) -> None:
+        assert isinstance(transport, asyncio.Transport)
+        self.transport = transport
+
+    def data_received(self, data: bytes) -> None:
+        self.pair.came(self, data)
+
+    def eof_received(self) -> bool:
+        self.has_ended = True
+        self.pair.came(self, b"")
+        return True  # (the other direction stays open)
+
+    def connection_lost(self, fault: Optional[Exception]) -> None:
+        self.is_lost = True
+        self.pair.lost(self, fault)
+
+    def pause_writing(self) -> None:
+        self.pair.other(self).pause()
+
+    def resume_writing(self) -> None:
+        self.pair.other(self).resume()
+
+    # ---- what its pair does ------------------------------------------------------------------------------------------
+
+    def pause(self) -> None:
+        if self.transport and not self.is_lost and not self.is_paused:
+            self.is_paused = True
+            self.transport.pause_reading()
+
+    def resume(self) -> None:
+        if self.transport and not self.is_lost and self.is_paused:
+            self.is_paused = False
+            self.transport.resume_reading()
+
+    def write(self, data: bytearray) -> None:
+        if data and self.transport and not self.is_lost:
+            self.transport.write(bytes(data))
+        data.clear()
+
+    def end(self) -> None:
+        """Says that nothing more comes."""
+        if self.transport and not self.is_lost and not self.transport.is_closing() and self.transport.can_write_eof():
+            self.transport.write_eof()
+
+    def close(self, by_reset: bool = False) -> None:
+        if self.transport is None or self.is_lost:
+            return
+        if by_reset:
+            self.transport.get_extra_info("socket").setsockopt(socket.SOL_SOCKET, socket.SO_LINGER, BY_RESET)
+            self.transport.abort()
+        else:
+            self.transport.close()
+
+
+class Pair:
+    """A connection of a process, and the one to the environment that belongs to it."""
+
+    def __init__(self, proxy: "Proxy"):
+        self.proxy, self.conversation = proxy, Conversation(proxy.ears)
+        self.client, self.service = Side(self, True), Side(self, False)
+        self.task: Optional["asyncio.Task[None]"] = None
+        self.holding: Optional[asyncio.TimerHandle] = None
+        self.is_waiting = False
+
+    @property
+    def is_idle(self) -> bool:
+        """Whether no request of it waits for an answer."""
+        return not self.conversation.open
+
+    def other(self, side: Side) -> Side:
+        return self.service if side.is_client else self.client
+
+    async def begin(self, peer: socket.socket) -> None:
+        loop = cast(asyncio.BaseEventLoop, asyncio.get_running_loop())
+        try:
+            await loop.create_connection(lambda: self.service, HERE, self.proxy.port)
+            await loop.connect_accepted_socket(lambda: self.client, peer)
+        except BaseException as fault:
+            peer.close()
+            self.service.close()
+            self.proxy.leave(self)
+            if not isinstance(fault, OSError):  # (that is: the service has ended, or there is no descriptor)
+                raise
+        if self.service.is_lost:
+            self.client.close()
+
+    def came(self, side: Side, data: bytes) -> None:
+        (self.conversation.client_sent if side.is_client else self.conversation.service_sent)(data)
+        self._flush()
+
+    def _flush(self) -> None:
+        conversation = self.conversation
+        self.service.write(conversation.to_service)
+        if self.client.has_ended and not conversation.to_service:
+            self.service.end()
+        if conversation.waits and not self.is_waiting:
+            self.is_waiting = True
+            self.task = asyncio.get_running_loop().create_task(self._wait())
+        if not self.is_waiting:
+            self._flush_client()
+        self._watch_held()
+
+    def _flush_client(self) -> None:
+        self.client.write(self.conversation.to_client)
+        if self.service.has_ended:
+            self.client.end()
+        if self.conversation.closes and not self.conversation.open:
+            self.client.close()
+
+    async def _wait(self) -> None:
+        """Before more goes to the client."""
+        while self.conversation.waits:
+            await self.conversation.waits.pop(0)
+        self.is_waiting = False
+        self._flush_client()
+        if self.service.is_lost:
+            self.client.close()
+
+    def _watch_held(self) -> None:
+        """Half a request that would be answered here has its time."""
+        is_held = self.conversation.is_held
+        if is_held and self.holding is None:
+            self.holding = asyncio.get_running_loop().call_later(HELD_SECONDS, self.client.close, True)
+        elif not is_held and self.holding is not None:
+            self.holding.cancel()
+            self.holding = None
+
+    def lost(self, side: Side, fault: Optional[Exception]) -> None:
+        """How one side ends, the other does."""
+        if side.is_client:
+            self.conversation.lost()
+            if self.holding is not None:
+                self.holding.cancel()
+        if not (self.is_waiting and not side.is_client):
+            self.other(side).close(by_reset=fault is not None)
+        if self.client.is_lost and (self.service.is_lost or self.service.transport is None):
+            self.proxy.leave(self)
+
+    def abort(self) -> None:
+        self.client.close(by_reset=True)
+        self.service.close(by_reset=True)
+
+
+class Proxy:
+    """One environment's. `port` is that of the environment itself."""
+
+    def __init__(self, listener: socket.socket, port: int, ears: Ears, tell: Tell, most: int = MOST):
+        self.listener, self.port, self.ears, self.tell, self.most = listener, port, ears, tell, most
+        self.pairs: Dict[Pair, None] = {}  # in the order in which they came
+        self.beginning: Set["asyncio.Task[None]"] = set()
+        self.has_told = False
+
+    @property
+    def address(self) -> Tuple[str, int]:
+        name: Tuple[str, int] = self.listener.getsockname()
+        return name
+
+    async def start(self) -> None:
+        self.loop = asyncio.get_running_loop()
+        self.listener.setblocking(False)
+        self.loop.add_reader(self.listener, self._accept)
+
+    async def stop(self) -> None:
+        if self.listener.fileno() >= 0:
+            self.loop.remove_reader(self.listener)
+        self.listener.close()
+        for task in self.beginning:
+            task.cancel()
+        for pair in list(self.pairs):
+            pair.abort()
+        await asyncio.sleep(0)
+
+    def _accept(self) -> None:
+        for _ in range(AT_ONCE):
+            try:
+                peer, _ = self.listener.accept()
+            except (BlockingIOError, InterruptedError, ConnectionAbortedError):
+                return
+            except OSError as fault:
+                if fault.errno not in WITHOUT_ROOM:
+                    raise
+                self._wait_for_room()
+                return
+            self._welcome(peer)
+
+    def _welcome(self, peer: socket.socket) -> None:
+        """Without room, one that asks nothing makes it; if each does, the newcomer is closed."""
+        if len(self.pairs) >= self.most:
+            idle = next((pair for pair in self.pairs if pair.is_idle), None)
+            if idle is None:
+                peer.close()
+                return
+            self.leave(idle)
+            idle.abort()
+        peer.setblocking(False)
+        pair = Pair(self)
+        self.pairs[pair] = None
+        task = self.loop.create_task(pair.begin(peer))
+        self.beginning.add(task)
+        task.add_done_callback(self.beginning.discard)
+
+    def _wait_for_room(self) -> None:
+        if not self.has_told:
+            self.has_told = True
+            self.tell("there is no descriptor for a further connection of its processes (ulimit -n): they wait")
+        self.loop.remove_reader(self.listener)
+        self.loop.call_later(PAUSE, self._accept_again)
+
+    def _accept_again(self) -> None:
+        if self.listener.fileno() >= 0:
+            self.loop.add_reader(self.listener, self._accept)
+
+    def leave(self, pair: Pair) -> None:
+        self.pairs.pop(pair, None)
