@@ -2,18 +2,19 @@
 import os
 import shutil
 import subprocess
+from typing import List
 
 ROOT = os.path.dirname(os.path.dirname(os.path.dirname(os.path.realpath(__file__))))
 
 
-def files_of(root):
+def files_of(root: str) -> List[str]:
     """What git knows or would add, by its names."""
     listed = subprocess.run(["git", "-C", root, "ls-files", "-co", "--exclude-standard", "-z"], stdout=subprocess.PIPE,
                             check=True).stdout.decode()
     return [it for it in sorted(set(listed.split("\0"))) if it and os.path.isfile(os.path.join(root, it))]
 
 
-def copy_to(folder, without_release=False):
+def copy_to(folder: str, without_release: bool = False) -> None:
     """Copies the files there unchanged, with or without release/."""
     for name in files_of(ROOT):
         if not (without_release and name.startswith("release/")):

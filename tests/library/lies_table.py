@@ -1,0 +1,99 @@
+"""For each file of tests/tools a deliberate fault at which it has to fail: its own words (a part of it, or none), the
+file with the fault, what stands there, and the fault."""
+import ast
+import glob
+import os
+import re
+from typing import Dict, Iterator, Tuple
+
+NOTED = os.path.join("tests", "library", "lies.noted")
+OF_TOOLS = "tools/lambda_local/"
+LIES: Dict[str, Tuple[str, str, str, str]] = {
+    "conformance": ("", OF_TOOLS + "conformance/report.py",
+                    "return 1 if self.counts[FAIL]", "return 0 if self.counts[FAIL]"),
+    "conformance_proxy": ("", OF_TOOLS + "conformance/proxy.py",
+                          "            service.sendall(data)", "            service.sendall(data[:1000])"),
+    "conformance_service": ("", OF_TOOLS + "conformance/service/judge.py",
+                            "if exchange.status != wanted:", "if False:"),
+    "counting": ("", "tests/library/counted.py", "isinstance(wanted, bool) and not isinstance(seen, bool):", "False:"),
+    "events": ("failures", OF_TOOLS + "front/queue.py",
+               "        event.attempts += 1\n", "        event.attempts += 2\n"),
+    "events_faults": ("", OF_TOOLS + "front/queue.py",
+                      "        if status == 429:\n", "        if status == 429 and False:\n"),
+    "events_load": ("10", OF_TOOLS + "front/queue.py", "        lane.ready.appendleft(event)\n", "        pass\n"),
+    "explained": ("", OF_TOOLS + "configuration.py", "256 is the most", "255 is the most"),
+    "from_template": ("", OF_TOOLS + "from_template/values.py", "is not a condition", "is a condition"),
+    "fuzz": ("--hours 0.005", OF_TOOLS + "json_reader.py", "NotJson(", "KeyError("),
+    "history": ("", OF_TOOLS + "history.py", "and len(word) <= MOST_DIGITS", ""),
+    "http1": ("", OF_TOOLS + "http1/framing.py", "chunked", "chunket"),
+    "http_events": ("", OF_TOOLS + "front/payload.py", '"isBase64Encoded": True}', '"isBase64Encoded": False}'),
+    "invocation_log": ("", OF_TOOLS + "up/invocation_log.py", "MOST_TAIL = 4096", "MOST_TAIL = 4090"),
+    "invoke": ("", OF_TOOLS + "invoke.py", "        return 1\n    return 0\n", "        return 0\n    return 0\n"),
+    "launcher": ("", OF_TOOLS + "cli.py", "--version", "--vision"),
+    "management": ("", OF_TOOLS + "front/management.py", '"NotImplementedException"', '"NotFoundException"'),
+    "package": ("", "tools/packages/wheel.py", "lambda_local", "lambda_locale"),
+    "plugin": ("", OF_TOOLS + "in_process.py", "type(fault).__name__, \"requestId\"", "\"Error\", \"requestId\""),
+    "plugin_events": ("", OF_TOOLS + "front/settings.py", "from 0 to 2", "from 0 to 3"),
+    "plugin_sandbox": ("", OF_TOOLS + "sandbox.py", "    return any(host == name", "    return all(host == name"),
+    "rerun": ("", OF_TOOLS + "rerun/compare.py", "return [Difference(\"\", then, now)]", "return []"),
+    "rest_events": ("", OF_TOOLS + "front/rest_payload.py", '"multiValueHeaders"', '"multipleHeaders"'),
+    "runtimes": ("", "examples/runtime.py", '"stackTrace"', '"trace"'),
+    "sources": ("", OF_TOOLS + "up/queues.py", "return Invoked(None, \"failed\")", "return Invoked([], \"\")"),
+    "stopping": ("", OF_TOOLS + "service.py", "/_local/stop", "/_local/stops"),
+    "template_routes": ("", OF_TOOLS + "from_template/routes.py", "BinaryMediaTypes", "BinaryTypes"),
+    "timeline": ("", OF_TOOLS + "timeline/words.py", "if milliseconds < 10_000", "if milliseconds < 1_000"),
+    "timeline_history": ("", OF_TOOLS + "timeline/read.py", "this is not an answer", "this is an answer"),
+    "timeline_live": ("", OF_TOOLS + "timeline/served.py", 'in ("none", "same-origin")', 'in ("none", "same-site")'),
+    "up": ("", OF_TOOLS + "up/restarts.py",
+           "PAUSES[min(self.early - 2, len(PAUSES) - 1)] if self.early > 1 else 0", "0"),
+    "up_command": ("", OF_TOOLS + "guarding.py", "            kill_tree(pid)", "            pass"),
+    "up_edge": ("", OF_TOOLS + "outgoing.py", "return UNSAFE.sub(_escaped, text)", "return text"),
+    "up_failures": ("", OF_TOOLS + "up/restarts.py",
+                    "PAUSES[min(self.early - 2, len(PAUSES) - 1)] if self.early > 1 else 0", "0"),
+    "up_members": ("", OF_TOOLS + "configuration.py", "0 is not a port", "0 is a port"),
+    "up_projects": ("", OF_TOOLS + "up/layers.py",
+                    "return path == folder or path.startswith(folder + os.sep)", "return True"),
+    "up_reload": ("", OF_TOOLS + "up/reload.py", "                return True\n", "                return False\n"),
+    "up_scaling": ("", OF_TOOLS + "up/scaling.py",
+                   "                    environment.begin()", "                    pass"),
+}
+
+
+def notes(root: str) -> Dict[str, str]:
+    """The lies that were found, each with the commit."""
+    try:
+        with open(os.path.join(root, NOTED), encoding="utf-8") as file:
+            return dict(line.split() for line in file)
+    except OSError:
+        return {}
+
+
+def untried(root: str) -> Iterator[str]:
+    """What files of tests/tools have no lie, or one that was not found yet."""
+    found = notes(root)
+    for path in sorted(glob.glob(os.path.join(root, "tests", "tools", "*.py"))):
+        name = os.path.basename(path)[:-len(".py")]
+        if name not in LIES:
+            yield f"{name}.py has no lie in tests/library/lies_table.py"
+        elif name not in found:
+            yield f"the lie of {name}.py was not found yet: tests/lies {name}"
+
+
+TABLE = re.compile(r'^    "(\w+)": \("[^"]*", (OF_TOOLS \+ )?"([^"]*)",\s+'
+                   r'("(?:[^"\\]|\\.)*"|\'(?:[^\'\\]|\\.)*\'),', re.M)
+
+
+def misfits(root: str) -> Iterator[str]:
+    """The lies whose words are not where they should be. It reads the table of that tree, not this one."""
+    with open(os.path.join(root, "tests", "library", "lies_table.py"), encoding="utf-8") as file:
+        listed = TABLE.findall(file.read())
+    if len(listed) < len(LIES):
+        yield f"{len(listed)} lies can be read, of {len(LIES)}"
+    for name, of_tools, path, old in listed:
+        words, where = ast.literal_eval(old), (OF_TOOLS if of_tools else "") + path
+        try:
+            with open(os.path.join(root, where), encoding="utf-8") as file:
+                if words not in file.read():
+                    yield f"{name}: {where} has no {words!r}"
+        except OSError:
+            yield f"{name}: there is no {where}"
