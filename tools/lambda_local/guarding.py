@@ -112,7 +112,7 @@ def received(channel: socket.socket) -> Tuple[Optional[Dict[str, object]], List[
 
 
 class Forker:
-    """A process that forks runtimes (`forking`): it has the imports of one that was started by these words and with these
+    """A process that forks runtimes (`forking`): it has the imports of one that was started by these words, with these
     variables."""
 
     def __init__(self, words: List[str], env: Mapping[str, str]):
