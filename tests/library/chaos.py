@@ -1,5 +1,6 @@
 """Chaos under tools/up: events, calls, Function URLs and routes beside one another, while functions and extensions are
-killed at random, the queue fills, and the log is not read for a while."""
+killed at random, the queue fills, and the log is not read for a while. Beside it, further runs of tools/up, each with a
+command, are killed themselves (so is their front, a thread of theirs): nothing of them may be left."""
 import collections
 import http.client
 import json
@@ -29,6 +30,14 @@ id=$(curl -s -o /dev/null -D - -H "Lambda-Extension-Name: x" -d '{"events":["INV
 while curl -s -f -H "Lambda-Extension-Identifier: $id" $api/event/next | grep -q INVOKE; do :; done
 """
 EVENT = re.compile(r"event ([0-9a-f-]{36}) (.*)")
+# A module and a command that put processes into sessions of their own; words that no other process has
+LEAVING = """import subprocess
+subprocess.Popen(["sleep", "88001"], start_new_session=True)
+subprocess.run(["sh", "-c", "setsid sleep 88002 >/dev/null 2>&1 &"])
+def run(event): return event
+"""
+COMMAND = ["--", "sh", "-c", "setsid sleep 88003 >/dev/null 2>&1 & (setsid sleep 88004 >/dev/null 2>&1 &); "
+           "exec sleep 88005"]
 OVER = re.compile(r"ok after|is refused|it is dropped|its record goes to|is lost by the stop")
 
 
@@ -113,6 +122,18 @@ class Chaos:
                 except ProcessLookupError:
                     pass
 
+    def kill_fronts(self):
+        """A run of tools/up at a time, which is killed at any moment."""
+        while self.goes_on():
+            one = {"runtime": "python", "handler": "app.run", "timeout": 5}
+            up = Up("--ready", "600", app=LEAVING, command=COMMAND, whole={"asynchronous": True}, functions=[
+                {"name": "f", "url": True, **one}, {"name": "g", **one, "environments": 2}])
+            time.sleep(self.random.choice((0.3, 1, 2, 4)) * self.random.uniform(0.5, 1.5))
+            up.process.kill()
+            gone = until(lambda: not any(map(up.is_here, filter(str.isdigit, os.listdir("/proc")))), 60)
+            self.note("fronts killed" if gone else "fronts that left something")
+            up.end(None)
+
     def stall(self):
         """The log is not read for some seconds, now and then."""
         while self.goes_on():
@@ -134,12 +155,14 @@ def chaos(seconds, seed=None):
     pid = one.up.process.pid
     before = state_of(pid)
     threads = [threading.Thread(target=work) for work in
-               (one.send_events, one.send_events, one.call, one.call, one.get, one.kill, one.stall)]
+               (one.send_events, one.send_events, one.call, one.call, one.get, one.kill, one.stall,
+                one.kill_fronts)]
     for thread in threads:
         thread.start()
     for thread in threads:
         thread.join()
     one.up.reading.set()
+    check("what was killed itself left nothing", one.counts["fronts that left something"], 0)
     check("tools/up is there after chaos", lives(pid), True)
     ended = lambda: {found[1] for line in list(one.up.lines) if (found := EVENT.search(line)) and OVER.search(found[2])}
     until(lambda: set(one.taken) <= ended() or left_out_of(list(one.up.lines)), 120)

@@ -329,6 +329,32 @@ def killed():
     check("after kill -9 of tools/up and all but its guard nothing is left", end_by(up, up.process.pid), (-9, []))
 
 
+# A command that starts a process in a session of its own, and one whose parent has ended.
+COMMAND = ["--", "sh", "-c", "setsid sleep 995 >/dev/null 2>&1 & (setsid sleep 996 >/dev/null 2>&1 &); "
+           "echo begun >&2; exec sleep 997"]
+
+
+def killed_with_a_command():
+    """What the command of a killed tools/up has started ends too, whatever session that is in."""
+    for everyone in (False, True):
+        up = Up(command=COMMAND)
+        up.until("begun")
+        until(lambda: all(with_word(word) for word in ("995", "996", "997")), 10)
+        here = [pid for word in ("995", "996", "997") for pid in with_word(word) if up.is_here(pid)]
+        check("a command has started three processes", len(here), 3)
+        for pid in here if everyone else ():
+            if "997" in command_of(pid):  # (what the shell waits for: the command ends at the same time)
+                kill(pid)
+        check(f"after kill -9 of tools/up{' and of its command' if everyone else ''} nothing is left",
+              end_by(up, up.process.pid), (-9, []))
+    up = Up(command=["--", "sh", "-c", "setsid sleep 998 >/dev/null 2>&1 &"])
+    until(lambda: up.process.poll() is not None, 60)
+    status, left = up.end(None)
+    check("what a command that has ended leaves behind stays", (status, len(left)), (0, 1))
+    for pid in left:
+        kill(int(pid))
+
+
 def private_files():
     """A saved history has payloads: its user alone may read it."""
     up = Up("--history", "saved", command=["--", "true"], functions=[{"name": "f"}])
@@ -405,4 +431,5 @@ def end_by(up, pid):
 if __name__ == "__main__":
     sys.exit(counted.run(reports, jsons, escapes, split_characters, long_lines, dropped_lines, slow_reader,
                          hostile_reports, foreign_names, forged_lines, unread_log,
-                         of_sessions_of_their_own, killed, private_files, few_ports, out_of_memory))
+                         of_sessions_of_their_own, killed, killed_with_a_command, private_files, few_ports,
+                         out_of_memory))

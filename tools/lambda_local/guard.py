@@ -1,9 +1,9 @@
 """Leaves no process behind even if the tool itself is killed: a second process ends what the tool holds.
 
-`hold` and `release` name what is to be ended: a process group (its number), a single process (`Single`), a folder (a
-path). They go through a pipe whose writing end only this process has. When that closes, however this process ended, the
-guard kills what is still held. A process must be released before its status is asked for: until then, its number cannot
-be another's.
+`hold` and `release` name what is to be ended: a process group (its number) or a single process (`Single`), each with
+all below it; whatever was started with a variable (`Marked`); a folder (a path). They go through a pipe whose writing
+end only this process has. When that closes, however this process ended, the guard kills what is still held. A process
+must be released before its status is asked for: until then, its number cannot be another's.
 
 `start` lets the guard start a process: it is then below the guard, which ends it with all that it has started, whatever
 session that is in. If the guard itself is killed, what was below it comes below this process (`adopt_orphans`)."""
@@ -25,6 +25,10 @@ PATIENCE = 30.0  # seconds for the guard to answer
 
 class Single(int):
     """The number of one process, without its group."""
+
+
+class Marked(str):
+    """`NAME=VALUE`: every process that was started with this variable, whatever has become of its parent."""
 
 
 Target = Union[int, str]
@@ -186,7 +190,8 @@ class Guard:
 
     def _say(self, sign: str, target: Target) -> None:
         self._begin()
-        kind = "folder" if isinstance(target, str) else "process" if isinstance(target, Single) else "group"
+        kind = ("marked" if isinstance(target, Marked) else "folder" if isinstance(target, str)
+                else "process" if isinstance(target, Single) else "group")
         with contextlib.suppress(OSError):
             os.write(self.pipe, os.fsencode(f"{sign} {kind} {target}\n"))
 

@@ -50,6 +50,16 @@ def below(pid: int) -> List[int]:
     return found
 
 
+def marked(variable: str) -> List[int]:
+    """The processes that were started with a variable, NAME=VALUE, but for this one."""
+    found = []
+    for name in filter(str.isdigit, os.listdir("/proc")):
+        with contextlib.suppress(OSError), open(f"/proc/{name}/environ", "rb") as file:
+            if int(name) != os.getpid() and os.fsencode(variable) in file.read().split(b"\0"):
+                found.append(int(name))
+    return found
+
+
 def send(pid: int, number: int) -> None:
     with contextlib.suppress(ProcessLookupError, PermissionError):
         os.kill(pid, number)
@@ -251,12 +261,24 @@ class Guard:
     def end(self) -> None:
         """Ends all that is held, and all below this process."""
         for kind, target in self.held:
-            if kind != "folder":
-                (send_group if kind == "group" else send)(int(target), signal.SIGKILL)
+            if kind in ("group", "process"):
+                kill_tree(int(target))
+        for kind, target in self.held:
+            if kind == "marked":
+                self.end_marked(target)
         end_all_below()
         for kind, target in self.held:
             if kind == "folder":
                 shutil.rmtree(target, ignore_errors=True)
+
+    @staticmethod
+    def end_marked(variable: str) -> None:
+        """What lost its parent before, and so is below nothing that is held."""
+        end = time.monotonic() + PATIENCE
+        while (found := marked(variable)) and time.monotonic() < end:
+            for pid in found:
+                kill_tree(pid)
+            time.sleep(0.005)
 
     # ---- what is started here ----------------------------------------------------------------------------------------
 

@@ -104,8 +104,9 @@ def text_of(fields: Sequence[str]) -> Optional[bytes]:
 
 
 def decoded(field: str) -> bytes:
-    """The bytes of a field `=TEXT`; a `%` without two hexadecimal digits is itself."""
-    return unquote_to_bytes(field[1:])
+    """The bytes of a field `=TEXT`; a `%` without two hexadecimal digits is itself, and so is a byte that is not ASCII
+    and was read as half of a surrogate pair (PEP 383)."""
+    return unquote_to_bytes(field[1:].encode("utf-8", "surrogateescape"))
 
 
 def count_in(identifier: str) -> int:

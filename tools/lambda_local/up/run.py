@@ -4,13 +4,15 @@ import signal
 import subprocess
 import threading
 import time
+import uuid
 from typing import Callable, Dict, List, Union
 
-from ..guard import GUARD, Single
+from ..guard import GUARD, Marked, Single
 from ..service import Fault
 
 PATIENCE = 10.0  # seconds for a command that was interrupted
 TERM_SECONDS = 5.0
+MARK = "LAMBDA_LOCAL_RUN"  # another value for each command: by it the guard knows what the command has started
 
 
 def has_terminal() -> bool:
@@ -33,10 +35,13 @@ class Run:
     interrupts the command once, through this process."""
 
     def __init__(self, words: List[str], variables: Dict[str, str], when_ended: Callable[[], None]) -> None:
-        self.shares = has_terminal()
+        self.shares, self.mark = has_terminal(), Marked(f"{MARK}={uuid.uuid4()}")
+        GUARD.hold(self.mark)
         try:
-            self.child = subprocess.Popen(words, env=variables, start_new_session=not self.shares)
+            self.child = subprocess.Popen(words, env={**variables, MARK: self.mark.partition("=")[2]},
+                                          start_new_session=not self.shares)
         except OSError as fault:
+            GUARD.release(self.mark)
             raise Fault(4, f"{words[0]}: {fault.strerror}: write a program after --") from None
         self.held: Union[Single, int] = Single(self.child.pid) if self.shares else self.child.pid
         GUARD.hold(self.held)
@@ -46,6 +51,7 @@ class Run:
     def _wait(self, when_ended: Callable[[], None]) -> None:
         os.waitid(os.P_PID, self.child.pid, os.WEXITED | os.WNOWAIT)
         GUARD.release(self.held)  # (while its number cannot be another's)
+        GUARD.release(self.mark)  # (what it leaves behind by itself is its own)
         self.child.wait()
         when_ended()
 
