@@ -30,6 +30,7 @@ LIES: Dict[str, Tuple[str, str, str, str]] = {
     "invocation_log": ("", OF_TOOLS + "up/invocation_log.py", "MOST_TAIL = 4096", "MOST_TAIL = 4090"),
     "invoke": ("", OF_TOOLS + "invoke.py", "        return 1\n    return 0\n", "        return 0\n    return 0\n"),
     "launcher": ("", OF_TOOLS + "cli.py", "--version", "--vision"),
+    "little_memory": ("", OF_TOOLS + "limits.sh", '[ "$allowed" -le "$bytes" ]', '[ "$allowed" -ge "$bytes" ]'),
     "management": ("", OF_TOOLS + "front/management.py", '"NotImplementedException"', '"NotFoundException"'),
     "package": ("", "tools/packages/wheel.py", "lambda_local", "lambda_locale"),
     "plugin": ("", OF_TOOLS + "in_process.py", "type(fault).__name__, \"requestId\"", "\"Error\", \"requestId\""),

@@ -1,12 +1,12 @@
 """The command `lambda_local` as pip installs it: what ./lambda_local is in a checkout."""
 import importlib
 import os
-import resource
+import shutil
 import sys
 from typing import List, Tuple
 
 from . import explain
-from .paths import PACKAGE, own_program
+from .paths import LIMITS, PACKAGE, own_program
 
 # The modules of this package that have the `main` of a tool.
 TOOLS = {
@@ -24,19 +24,16 @@ SHAPES: Tuple[List[str], ...] = ([], ["replay"], ["path"], ["--version"])
 
 def start(program: str, words: List[str]) -> int:
     """Becomes the program."""
-    # A connection takes three descriptors.
-    hard = resource.getrlimit(resource.RLIMIT_NOFILE)[1]
-    resource.setrlimit(resource.RLIMIT_NOFILE, (hard, hard))
-    os.environ.pop("LAMBDA_LOCAL_PROGRAM", None)
-    try:
-        if words[:1] == ["serve"]:
-            explain.before_serving(program, words[1])
-        elif explain.is_file(0):
-            return explain.replayed(program, words)
-        os.execvp(program, [program, *words])
-    except OSError as fault:
-        print(f"lambda_local: {program}: {fault.strerror}: LAMBDA_LOCAL_PROGRAM names another program", file=sys.stderr)
+    if not shutil.which(program):
+        print(f"lambda_local: {program} is not a program that can be started: LAMBDA_LOCAL_PROGRAM names another",
+              file=sys.stderr)
         return 4
+    os.environ.pop("LAMBDA_LOCAL_PROGRAM", None)
+    if words[:1] == ["serve"]:
+        explain.before_serving(program, words[1])
+    elif explain.is_file(0):
+        return explain.replayed(program, words)
+    os.execv("/bin/sh", ["/bin/sh", "-c", '. "$0" && begin "$@"', LIMITS, program, *words])
 
 
 def show_version(program: str) -> None:

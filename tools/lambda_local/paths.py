@@ -9,6 +9,7 @@ from typing import List, Optional
 PACKAGE = os.path.dirname(os.path.realpath(__file__))
 ROOT = os.path.dirname(os.path.dirname(PACKAGE))
 LAUNCHER = os.path.join(ROOT, "lambda_local")  # of a checkout, or of a package of it
+LIMITS = os.path.join(PACKAGE, "limits.sh")  # how a service is begun
 
 
 def bundled(name: str) -> Optional[str]:

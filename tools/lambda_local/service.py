@@ -23,14 +23,14 @@ from typing import Callable, Collection, Dict, Iterator, List, Mapping, Optional
 from .configuration import Members, explained
 from .guard import GUARD
 from .history import parked  # noqa: F401 (for those who ask a service)
-from .paths import LAUNCHER, own_program
+from .paths import LAUNCHER, LIMITS, own_program
 
 RUNTIME = "/2018-06-01/runtime/"
 EXTENSION = "/2020-01-01/extension/"
 TAKEN_SECONDS = 5.0  # for the status of a process that has ended
 NO_NETWORK = "network: failed"  # the program's line if it cannot listen on a port
-# Before the program's words: a connection takes three descriptors.
-RAISED = ("/bin/sh", "-c", 'ulimit -n "$(ulimit -Hn)" 2>/dev/null; exec "$@"', "sh")
+# Before the program's words: what a service begins with.
+BEGUN = ("/bin/sh", "-c", '. "$0" && begin "$@"', LIMITS)
 
 
 class Fault(Exception):
@@ -246,7 +246,7 @@ class Service:
         self.lines = []
         # (in a session of its own, so that a terminal's Ctrl-C does not end it out of order)
         with undisturbed():
-            command, pipe = GUARD.announcing([*RAISED, self.program, "serve", path])
+            command, pipe = GUARD.announcing([*BEGUN, self.program, "serve", path])
             self.process = subprocess.Popen(command, stdin=pipe, stdout=subprocess.PIPE, stderr=subprocess.PIPE,
                                             text=True, errors="replace", start_new_session=True)
             assert self.process.stdout and self.process.stderr

@@ -1,4 +1,4 @@
-"""How much memory this process may have, and how much of it is used."""
+"""How much memory this process and its service may have, and how much of it is used."""
 import os
 import resource
 from typing import Iterator, List, NamedTuple, Optional
@@ -32,8 +32,24 @@ def folder_of_cgroup() -> Optional[str]:
     return None if path is None else os.path.normpath(f"{CGROUP}/{path}")
 
 
-def uses() -> Iterator[Use]:
+def use_of_service(process: int) -> Optional[Use]:
+    """The data of the service, if what begins it has limited that (limits.sh); none if it has ended."""
+    try:
+        limit = resource.prlimit(process, resource.RLIMIT_DATA)[0]
+        with open(f"/proc/{process}/status") as file:
+            used = next((int(line.split()[1]) << 10 for line in file if line.startswith("VmData:")), None)
+    except OSError:
+        return None
+    if used is None or limit == resource.RLIM_INFINITY:
+        return None
+    return Use(used, limit, "the service's memory (LAMBDA_LOCAL_MEMORY), beyond which it answers 500 `Out of memory`")
+
+
+def uses(service: int) -> Iterator[Use]:
     """Each limit that there is."""
+    of_service = use_of_service(service)
+    if of_service is not None:
+        yield of_service
     limit = resource.getrlimit(resource.RLIMIT_AS)[0]
     if limit != resource.RLIM_INFINITY:
         with open("/proc/self/statm") as file:

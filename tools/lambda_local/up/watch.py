@@ -32,7 +32,7 @@ def what(event: Event) -> str:
 class Watch(threading.Thread):
     def __init__(self, service: Service, log: Log, stopping: threading.Event) -> None:
         super().__init__(name="watch", daemon=True)
-        self.log, self.stopping = log, stopping
+        self.service, self.log, self.stopping = service, log, stopping
         self.lines = Lines(log, ())
         self.life, self.follower, self.lock = Life(service.configuration), Follower(service.port), threading.RLock()
         self.most = service.configuration.get("maxEntries", 1_000_000)
@@ -71,6 +71,7 @@ class Watch(threading.Thread):
         """Takes what has come since the last time. If the service does not answer, the next time does."""
         with self.lock:
             begun = now()
+            self._look_at_memory()  # (first: a service without memory may not give its history)
             try:
                 entries = self.follower.read()
             except (OSError, http.client.HTTPException):
@@ -83,7 +84,6 @@ class Watch(threading.Thread):
                 reader(begun)
             self.lines.tell_throttled()
             self._look_at_room()
-            self._look_at_memory()
 
     def _take(self, entry: Entry) -> None:
         try:
@@ -131,7 +131,7 @@ class Watch(threading.Thread):
         if now < self.look_at:
             return
         self.look_at = now + 1
-        for use in memory.uses():
+        for use in memory.uses(self.service.process.pid):
             if use.used >= NEARLY_FULL * use.allowed:
                 self._warn(use.by, f"{use.used >> 20} MB of {use.allowed >> 20} MB are used of {use.by}: events and "
                                    "the history take memory; stop, or allow more", "warning")
