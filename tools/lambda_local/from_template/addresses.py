@@ -1,25 +1,28 @@
 """The Function URL and the HTTP routes of a function, as UP.json has them: of SAM's FunctionUrlConfig and Events, and
 of url and events of Serverless."""
+from typing import Iterator, List, Optional, Union
+
+from ..configuration import Members
 from ..front.routes import WrongRoute
-from .cors import cors_of, rest_cors_of
+from .cors import Tell, cors_of, rest_cors_of
 from .routes import IMPLICIT, IMPLICIT_REST, OF_SERVERLESS, REST_OF_SERVERLESS, Mapped, Of, key_of
 from .telling import shown
-from .values import NO_VALUE, members_of
+from .values import NO_VALUE, Scope, members_of
 
 READ = {"FunctionUrlConfig", "Events", "url", "events"}
 
 
-def url_with(cors):
+def url_with(cors: Optional[Members]) -> Union[bool, Members]:
     return {"cors": cors} if cors else True
 
 
 class Addresses:
     """`tell` reports what is left out of the function, or differs here."""
 
-    def __init__(self, properties, scope, tell):
+    def __init__(self, properties: Members, scope: Scope, tell: Tell) -> None:
         self.properties, self.scope, self.tell = properties, scope, tell
 
-    def value(self, name):
+    def value(self, name: str) -> object:
         if name not in self.properties:
             return None
         value, placeholders = self.scope.known_or_why(self.properties[name])
@@ -30,7 +33,7 @@ class Addresses:
 
     # --- its URL ---
 
-    def url(self):
+    def url(self) -> Union[None, bool, Members]:
         """The member `url`; none if it has none."""
         given = self.value("FunctionUrlConfig")
         if isinstance(given, dict):
@@ -40,7 +43,7 @@ class Addresses:
             return url_with(cors_of(given.get("cors"), "its URL", self.scope, self.tell))
         return given is True or None
 
-    def url_of(self, given):
+    def url_of(self, given: Members) -> Union[bool, Members]:
         """By the members that FunctionUrlConfig and AWS::Lambda::Url have in common."""
         if given.get("AuthType") == "AWS_IAM":
             self.tell("its URL takes requests without a signature here")
@@ -50,11 +53,11 @@ class Addresses:
 
     # --- its routes ---
 
-    def routes(self):
+    def routes(self) -> List[Mapped]:
         """Its routes, each with its API."""
         return [*self.of_sam(), *self.of_serverless()]
 
-    def of_sam(self):
+    def of_sam(self) -> Iterator[Mapped]:
         events = self.properties.get("Events")
         for name, event in events.items() if isinstance(events, dict) else ():
             kind = event.get("Type") if isinstance(event, dict) else None
@@ -70,12 +73,12 @@ class Addresses:
             yield from self.route(f"event {name}", given.get("Method"), given.get("Path"), of)
 
     @staticmethod
-    def api(named, otherwise):
+    def api(named: object, otherwise: str) -> str:
         """The logical id of the API that an event of SAM is of."""
         named = named.get("Ref") if isinstance(named, dict) else named
         return named if isinstance(named, str) else otherwise
 
-    def of_serverless(self):
+    def of_serverless(self) -> Iterator[Mapped]:
         events = self.properties.get("events")
         for event in events if isinstance(events, list) else ():
             (kind, given), = event.items() if isinstance(event, dict) and len(event) == 1 else [(event, None)]
@@ -92,12 +95,14 @@ class Addresses:
                 cors = rest_cors_of(given.get("cors"), f"its event {kind}", self.scope, self.tell)
             yield from self.route(f"events: {kind}", given.get("method"), given.get("path"), of, cors)
 
-    def route(self, where, method, path, of, cors=None):
+    def route(self, where: str, method: object, path: object, of: Of, cors: Optional[Members] = None) -> List[Mapped]:
         """Returns one route, or reports it if it is unknown."""
         both, placeholders = self.scope.known_or_why([method, path])
-        if placeholders:
-            return self.tell(f"leaves out its {where}: it needs {' and '.join(placeholders)}") or ()
-        try:
-            return (Mapped(key_of(*both), of, cors),)
-        except WrongRoute as fault:
-            return self.tell(f"leaves out its {where}: {fault}") or ()
+        why = f"it needs {' and '.join(placeholders)}"
+        if isinstance(both, list) and len(both) == 2 and not placeholders:
+            try:
+                return [Mapped(key_of(both[0], both[1]), of, cors)]
+            except WrongRoute as fault:
+                why = str(fault)
+        self.tell(f"leaves out its {where}: {why}")
+        return []

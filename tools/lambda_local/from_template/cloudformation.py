@@ -1,6 +1,8 @@
 """The functions of a SAM or CloudFormation template, also one that CDK or Serverless writes."""
 import re
+from typing import List, Optional, Tuple
 
+from ..configuration import Members
 from .telling import Grouped, shown, tell
 from .values import Scope, Unknown, members_of
 
@@ -12,7 +14,7 @@ TAKEN_LATER = re.compile(r"AWS::Lambda::Url|AWS::Serverless::(Http)?Api|"
 ASSET = "aws:asset:path"  # CDK says here, of what it has staged, in which folder it is
 
 
-def with_globals(properties, shared):
+def with_globals(properties: Members, shared: Members) -> Members:
     """A SAM function's properties, and those of Globals that it does not have itself; variables are merged."""
     own, common = (members_of(members_of(part, "Environment"), "Variables") for part in (properties, shared))
     whole = {**shared, **properties}
@@ -24,9 +26,9 @@ def with_globals(properties, shared):
     return whole
 
 
-def properties_of(key, resource, shared):
+def properties_of(key: str, resource: Members, shared: Members) -> Optional[Members]:
     """Returns a function's properties; None, with a report, if they cannot be read."""
-    properties = resource.get("Properties", {})
+    properties: object = resource.get("Properties", {})
     if not isinstance(properties, dict):
         tell(f"leaves out {key}: its Properties must be an object, not {shown(properties)}")
         return None
@@ -39,7 +41,7 @@ def properties_of(key, resource, shared):
     return properties
 
 
-def is_wanted(key, resource, scope):
+def is_wanted(key: str, resource: Members, scope: Scope) -> bool:
     """Whether its condition, if it has one, is met; reported if not."""
     condition = resource.get("Condition")
     if condition is None:
@@ -54,9 +56,10 @@ def is_wanted(key, resource, scope):
     return is_met
 
 
-def listed(template, stack):
+def listed(template: Members, stack: str) -> Tuple[List[Tuple[str, Members]], Scope]:
     """Each function's logical id and properties, and the scope of their expressions."""
-    scope, found, left = Scope(template, stack), [], Grouped("leaves out {names}, {line}")
+    scope, left = Scope(template, stack), Grouped("leaves out {names}, {line}")
+    found: List[Tuple[str, Members]] = []
     shared = members_of(members_of(template, "Globals"), "Function")
     for key, resource in template["Resources"].items():
         kind = resource.get("Type") if isinstance(resource, dict) else shown(resource)

@@ -19,7 +19,9 @@ import os
 import re
 import stat
 import sys
+from typing import List, Optional
 
+from ..configuration import Members
 from ..usage import parser_of
 from . import cloudformation, serverless
 from .functions import functions_of
@@ -31,7 +33,7 @@ from .telling import Fault, tell
 from .values import REGION
 
 
-def stack_of(path):
+def stack_of(path: str) -> str:
     """What a stack of this template would be called: by its file, or by its folder if the file is just called
     template."""
     stem = os.path.basename(path).split(".")[0]
@@ -40,7 +42,7 @@ def stack_of(path):
     return re.sub(r"[^A-Za-z0-9-]", "-", stem).strip("-") or "stack"
 
 
-def up_of(path):
+def up_of(path: str) -> Members:
     """UP.json's object; its folders are as seen from the template's."""
     whole, base = read(path), os.path.dirname(os.path.abspath(path))
     is_of_resources = isinstance(whole.get("Resources"), dict)
@@ -57,13 +59,14 @@ def up_of(path):
         add_urls(functions, scope)
         apis = {**apis_of(whole, scope), **add_routes(functions, scope)}
     else:
+        assert isinstance(scope, serverless.ServerlessScope)
         apis = serverless.apis_of(scope)
-    region = scope.pseudo["AWS::Region"]
+    region = str(scope.pseudo["AWS::Region"])
     is_other = region != REGION and re.fullmatch(r"[a-z0-9-]{1,32}", region)
     return {**({"region": region} if is_other else {}), **Apis(apis, scope).members(functions), "functions": functions}
 
 
-def place(functions, template, folder):
+def place(functions: List[Members], template: str, folder: Optional[str]) -> None:
     """Writes each function's folder, which a template has from its own, as it is seen from the folder of UP.json."""
     base = os.path.dirname(os.path.abspath(template))
     for made in functions:
@@ -78,7 +81,7 @@ def place(functions, template, folder):
             made["directory"] = code
 
 
-def folder_of_output():
+def folder_of_output() -> Optional[str]:
     """Returns the folder of the file that standard output is; None if it is not a file."""
     if not stat.S_ISREG(os.fstat(sys.stdout.fileno()).st_mode):
         return None
@@ -88,7 +91,7 @@ def folder_of_output():
         return None
 
 
-def write(text, output):
+def write(text: str, output: Optional[str]) -> None:
     if output:
         with open(output, "w") as file:
             file.write(text)
@@ -97,7 +100,7 @@ def write(text, output):
         sys.stdout.flush()
 
 
-def main():
+def main() -> int:
     parser = parser_of("from_template", __doc__)
     parser.add_argument("template", metavar="TEMPLATE")
     parser.add_argument("-o", metavar="UP.json", dest="output", help="write there (standard output)")

@@ -1,9 +1,13 @@
 """What a template says of cross-origin requests, as UP.json has it."""
+from typing import Callable, Optional
+
+from ..configuration import Members
 from ..front import settings
 from .telling import shown
-from .values import NO_VALUE, Unknown
+from .values import NO_VALUE, Scope, Unknown
 
-ANY_SITE = {"allowOrigins": ["*"], "allowHeaders": ["*"], "allowMethods": ["*"]}
+Tell = Callable[[str], None]  # takes a line on what is left out
+ANY_SITE: Members = {"allowOrigins": ["*"], "allowHeaders": ["*"], "allowMethods": ["*"]}
 OTHER_NAMES = {"allowedOrigins": "allowOrigins", "allowedHeaders": "allowHeaders", "allowedMethods": "allowMethods",
                "exposedResponseHeaders": "exposeHeaders"}
 # Of a REST API: the names that SAM and Serverless have, and those of the headers of a method OPTIONS
@@ -17,20 +21,21 @@ SERVERLESS_HEADERS = ["Content-Type", "X-Amz-Date", "Authorization", "X-Api-Key"
                       "X-Amz-User-Agent", "X-Amzn-Trace-Id"]
 
 
-def known(given, where, scope, tell):
+def known(given: object, where: str, scope: Scope, tell: Tell) -> object:
     """The value of a Cors; None, with a report, if it is not known here."""
     try:
         given, placeholders = scope.known(given)
     except Unknown as reason:
-        return tell(f"leaves out the Cors of {where}: it needs {reason}")
+        tell(f"leaves out the Cors of {where}: it needs {reason}")
+        return None
     if placeholders:
         tell(f"the Cors of {where} has a placeholder for {' and '.join(placeholders)}: write its value into UP.json")
     return None if given is NO_VALUE else given
 
 
-def taken(given, names, where, tell):
+def taken(given: Members, names: Callable[[str], str], where: str, tell: Tell) -> Optional[Members]:
     """The members that UP.json takes."""
-    found = {}
+    found: Members = {}
     for name, value in given.items():
         member = names(str(name))
         if member in settings.OF_CORS and settings.OF_CORS[member].accepts(value):
@@ -40,7 +45,7 @@ def taken(given, names, where, tell):
     return found or None
 
 
-def cors_of(given, where, scope, tell):
+def cors_of(given: object, where: str, scope: Scope, tell: Tell) -> Optional[Members]:
     """Returns the member `cors` of the Cors of a Function URL or an HTTP API in one of its forms; None if it allows no
     site. Reports what it leaves out."""
     given = known(given, where, scope, tell)
@@ -53,7 +58,7 @@ def cors_of(given, where, scope, tell):
     return taken(given, lambda name: OTHER_NAMES.get(name, name[:1].lower() + name[1:]), where, tell)
 
 
-def rest_cors_of(given, where, scope, tell):
+def rest_cors_of(given: object, where: str, scope: Scope, tell: Tell) -> Optional[Members]:
     """The same of a REST API, whose values are texts in quotes: they are the headers of a method OPTIONS."""
     given = known(given, where, scope, tell)
     if given is True:
@@ -67,7 +72,7 @@ def rest_cors_of(given, where, scope, tell):
     return {"allowMethods": ["*"], **found} if found else None
 
 
-def plain(member, value):
+def plain(member: Optional[str], value: object) -> object:
     """A value without its quotes, of the type that UP.json has for it."""
     text = value.strip().strip("'") if isinstance(value, str) else value
     if member in ("allowOrigins", "allowHeaders", "allowMethods", "exposeHeaders") and isinstance(text, str):

@@ -4,10 +4,12 @@ import importlib.util
 import os
 import re
 import shutil
+from typing import Dict, List, Optional, Sequence, Tuple
 
+from ..configuration import Members
 from . import addresses
 from .telling import shown, tell
-from .values import NO_VALUE, Unknown, is_scalar, text_of
+from .values import NO_VALUE, Scope, Unknown, is_scalar, text_of
 
 READ = {"FunctionName", "Handler", "Timeout", "ReservedConcurrentExecutions", "Environment", "Runtime", "CodeUri",
         "Code", "InlineCode", "MemorySize", "PackageType", "ImageUri", "ImageConfig", *addresses.READ}
@@ -18,12 +20,12 @@ VARIABLE = re.compile(r"\w+")
 HANDLER = re.compile(r"[ -~]{1,128}")
 
 
-def cleaned(key):
+def cleaned(key: object) -> str:
     """A function's name by its logical id."""
     return re.sub(r"[^A-Za-z0-9_-]", "", str(key))[:64] or "function"
 
 
-def name_of(key, properties, scope):
+def name_of(key: str, properties: Members, scope: Scope) -> str:
     """The function's own name if it is known here, else its logical id."""
     if "FunctionName" not in properties:
         return cleaned(key)
@@ -40,9 +42,9 @@ def name_of(key, properties, scope):
     return cleaned(key)
 
 
-def names_of(listed, scope):
+def names_of(listed: Sequence[Tuple[str, Members]], scope: Scope) -> Dict[str, str]:
     """The name of each function, which no other has. `listed` has pairs of a logical id and properties."""
-    names = {}
+    names: Dict[str, str] = {}
     for key, properties in listed:
         wanted, own = name_of(key, properties, scope), cleaned(key)
         others = (own, *(f"{own[:60]}-{number}" for number in range(2, MOST_FUNCTIONS + 2)))
@@ -57,14 +59,14 @@ class Maker:
 
     is_elsewhere = False  # its code is not among the files here
 
-    def __init__(self, name, properties, scope, base):
+    def __init__(self, name: str, properties: Members, scope: Scope, base: str) -> None:
         self.name, self.properties, self.scope, self.base = name, properties, scope, base
-        self.made = {"name": name}
+        self.made: Members = {"name": name}
 
-    def tell(self, line):
+    def tell(self, line: str) -> None:
         tell(f"{self.name}: {line}")
 
-    def known(self, name):
+    def known(self, name: str) -> object:
         """Returns a property's value; None if it is absent, or unknown, which is reported. A placeholder is unknown."""
         if name not in self.properties:
             return None
@@ -74,7 +76,7 @@ class Maker:
             return None
         return None if value is NO_VALUE else value
 
-    def whole(self, name, least, most):
+    def whole(self, name: str, least: int, most: int) -> Optional[int]:
         value = self.known(name)
         if value is None:
             return None
@@ -84,11 +86,11 @@ class Maker:
             return None
         return int(float(text))
 
-    def put(self, member, value):
+    def put(self, member: str, value: object) -> None:
         if value is not None:
             self.made[member] = value
 
-    def make(self):
+    def make(self) -> Members:
         handler = self.known("Handler")
         if handler is not None and not (isinstance(handler, str) and HANDLER.fullmatch(handler)):
             self.tell(f"leaves out Handler: it must be a string of 1 to 128 printable characters, not {shown(handler)}")
@@ -107,7 +109,7 @@ class Maker:
             self.tell(f"leaves out {', '.join(left)}")
         return self.made
 
-    def reserve(self, reserved):
+    def reserve(self, reserved: Optional[int]) -> None:
         self.put("reserved", reserved)
         self.made["environments"] = max(1, reserved or 0)
         if self.made["environments"] > MOST_ENVIRONMENTS:
@@ -115,14 +117,15 @@ class Maker:
                       f"{reserved} (write more \"environments\" if your tests need them)")
             self.made["environments"] = self.made["reserved"] = MOST_ENVIRONMENTS
 
-    def variables(self):
+    def variables(self) -> None:
         environment = self.properties.get("Environment")
         variables = environment.get("Variables") if isinstance(environment, dict) else environment
         if variables is None:
             return
         if not isinstance(variables, dict):
-            return self.tell(f"leaves out its variables: they must be an object, not {shown(variables)}")
-        found = {}
+            self.tell(f"leaves out its variables: they must be an object, not {shown(variables)}")
+            return
+        found: Dict[str, str] = {}
         for name, expression in variables.items():
             if not VARIABLE.fullmatch(str(name)):
                 self.tell(f"leaves out the variable {shown(name)}: its name must have letters, digits and _ alone")
@@ -144,20 +147,22 @@ class Maker:
 
     # --- its code, and what runs it ---
 
-    def is_image(self):
+    def is_image(self) -> bool:
         code = self.properties.get("Code")
         return (self.properties.get("PackageType") == "Image" or "ImageUri" in self.properties
                 or isinstance(code, dict) and "ImageUri" in code)
 
-    def is_inline(self):
+    def is_inline(self) -> bool:
         code = self.properties.get("Code")
         return "InlineCode" in self.properties or isinstance(code, dict) and "ZipFile" in code
 
-    def code(self):
+    def code(self) -> None:
         """Its folder, as seen from the template's."""
         if self.is_image() or self.is_inline():
             return
         name = next((name for name in ("CodeUri", "Code") if name in self.properties), None)
+        if name is None:
+            return
         given = self.properties.get(name)
         is_far = isinstance(given, dict) and not {"S3Bucket", "S3Key", "Bucket", "Key"}.isdisjoint(given)
         code = given if is_far else self.known(name)
@@ -165,26 +170,30 @@ class Maker:
             return
         if not isinstance(code, str) or "://" in code or "\0" in code:
             self.is_elsewhere = True
-            return self.tell(f"leaves out {name}, which is not a folder here")
+            self.tell(f"leaves out {name}, which is not a folder here")
+            return
         at = os.path.join(self.base, code)
         if os.path.isfile(at):
             self.tell(f"{name} is the file {code}: unpack it, and write its folder as \"directory\"")
             code = os.path.dirname(code) or "."
         self.made["directory"] = code
 
-    def command(self):
+    def command(self) -> None:
         """What starts its runtime; none if that cannot be known, and then the user starts it."""
         if self.is_image():
-            return self.tell("has no command, since its code is an image: write one, such as docker run "
-                             "(docs/your_function.md has it)")
+            self.tell("has no command, since its code is an image: write one, such as docker run "
+                      "(docs/your_function.md has it)")
+            return
         if self.is_inline():
-            return self.tell("has no command, since its code is in the template: write it into a file of its "
-                             "folder, and give it a \"command\" or a \"runtime\"")
+            self.tell("has no command, since its code is in the template: write it into a file of its "
+                      "folder, and give it a \"command\" or a \"runtime\"")
+            return
         if self.is_elsewhere:
-            return self.tell("has no command, since its code is not here: write its folder as \"directory\", and a "
-                             "\"command\" or a \"runtime\"")
-        runtime, handler = self.known("Runtime"), self.made.get("handler", "index.handler")
-        runtime = runtime if isinstance(runtime, str) else ""
+            self.tell("has no command, since its code is not here: write its folder as \"directory\", and a "
+                      "\"command\" or a \"runtime\"")
+            return
+        known, handler = self.known("Runtime"), self.made.get("handler", "index.handler")
+        runtime = known if isinstance(known, str) else ""
         if runtime.startswith("python"):
             if importlib.util.find_spec("awslambdaric"):
                 self.made["command"] = ["python3", "-m", "awslambdaric", handler]
@@ -205,7 +214,7 @@ class Maker:
             self.tell(f"has no command, since none is known for the runtime {runtime or '(none)'}: write one, or start "
                       f"it yourself")
 
-    def has_client(self, name):
+    def has_client(self, name: str) -> bool:
         """Whether a package of npm is on the path, or installed for the function or above it."""
         at = os.path.abspath(os.path.join(self.base, self.made.get("directory", "")))
         folders = [at]
@@ -215,7 +224,7 @@ class Maker:
         return bool(shutil.which(name)) or any(map(os.path.exists, installed))
 
 
-def functions_of(listed, scope, base):
+def functions_of(listed: List[Tuple[str, Members]], scope: Scope, base: str) -> List[Members]:
     """The functions of UP.json, as many as a service may have. `base` is the template's folder."""
     for key, _ in listed[MOST_FUNCTIONS:]:
         tell(f"leaves out the function {key}: {MOST_FUNCTIONS} are the most")

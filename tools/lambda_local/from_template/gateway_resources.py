@@ -2,12 +2,14 @@
 (AWS::ApiGateway) and the routes of an HTTP API (AWS::ApiGatewayV2)."""
 import functools
 import re
+from typing import Callable, Dict, List, Optional
 
+from ..configuration import Members
 from ..front.routes import DEFAULT, WrongRoute
 from .resources import function_of, resources_of
 from .routes import Mapped, Of, checked, key_of
 from .telling import shown, tell
-from .values import Unknown, members_of
+from .values import Scope, Unknown, members_of
 
 REST, HTTP = "AWS::ApiGateway::", "AWS::ApiGatewayV2::"
 INVOKED = re.compile(r"functions/(.+)/invocations")  # the function in the URI of an integration
@@ -15,7 +17,7 @@ HEADER = "method.response.header.Access-Control-"
 MOST_PARTS = 100  # of a path, beyond which its resources go round in a circle
 
 
-def named(value):
+def named(value: object) -> Optional[str]:
     """The logical id that a reference to a resource or to an attribute of it names; None if it is neither."""
     if not isinstance(value, dict) or len(value) != 1:
         return None
@@ -26,13 +28,13 @@ def named(value):
     return argument if function in ("Ref", "Fn::GetAtt") and isinstance(argument, str) else None
 
 
-def text_of(properties, name, scope):
+def text_of(properties: Members, name: str, scope: Scope) -> Optional[str]:
     """A property's text; None if it is none, or not known."""
     value, placeholders = scope.known_or_why(properties.get(name))
     return value if isinstance(value, str) and not placeholders else None
 
 
-def invoked(uri, functions, scope):
+def invoked(uri: object, functions: List[Members], scope: Scope) -> Optional[Members]:
     """The function that an integration's URI invokes, which for an HTTP API may be its ARN alone; None if none is."""
     try:
         text = scope.known(uri).value
@@ -42,7 +44,7 @@ def invoked(uri, functions, scope):
     return function_of(found[1] if found else text, functions, scope)
 
 
-def put(made, where, of, key):
+def put(made: Members, where: str, of: Of, key: Callable[[], str]) -> None:
     """Gives a function the route whose key this makes."""
     try:
         made["routes"] = [*made.get("routes", ()), Mapped(key(), of)]
@@ -53,16 +55,16 @@ def put(made, where, of, key):
 class RestApis:
     """The methods of REST APIs, and the properties of those in SAM's names."""
 
-    def __init__(self, scope):
+    def __init__(self, scope: Scope) -> None:
         self.scope = scope
         self.apis = dict(resources_of(REST + "RestApi", scope))
         self.parts = dict(resources_of(REST + "Resource", scope))
-        self.cors = {}
+        self.cors: Dict[str, Members] = {}
 
-    def path(self, resource):
+    def path(self, resource: object) -> Optional[str]:
         """The path of a resource; None if it is not known."""
-        found = []
-        while (key := named(resource)) in self.parts and len(found) < MOST_PARTS:
+        found: List[str] = []
+        while (key := named(resource)) is not None and key in self.parts and len(found) < MOST_PARTS:
             part = text_of(self.parts[key], "PathPart", self.scope)
             if part is None:
                 return None
@@ -71,7 +73,7 @@ class RestApis:
         is_root = key in self.apis and len(found) < MOST_PARTS
         return "/" + "/".join(reversed(found)) if is_root else None
 
-    def add_routes(self, functions):
+    def add_routes(self, functions: List[Members]) -> None:
         for key, properties in resources_of(REST + "Method", self.scope):
             api, path = named(properties.get("RestApiId")), self.path(properties.get("ResourceId"))
             method = text_of(properties, "HttpMethod", self.scope)
@@ -81,7 +83,7 @@ class RestApis:
                 self.preflight(api, integration)
                 continue
             made = invoked(integration.get("Uri"), functions, self.scope) if kind in ("AWS_PROXY", "AWS") else None
-            if made is None or api not in self.apis or path is None or method is None:
+            if made is None or api is None or api not in self.apis or path is None or method is None:
                 tell(f"leaves out {key}, {REST}Method: {self.why_not(kind, made, api, path)}")
                 continue
             if kind == "AWS":
@@ -89,12 +91,12 @@ class RestApis:
             put(made, f"method {key}", Of(api, True), functools.partial(key_of, method, path))
 
     @staticmethod
-    def why_not(kind, made, api, path):
+    def why_not(kind: object, made: Optional[Members], api: Optional[str], path: Optional[str]) -> str:
         if kind not in ("AWS_PROXY", "AWS"):
             return f"its integration is {shown(kind)}, and no function"
         return "its function is not here" if made is None else "its API, path or method is not known here"
 
-    def preflight(self, api, integration):
+    def preflight(self, api: Optional[str], integration: Members) -> None:
         """A method OPTIONS of a mock says in its headers what other sites may do."""
         responses = integration.get("IntegrationResponses")
         for response in responses if isinstance(responses, list) else ():
@@ -106,14 +108,14 @@ class RestApis:
             if found and api is not None:
                 self.cors.setdefault(api, found)
 
-    def properties(self):
-        found = {}
+    def properties(self) -> Dict[str, Members]:
+        found: Dict[str, Members] = {}
         for key, given in self.apis.items():
             found[key] = {"BinaryMediaTypes": given["BinaryMediaTypes"]} if "BinaryMediaTypes" in given else {}
             if key in self.cors:
                 found[key]["Cors"] = self.cors[key]
         for _, given in resources_of(REST + "Stage", self.scope):
-            api = found.get(named(given.get("RestApiId")))
+            api = found.get(named(given.get("RestApiId")) or "")
             if api is not None:
                 api.update({name: given[name] for name in ("StageName", "Variables") if name in given})
         return found
@@ -122,12 +124,12 @@ class RestApis:
 class HttpApis:
     """The routes of HTTP APIs, and the properties of those."""
 
-    def __init__(self, scope):
+    def __init__(self, scope: Scope) -> None:
         self.scope = scope
         self.apis = dict(resources_of(HTTP + "Api", scope))
         self.integrations = dict(resources_of(HTTP + "Integration", scope))
 
-    def integration_of(self, target):
+    def integration_of(self, target: object) -> Optional[Members]:
         """The integration that a route's target names, `integrations/ID`; None if it is not here."""
         try:
             text = self.scope.known(target).value
@@ -135,12 +137,12 @@ class HttpApis:
             return None
         return self.integrations.get(text.rpartition("/")[2]) if isinstance(text, str) else None
 
-    def add_routes(self, functions):
+    def add_routes(self, functions: List[Members]) -> None:
         for key, properties in resources_of(HTTP + "Route", self.scope):
             api, route = named(properties.get("ApiId")), text_of(properties, "RouteKey", self.scope)
             integration = self.integration_of(properties.get("Target")) or {}
             made = invoked(integration.get("IntegrationUri"), functions, self.scope)
-            if self.is_web_socket(api) or api not in self.apis or route is None or made is None:
+            if self.is_web_socket(api) or api is None or api not in self.apis or route is None or made is None:
                 tell(f"leaves out {key}, {HTTP}Route: " + (
                     "it is of a WebSocket API" if self.is_web_socket(api) else
                     "its function is not here" if made is None else "its API or key is not known here"))
@@ -153,18 +155,17 @@ class HttpApis:
                 route = text_of(properties, "RouteKey", self.scope) or DEFAULT
                 put(made, f"route {key}", Of(key), functools.partial(checked, route))
 
-    def is_web_socket(self, api):
-        return text_of(self.apis.get(api, {}), "ProtocolType", self.scope) == "WEBSOCKET"
+    def is_web_socket(self, api: Optional[str]) -> bool:
+        return text_of(self.apis.get(api or "", {}), "ProtocolType", self.scope) == "WEBSOCKET"
 
-    def properties(self):
+    def properties(self) -> Dict[str, Members]:
         return {key: {"CorsConfiguration": given["CorsConfiguration"]} if "CorsConfiguration" in given else {}
                 for key, given in self.apis.items() if not self.is_web_socket(key)}
 
 
-def add_routes(functions, scope):
+def add_routes(functions: List[Members], scope: Scope) -> Dict[str, Members]:
     """Gives functions the routes that are resources. Returns the properties of their APIs by logical id."""
-    found = {}
-    for apis in (RestApis(scope), HttpApis(scope)):
-        apis.add_routes(functions)
-        found.update(apis.properties())
-    return found
+    rest, http = RestApis(scope), HttpApis(scope)
+    rest.add_routes(functions)
+    http.add_routes(functions)
+    return {**rest.properties(), **http.properties()}

@@ -1,6 +1,8 @@
 """A template as dictionaries and lists, from JSON or YAML with CloudFormation's tags."""
 import sys
+from typing import Any, Callable, Dict
 
+from ..configuration import Members
 from ..json_reader import NotJson, is_deeper, read_json
 from .telling import Fault, tell
 
@@ -11,12 +13,12 @@ MOST_MERGED = 100_000  # members that merge keys bring: `<<: [*a, *a]` doubles t
 WITHOUT_PREFIX = ("Ref", "Condition")  # of the short forms, such as !Ref; the others are Fn::
 
 
-def yaml_loader(yaml):
+def yaml_loader(yaml: Any) -> Any:
     """A loader of plain YAML that writes each short form out: `!Sub x` is {"Fn::Sub": "x"}."""
-    class Loader(yaml.SafeLoader):
+    class Loader(yaml.SafeLoader):  # type: ignore[misc]  # (yaml has no types)
         pass
 
-    def written_out(loader, tag, node):
+    def written_out(loader: Any, tag: str, node: Any) -> Members:
         name = tag if tag in WITHOUT_PREFIX else f"Fn::{tag}"
         if isinstance(node, yaml.ScalarNode):
             value = loader.construct_scalar(node)
@@ -29,11 +31,11 @@ def yaml_loader(yaml):
     return Loader
 
 
-def counting_merges(flatten, yaml):
+def counting_merges(flatten: Callable[[Any, Any], object], yaml: Any) -> Callable[[Any, Any], None]:
     """Returns what merges the keys `<<` of a mapping node into it, and refuses more members than a template has."""
-    counts = {}  # by loader, of which there is one for each template
+    counts: Dict[Any, int] = {}  # by loader, of which there is one for each template
 
-    def count(loader, node, level):
+    def count(loader: Any, node: Any, level: int) -> None:
         """Merges what is below a node first, so that its length is known, and adds that."""
         for one in node.value if isinstance(node, yaml.SequenceNode) else [node]:
             if isinstance(one, yaml.MappingNode):  # (of another, yaml says that it is none)
@@ -42,7 +44,7 @@ def counting_merges(flatten, yaml):
                 if counts[loader] > MOST_MERGED:
                     raise Fault(f"its merge keys (<<) bring more than {MOST_MERGED:,} members")
 
-    def merge(loader, node, level=0):
+    def merge(loader: Any, node: Any, level: int = 0) -> None:
         if level > DEEPEST:
             raise Fault("its merge keys (<<) are nested too deep")
         given = [value for key, value in node.value if key.tag == MERGE]
@@ -51,13 +53,13 @@ def counting_merges(flatten, yaml):
         if given:
             flatten(loader, node)
 
-    def merged(loader, node):
+    def merged(loader: Any, node: Any) -> None:
         merge(loader, node)
         flatten(loader, node)
     return merged
 
 
-def parsed(path, text):
+def parsed(path: str, text: str) -> object:
     try:
         return read_json(text, DEEPEST)
     except NotJson:
@@ -68,7 +70,7 @@ def parsed(path, text):
         tell(f"{path} is not JSON, and the YAML reader is not installed: pip install pyyaml")
         sys.exit(4)
     try:
-        whole = yaml.load(text, yaml_loader(yaml))
+        whole: object = yaml.load(text, yaml_loader(yaml))
         if is_deeper(whole, DEEPEST):
             raise Fault("it is nested too deep")
         return whole
@@ -84,7 +86,7 @@ def parsed(path, text):
         raise Fault(f"{path}: it is neither YAML nor JSON: {' '.join(str(fault).split())}") from None
 
 
-def read(path):
+def read(path: str) -> Members:
     """The template, which is an object."""
     try:
         with open(path, encoding="utf-8") as file:

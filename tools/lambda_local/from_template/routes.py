@@ -1,12 +1,13 @@
 """Routes that a template has, the APIs that they are of, and what UP.json says of both."""
 import re
-from typing import Any, Dict, NamedTuple, Optional
+from typing import Any, Dict, List, NamedTuple, Optional, Sequence, Tuple
 
+from ..configuration import Members
 from ..front import settings
 from ..front.routes import DEFAULT, Route, WrongRoute
 from .cors import cors_of, rest_cors_of
 from .telling import shown, tell
-from .values import NO_VALUE, is_scalar, text_of
+from .values import NO_VALUE, Scope, is_scalar, text_of
 
 # The APIs of events that name none
 IMPLICIT, IMPLICIT_REST = "ServerlessHttpApi", "ServerlessRestApi"
@@ -23,7 +24,7 @@ class Of(NamedTuple):
     payload: str = "2.0"
 
     @property
-    def name(self):
+    def name(self) -> str:
         return f"the {'REST' if self.is_rest else 'HTTP'} API {self.key}"
 
 
@@ -34,7 +35,7 @@ class Mapped(NamedTuple):
     cors: Optional[Dict[str, Any]] = None
 
 
-def key_of(method, path):
+def key_of(method: object, path: object) -> str:
     """The key of a route; WrongRoute if it is none. One without a method and a path takes everything else."""
     key = DEFAULT
     if method is not None or path is not None:
@@ -43,7 +44,7 @@ def key_of(method, path):
     return checked(key)
 
 
-def checked(key):
+def checked(key: str) -> str:
     """The key of a route that is written as UP.json has it; WrongRoute if it is none."""
     try:
         Route(key)
@@ -52,10 +53,11 @@ def checked(key):
     return key
 
 
-def taken_from(functions):
+def taken_from(functions: List[Members]) -> Dict[str, Tuple[str, Mapped]]:
     """Takes the routes out of the functions: each by its key, with its function's name. Of two that take the same
     requests the first counts."""
-    found, shapes = {}, {}
+    found: Dict[str, Tuple[str, Mapped]] = {}
+    shapes: Dict[object, str] = {}
     for made in functions:
         for mapped in made.pop("routes", ()):
             shape = Route(mapped.key).shape
@@ -71,10 +73,10 @@ class Apis:
     """What UP.json has of the APIs of a template. `properties` are those of each by its logical id, in the names that
     SAM has for them."""
 
-    def __init__(self, properties, scope):
+    def __init__(self, properties: Dict[str, Members], scope: Scope) -> None:
         self.properties, self.scope = properties, scope
 
-    def members(self, functions):
+    def members(self, functions: List[Members]) -> Members:
         """The members `routes` and `api` of UP.json, without those that are empty; takes routes out of the
         functions."""
         found = taken_from(functions)
@@ -84,49 +86,52 @@ class Apis:
             tell(f"leaves out {key}: none of the routes is of this API")
         alike = len({repr(each) for each in integrations.values()}) == 1
         api = {**(integrations[used[0]] if alike else {}), **self.cors(found, used)}
-        routes = {}
+        routes: Members = {}
         for key, (name, mapped) in found.items():
             own = {} if alike else integrations[mapped.of]
             routes[key] = {"function": name, **own} if own else name
         return {**({"routes": routes} if routes else {}), **({"api": api} if api else {})}
 
-    def value(self, of, name):
+    def value(self, of: Of, name: str) -> object:
         """A property's value; None if it is absent, or unknown, which is reported."""
         given = self.properties.get(of.key, {}).get(name)
         if given is None:
             return None
         value, placeholders = self.scope.known_or_why(given)
         if placeholders:
-            return tell(f"leaves out {name} of {of.name}: it needs {' and '.join(placeholders)}")
+            tell(f"leaves out {name} of {of.name}: it needs {' and '.join(placeholders)}")
+            return None
         return None if value is NO_VALUE else value
 
-    def integration(self, of):
+    def integration(self, of: Of) -> Members:
         """The members that say how requests become events."""
         read = READ_OF_REST if of.is_rest else READ_OF_HTTP
         if left := sorted(str(name) for name in set(self.properties.get(of.key, {})) - read):
             tell(f"leaves out {', '.join(left)} of {of.name}")
         if not of.is_rest:
             return {"payload": "1.0", "type": "HTTP"} if of.payload == "1.0" else {}
-        found = {"payload": "1.0", "stage": self.value(of, "StageName"),
+        found: Members = {"payload": "1.0", "stage": self.value(of, "StageName"),
                  "stageVariables": self.variables(of), "binaryMediaTypes": self.binary(of)}
         if found["stage"] is not None and not settings.OF_INTEGRATION["stage"].accepts(found["stage"]):
             tell(f"leaves out StageName of {of.name}: {shown(found['stage'])}")
             found["stage"] = None
         return {name: value for name, value in found.items() if value}
 
-    def variables(self, of):
+    def variables(self, of: Of) -> Optional[Dict[str, str]]:
         given = self.value(of, "Variables") or {}
         if not isinstance(given, dict):
-            return tell(f"leaves out Variables of {of.name}: they must be an object, not {shown(given)}")
+            tell(f"leaves out Variables of {of.name}: they must be an object, not {shown(given)}")
+            return None
         return {str(name): text_of(value) for name, value in given.items() if is_scalar(value)}
 
-    def binary(self, of):
+    def binary(self, of: Of) -> Optional[List[str]]:
         given = self.value(of, "BinaryMediaTypes") or []
-        if not settings.TEXTS.accepts(given):
-            return tell(f"leaves out BinaryMediaTypes of {of.name}: they must be a list of strings, not {shown(given)}")
+        if not isinstance(given, list) or not settings.TEXTS.accepts(given):
+            tell(f"leaves out BinaryMediaTypes of {of.name}: they must be a list of strings, not {shown(given)}")
+            return None
         return [re.sub("~1", "/", kind) for kind in given]  # (which is how SAM writes it)
 
-    def cors(self, found, used):
+    def cors(self, found: Dict[str, Tuple[str, Mapped]], used: Sequence[Of]) -> Members:
         """The member `cors`: all routes have one port here."""
         if not used:
             return {}
@@ -140,7 +145,7 @@ class Apis:
                  f"{', '.join(list(given)[1:])}")
         return {"cors": given[first]} if given[first] else {}
 
-    def cors_of_api(self, of):
+    def cors_of_api(self, of: Of) -> Optional[Members]:
         properties = self.properties.get(of.key, {})
         if of.is_rest:
             return rest_cors_of(properties.get("Cors"), of.name, self.scope, tell)

@@ -1,7 +1,9 @@
 """The functions of a serverless.yml, with what its variables come to."""
 import os
 import re
+from typing import Dict, List, Tuple
 
+from ..configuration import Members
 from .routes import OF_SERVERLESS, REST_OF_SERVERLESS
 from .telling import shown, tell
 from .values import ACCOUNT, REGION, Scope, Unknown, is_scalar, members_of, text_of
@@ -18,7 +20,7 @@ LITERALS = {"true": True, "false": False, "null": None}
 MOST_STEPS = 200  # until variables that name one another count as a circle
 
 
-def logical_id(key):
+def logical_id(key: str) -> str:
     """What Serverless calls a function in its CloudFormation."""
     return (key[:1].upper() + key[1:]).replace("-", "Dash").replace("_", "Underscore") + "LambdaFunction"
 
@@ -27,8 +29,8 @@ class ServerlessScope(Scope):
     """Also knows `${self:..}`, `${opt:..}`, `${sls:..}`, `${env:..}`, `${param:..}` and `${aws:..}`, with their
     defaults."""
 
-    def __init__(self, whole, stack):
-        self.provider = {"stage": "dev", "region": REGION, **members_of(whole, "provider")}
+    def __init__(self, whole: Members, stack: str) -> None:
+        self.provider: Members = {"stage": "dev", "region": REGION, **members_of(whole, "provider")}
         self.whole = {"service": "service", **whole, "provider": self.provider}
         super().__init__(members_of(whole, "resources"), stack)
         self.stage, self.region = "dev", REGION  # (as options, until they are known)
@@ -36,11 +38,11 @@ class ServerlessScope(Scope):
         self.region = self.pseudo["AWS::Region"] = self.setting("region", self.region)
 
     @property
-    def payload(self):
+    def payload(self) -> str:
         """The format of the events of its HTTP API."""
         return "1.0" if str(members_of(self.provider, "httpApi").get("payload")) == "1.0" else "2.0"
 
-    def setting(self, name, otherwise):
+    def setting(self, name: str, otherwise: str) -> str:
         """A text of `provider`."""
         try:
             value, placeholders = self.known(self.provider[name])
@@ -48,7 +50,7 @@ class ServerlessScope(Scope):
             return otherwise
         return text_of(value) if is_scalar(value) and not placeholders else otherwise
 
-    def text(self, text):
+    def text(self, text: str) -> object:
         """Returns a text with its variables replaced, the innermost first; for a single variable, returns its value."""
         for _ in range(MOST_STEPS):
             found = INNERMOST.search(text)
@@ -60,7 +62,7 @@ class ServerlessScope(Scope):
             text = text[:found.start()] + ("" if value is None else text_of(value)) + text[found.end():]
         raise Unknown("its variables go round in a circle")
 
-    def variable(self, inside):
+    def variable(self, inside: str) -> object:
         """The first of its sources that has a value; else a placeholder."""
         if inside.startswith("AWS::"):
             return self.ref(inside)
@@ -75,17 +77,17 @@ class ServerlessScope(Scope):
         first = inside.split(",")[0].strip()
         return options.get(first) or self.placeholder(first.partition(":")[2] or first, "${" + inside + "}")
 
-    def ref(self, name):
+    def ref(self, name: object) -> object:
         """A function goes by another name in the CloudFormation that Serverless writes."""
         own = next((function for key, function in self.functions.items() if logical_id(key) == name), None)
         return own or super().ref(name)
 
-    def get_att(self, argument):
+    def get_att(self, argument: object) -> object:
         key = next((key for key in self.functions if argument in (f"{logical_id(key)}.Arn", [logical_id(key), "Arn"])),
                    None)
         return super().get_att([key, "Arn"] if key else argument)
 
-    def source(self, source):
+    def source(self, source: str) -> object:
         """The value of one source, such as `self:provider.stage`; LookupError if it has none."""
         kind, colon, address = source.partition(":")
         if not colon:
@@ -105,7 +107,7 @@ class ServerlessScope(Scope):
                  "sls:instanceId": "local"}
         return known[source.replace(" ", "")]
 
-    def walk(self, part, address):
+    def walk(self, part: object, address: str) -> object:
         for name in filter(None, address.split(".")):
             if isinstance(part, str):
                 part = self.value(part)
@@ -118,7 +120,7 @@ class ServerlessScope(Scope):
         return part
 
 
-def object_of(part, name, where, scope):
+def object_of(part: Members, name: str, where: str, scope: Scope) -> Members:
     """An object that a part of the file has, also by a variable; an empty one, and a message, if it is none."""
     value = part.get(name)
     if isinstance(value, str):
@@ -131,7 +133,7 @@ def object_of(part, name, where, scope):
     return value if isinstance(value, dict) else {}
 
 
-def apis_of(scope):
+def apis_of(scope: ServerlessScope) -> Dict[str, Members]:
     """What `provider` says of its APIs, by the names of SAM."""
     http = object_of(scope.provider, "httpApi", "provider", scope)
     rest = object_of(scope.provider, "apiGateway", "provider", scope)
@@ -141,9 +143,9 @@ def apis_of(scope):
                 "BinaryMediaTypes" if name == "binaryMediaTypes" else name: value for name, value in rest.items()}}}
 
 
-def properties_of(key, member, scope):
+def properties_of(key: str, member: Members, scope: ServerlessScope) -> Members:
     """A function's properties by the names of CloudFormation."""
-    properties = {**DEFAULTS, **{PROPERTIES[name]: scope.provider[name] for name in SHARED if name in scope.provider}}
+    properties: Members = {**DEFAULTS, **{PROPERTIES[name]: scope.provider[name] for name in SHARED if name in scope.provider}}
     service = scope.whole["service"]
     service = service.get("name", "service") if isinstance(service, dict) else service
     properties["FunctionName"] = {"Fn::Join": ["-", [service, scope.stage, key]]}
@@ -152,9 +154,10 @@ def properties_of(key, member, scope):
     return {**properties, "Environment": {"Variables": variables}}
 
 
-def listed(whole, stack):
+def listed(whole: Members, stack: str) -> Tuple[List[Tuple[str, Members]], ServerlessScope]:
     """Each function's logical id and properties, and the scope of their expressions."""
-    scope, found = ServerlessScope(whole, stack), []
+    scope = ServerlessScope(whole, stack)
+    found: List[Tuple[str, Members]] = []
     functions = whole["functions"]
     for part in functions if isinstance(functions, list) else [functions]:
         if not isinstance(part, dict):

@@ -1,4 +1,6 @@
 """What the tool says on standard error."""
+from typing import Dict, List
+
 from .. import outgoing
 from ..usage import called
 
@@ -7,29 +9,30 @@ class Fault(Exception):
     """A message that says what to do; the status is 2."""
 
 
-def tell(line):
+def tell(line: object) -> None:
     outgoing.tell(f"from_template: {called(str(line))}")
 
 
 class Grouped:
     """Lines about functions and resources: what is the same of several is said once, with all their names."""
 
-    def __init__(self, written="{names}: {line}"):
-        self.written, self.names = written, {}
+    def __init__(self, written: str = "{names}: {line}") -> None:
+        self.written = written
+        self.names: Dict[str, List[str]] = {}
 
-    def add(self, name, line):
+    def add(self, name: str, line: str) -> None:
         names = self.names.setdefault(line, [])
         if name not in names:
             names.append(name)
 
-    def say(self):
+    def say(self) -> None:
         """Says what was added, in the order in which it came first."""
         for line, names in self.names.items():
             tell(self.written.format(names=", ".join(names), line=line))
         self.names = {}
 
 
-def shown(value):
+def shown(value: object) -> str:
     """A value in a sentence, cut short."""
     text = str(value) if isinstance(value, str) else repr(value)
     text = " ".join(text.split())

@@ -2,7 +2,9 @@
 and region, functions their names. A reference to anything else is a placeholder, which is reported."""
 import datetime
 import re
-from typing import NamedTuple, Tuple
+from typing import Any, Callable, Dict, List, Match, NamedTuple, Tuple
+
+from ..configuration import Members
 
 ACCOUNT, REGION = "123456789012", "us-east-1"  # those of tools/up
 NO_VALUE = object()  # what AWS::NoValue stands for: the property is not there
@@ -25,11 +27,11 @@ class Known(NamedTuple):
     placeholders: Tuple[str, ...]  # what in it is one, such as "the resource Table"
 
 
-def is_scalar(value):
+def is_scalar(value: object) -> bool:
     return isinstance(value, (str, int, float, datetime.date))
 
 
-def text_of(value):
+def text_of(value: object) -> str:
     """A value as CloudFormation writes it into a text."""
     if isinstance(value, bool):
         return "true" if value else "false"
@@ -40,7 +42,7 @@ def text_of(value):
     return str(value)
 
 
-def members_of(template, name):
+def members_of(template: object, name: object) -> Members:
     """A part of a template that should be an object; an empty one if it isn't."""
     part = template.get(name) if isinstance(template, dict) else None
     return part if isinstance(part, dict) else {}
@@ -49,37 +51,44 @@ def members_of(template, name):
 class Scope:
     """The names that a template's expressions may use. `functions` has the name of each function by its logical id."""
 
-    def __init__(self, template, stack, region=REGION):
+    def __init__(self, template: object, stack: str, region: str = REGION) -> None:
         self.parameters, self.conditions = members_of(template, "Parameters"), members_of(template, "Conditions")
         self.mappings, self.resources = members_of(template, "Mappings"), members_of(template, "Resources")
-        self.functions, self.placeholders, self.depth, self.steps = {}, [], 0, 0
-        self.pseudo = {
+        self.functions: Dict[str, str] = {}
+        self.placeholders: List[str] = []
+        self.depth = self.steps = 0
+        self.pseudo: Dict[str, object] = {
             "AWS::AccountId": ACCOUNT, "AWS::Region": region, "AWS::Partition": "aws",
             "AWS::URLSuffix": "amazonaws.com", "AWS::StackName": stack, "AWS::NotificationARNs": [],
             "AWS::NoValue": NO_VALUE,
             "AWS::StackId": f"arn:aws:cloudformation:{region}:{ACCOUNT}:stack/{stack}/"
                             "00000000-0000-0000-0000-000000000000"}
 
-    def known(self, expression):
+    @property
+    def payload(self) -> str:
+        """The format of the events of an HTTP API whose routes name none."""
+        return "2.0"
+
+    def known(self, expression: object) -> Known:
         """Its value with its placeholders; Unknown if it has none."""
         self.placeholders, self.steps = [], 0
         value = self.value(expression)
         return Known(value, tuple(dict.fromkeys(self.placeholders)))
 
-    def known_or_why(self, expression):
+    def known_or_why(self, expression: object) -> Known:
         """The same; None, with the reason in the place of placeholders, if it has none."""
         try:
             return self.known(expression)
         except Unknown as reason:
             return Known(None, (str(reason),))
 
-    def text(self, text):
+    def text(self, text: str) -> object:
         """A text outside of Fn::Sub."""
         if text.startswith("{{resolve:"):
             self.placeholders.append(f"the dynamic reference {text}")
         return text
 
-    def value(self, expression):
+    def value(self, expression: object) -> object:
         self.depth += 1
         self.steps += 1
         try:
@@ -95,11 +104,12 @@ class Scope:
         finally:
             self.depth -= 1
 
-    def of_object(self, expression):
+    def of_object(self, expression: Members) -> object:
         if len(expression) == 1:
             (name, argument), = expression.items()
             if name in FUNCTIONS:
-                return getattr(self, FUNCTIONS[name])(argument)
+                work_out: Callable[[object], object] = getattr(self, FUNCTIONS[name])
+                return work_out(argument)
             if str(name).startswith("Fn::"):
                 raise Unknown(f"{name} is not worked out here")
         found = ((name, self.value(member)) for name, member in expression.items())
@@ -107,11 +117,11 @@ class Scope:
 
     # --- the functions ---
 
-    def placeholder(self, text, what):
+    def placeholder(self, text: object, what: str) -> object:
         self.placeholders.append(what)
         return text
 
-    def ref(self, name):
+    def ref(self, name: object) -> object:
         if not isinstance(name, str):
             raise Unknown(f"Ref needs a name, not {name!r}")
         if name in self.pseudo:
@@ -121,10 +131,11 @@ class Scope:
         if name in self.functions:
             return self.functions[name]
         resource = self.resources.get(name)
-        given = members_of(resource, "Properties").get(NAMED_BY.get(str(members_of(self.resources, name).get("Type"))))
+        kind = str(members_of(self.resources, name).get("Type"))
+        given = members_of(resource, "Properties").get(NAMED_BY.get(kind, ""))
         return self.value(given) if given is not None else self.placeholder(name, f"the resource {name}")
 
-    def parameter(self, name):
+    def parameter(self, name: str) -> object:
         parameter = self.parameters[name]
         default = parameter.get("Default") if isinstance(parameter, dict) else None
         if not is_scalar(default):
@@ -135,7 +146,7 @@ class Scope:
             return [part.strip() for part in text_of(default).split(",")]
         return default
 
-    def get_att(self, argument):
+    def get_att(self, argument: object) -> object:
         words = argument.split(".", 1) if isinstance(argument, str) else argument
         if not (isinstance(words, list) and len(words) == 2 and all(isinstance(word, str) for word in words)):
             raise Unknown(f"Fn::GetAtt needs a resource and its attribute, not {argument!r}")
@@ -144,7 +155,7 @@ class Scope:
             return f"arn:aws:lambda:{self.pseudo['AWS::Region']}:{ACCOUNT}:function:{self.functions[name]}"
         return self.placeholder(f"{name}.{attribute}", f"the attribute {attribute} of {name}")
 
-    def join(self, argument):
+    def join(self, argument: object) -> str:
         if not (isinstance(argument, list) and len(argument) == 2):
             raise Unknown(f"Fn::Join needs a separator and a list, not {argument!r}")
         separator, parts = self.value(argument[0]), self.value(argument[1])
@@ -152,54 +163,68 @@ class Scope:
             raise Unknown(f"Fn::Join needs a list, not {parts!r}")
         return text_of(separator).join(map(text_of, parts))
 
-    def sub(self, argument):
-        text, own = argument if isinstance(argument, list) and len(argument) == 2 else (argument, {})
+    def sub(self, argument: object) -> str:
+        text: object = argument
+        own: object = {}
+        if isinstance(argument, list) and len(argument) == 2:
+            text, own = argument
         if not (isinstance(text, str) and isinstance(own, dict)):
             raise Unknown(f"Fn::Sub needs a string, or a string and an object, not {argument!r}")
 
-        def replaced(found):
+        names: Members = own
+
+        def replaced(found: Match[str]) -> str:
             literal, name = found[1], found[2].strip()
             if literal:
                 return "${" + found[2] + "}"
-            value = self.value(own[name]) if name in own else self.get_att(name) if "." in name else self.ref(name)
+            value = self.value(names[name]) if name in names else self.get_att(name) if "." in name else self.ref(name)
             return "" if value is NO_VALUE else text_of(value)
         return IN_TEXT.sub(replaced, text)
 
-    def select(self, argument):
+    def select(self, argument: object) -> object:
         try:
-            index, values = argument
-            return self.value(values)[int(self.value(index))]
-        except (TypeError, ValueError, IndexError, KeyError):
+            if not isinstance(argument, (list, tuple)):
+                raise TypeError
+            index, given = argument
+            values = self.value(given)
+            if not isinstance(values, list):
+                raise TypeError
+            return values[int(text_of(self.value(index)))]
+        except (TypeError, ValueError, IndexError):
             raise Unknown(f"Fn::Select needs an index and a list that has it, not {argument!r}") from None
 
-    def split(self, argument):
+    def split(self, argument: object) -> List[str]:
         try:
+            if not isinstance(argument, list):
+                raise TypeError
             separator, text = argument
             return text_of(self.value(text)).split(text_of(separator))
         except (TypeError, ValueError):
             raise Unknown(f"Fn::Split needs a separator and a string, not {argument!r}") from None
 
-    def find_in_map(self, argument):
+    def find_in_map(self, argument: object) -> object:
         try:
-            found = self.mappings
+            if not isinstance(argument, list):
+                raise TypeError
+            found: Any = self.mappings
             for name in argument[:3]:
                 found = found[self.value(name)]
             return self.value(found)
         except (KeyError, TypeError, IndexError):
             raise Unknown(f"Mappings has no {argument!r}") from None
 
-    def import_value(self, argument):
+    def import_value(self, argument: object) -> object:
         name = text_of(self.value(argument))
         return self.placeholder(name, f"the export {name}")
 
-    def choose(self, argument):
+    def choose(self, argument: object) -> object:
         if not (isinstance(argument, list) and len(argument) == 3):
             raise Unknown(f"Fn::If needs a condition and two values, not {argument!r}")
         return self.value(argument[1] if self.holds(argument[0]) else argument[2])
 
     # --- conditions ---
 
-    def holds(self, condition):
+    def holds(self, condition: object) -> bool:
         """Whether a condition, by its name or itself, is met."""
         self.depth += 1
         try:
@@ -213,7 +238,7 @@ class Scope:
         finally:
             self.depth -= 1
 
-    def of_condition(self, condition):
+    def of_condition(self, condition: object) -> bool:
         if not (isinstance(condition, dict) and len(condition) == 1):
             raise Unknown(f"{condition!r} is not a condition")
         (name, argument), = condition.items()
