@@ -3,5 +3,5 @@ import os
 import subprocess
 
 
-def jobs_here():
+def jobs_here() -> int:
     return int(subprocess.check_output([os.path.splitext(os.path.realpath(__file__))[0]]))

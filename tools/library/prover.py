@@ -4,15 +4,16 @@ import shutil
 import sys
 
 from crate_list import below, uses
+from typing import List, NoReturn, Optional, Sequence, Union
 
 TICKS = os.sysconf("SC_CLK_TCK")
 
 
-def stop(why):
+def stop(why: str) -> NoReturn:
     sys.exit(f"{sys.argv[0]}: {why}")
 
 
-def kit():
+def kit() -> str:
     """The folder of the kit: two above its command."""
     command = shutil.which("rt")
     if not command:
@@ -20,7 +21,7 @@ def kit():
     return os.path.dirname(os.path.dirname(os.path.realpath(command)))
 
 
-def check_words(root, built, name, only=()):
+def check_words(root: str, built: str, name: str, only: Sequence[str] = ()) -> List[str]:
     """The check of a crate, or of functions of it with those that they call, over what `rt ci` left in the checkout
     `built`. It runs in a folder that has the crate's src, specs and proofs."""
     known, home = uses(root), kit()
@@ -40,7 +41,7 @@ def check_words(root, built, name, only=()):
     return [*words, "--jobs", "1", *(word for path in only for word in ("--only", path))]
 
 
-def fields_of(process):
+def fields_of(process: Union[int, str]) -> List[str]:
     """What the system says of a process behind its name; nothing if it has ended."""
     try:
         with open(f"/proc/{process}/stat", encoding="utf-8") as file:
@@ -49,7 +50,7 @@ def fields_of(process):
         return []
 
 
-def seconds_of(process):
+def seconds_of(process: Union[int, str]) -> Optional[float]:
     """The CPU seconds of a process without those that it started; None if it has ended."""
     fields = fields_of(process)
     return (int(fields[11]) + int(fields[12])) / TICKS if fields else None

@@ -25,11 +25,11 @@ from .source import Fault, Source
 KINDS = {"archive": archive, "wheel": wheel, "deb": deb}
 
 
-def say(line):
+def say(line: object) -> None:
     print(f"package: {line}", file=sys.stderr)
 
 
-def main():
+def main() -> int:
     """Makes the packages that the command line asks for."""
     parser = argparse.ArgumentParser(prog="tools/package",
                                      usage="tools/package [--archive] [--wheel] [--deb] [FOLDER]", add_help=False,

@@ -5,8 +5,9 @@ import os
 import shutil
 import subprocess
 import tempfile
+from typing import Union
 
-from .source import Fault, put, read
+from .source import Fault, Source, put, read
 
 NAME = "lambda-local"  # (a package's name has no underscore)
 LIB, DOC = "usr/lib/lambda_local", f"usr/share/doc/{NAME}"
@@ -51,7 +52,7 @@ OVERRIDES = f"""{NAME}: unstripped-binary-or-object [{LIB}/bin/lambda_local]
 """
 
 
-def write(root, path, data, mode=0o644):
+def write(root: str, path: str, data: Union[str, bytes], mode: int = 0o644) -> None:
     """Writes a file below the package's root."""
     there = os.path.join(root, path)
     os.makedirs(os.path.dirname(there), exist_ok=True)
@@ -60,18 +61,18 @@ def write(root, path, data, mode=0o644):
     os.chmod(there, mode)
 
 
-def link(root, path, target):
+def link(root: str, path: str, target: str) -> None:
     """A symbolic link below the package's root."""
     there = os.path.join(root, path)
     os.makedirs(os.path.dirname(there), exist_ok=True)
     os.symlink(target, there)
 
 
-def packed(text):
+def packed(text: Union[str, bytes]) -> bytes:
     return gzip.compress(text if isinstance(text, bytes) else text.encode(), 9, mtime=0)
 
 
-def lay_out(source, root):
+def lay_out(source: Source, root: str) -> None:
     """The files as they are installed, below root."""
     for name, (mode, data) in source.files.items():
         if name.startswith(("tools/", "examples/")) or name == "lambda_local":
@@ -89,7 +90,7 @@ def lay_out(source, root):
     write(root, f"usr/share/lintian/overrides/{NAME}", OVERRIDES)
 
 
-def describe(source, root):
+def describe(source: Source, root: str) -> None:
     """What a package says of itself."""
     size = sum(os.lstat(os.path.join(folder, name)).st_size for folder, _, names in os.walk(root) for name in names)
     said = {"name": NAME, "version": source.version, "commit": source.commit, "person": source.person,
@@ -101,7 +102,7 @@ def describe(source, root):
     write(root, "DEBIAN/prerm", PRERM, 0o755)
 
 
-def make(source, folder):
+def make(source: Source, folder: str) -> str:
     """Writes the Debian package into a folder; the same commit and program give the same bytes."""
     if not shutil.which("dpkg-deb"):
         raise Fault(4, "no dpkg-deb is on the path: Debian's package dpkg has it")

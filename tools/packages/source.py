@@ -6,6 +6,7 @@ import platform
 import shutil
 import subprocess
 import tarfile
+from typing import Any, Callable, Dict, Iterator, Tuple
 
 ROOT = os.path.dirname(os.path.dirname(os.path.dirname(os.path.realpath(__file__))))
 PACKAGED = ("lambda_local", "README.md", "CHANGELOG.md", "LICENSE", "docs", "examples", "tools", "tests/clients")
@@ -14,31 +15,33 @@ MAKERS = ("tools/package", "tools/packages/", "tools/release", "tools/proof_cost
 PROVED = ("crates.txt", "HANDLES", ":(glob)crates/*/src/**", ":(glob)crates/*/specs/**", ":(glob)crates/*/proofs/**")
 LAUNCHER = os.path.join(ROOT, "lambda_local")
 STAMP = ("sources", "kit", "program", "gate")  # the lines of what proved a program
+File = Tuple[int, bytes]  # a mode and contents
 TRIAL, ANSWER = "examples/first_call.txt", "crates/lambda_local/stdout"
 
 
 class Fault(Exception):
     """Why there is no package: a status, and a line with what to do."""
 
-    def __init__(self, status, message):
+    def __init__(self, status: int, message: str) -> None:
         super().__init__(message)
         self.status = status
 
 
-def git(*words, **more):
+def git(*words: str, **more: Any) -> bytes:
     """What git says of the checkout."""
     done = subprocess.run(["git", "-C", ROOT, *words], stdout=subprocess.PIPE, env={**os.environ, "TZ": "UTC"}, **more)
     if done.returncode:
         raise Fault(2, f"git {words[0]} ended with status {done.returncode} in {ROOT}: clone the repository first")
-    return done.stdout
+    said: bytes = done.stdout
+    return said
 
 
-def read(*parts):
+def read(*parts: str) -> bytes:
     with open(os.path.join(ROOT, *parts), "rb") as file:
         return file.read()
 
 
-def is_executable(mode):
+def is_executable(mode: int) -> bool:
     return bool(mode & 0o100)
 
 
@@ -47,14 +50,14 @@ class Source:
 
     is_given = False
 
-    def __init__(self, say):
+    def __init__(self, say: Callable[[object], None]) -> None:
         self.say = say
         if (platform.system(), platform.machine()) != ("Linux", "x86_64"):
             raise Fault(2, f"the program is for x86-64 Linux, and this is {platform.system()} {platform.machine()}")
-        self.commit, self.moment, self.person, self.version = git(
+        self.commit, moment, self.person, self.version = git(
             "log", "-1", "--abbrev=12", "--date=format-local:%Y.%-m.%-d",
             "--format=%H%n%ct%n%cn <%ce>%n%cd+g%h").decode().split("\n")[:4]
-        self.moment = int(self.moment)
+        self.moment = int(moment)
         self._refuse_changes()
         path = os.path.abspath(self._find_program())
         self.program = read(path)
@@ -63,21 +66,22 @@ class Source:
         self.files = dict(self._read_commit())
 
     @staticmethod
-    def _refuse_changes():
+    def _refuse_changes() -> None:
         """Other files of the checkout do not matter: a package has those of the commit."""
         changed = git("status", "--porcelain", "--untracked-files=all", "--", *PACKAGED, *PROVED).decode().splitlines()
         if changed:
             names = ", ".join([line[3:] for line in changed[:5]] + [".."] * (len(changed) > 5))
             raise Fault(2, f"commit first, or move away what does not belong here; not committed: {names}")
 
-    def _find_program(self):
+    def _find_program(self) -> str:
         """The program that is given, else the one that ./lambda_local starts: none is proved or built for a package."""
         given = os.environ.get("LAMBDA_LOCAL_PROGRAM")
         if given and not shutil.which(given):
             raise Fault(4, f"{given} is not a program: LAMBDA_LOCAL_PROGRAM names another")
-        if given and os.path.realpath(shutil.which(given)) != LAUNCHER:
+        there = shutil.which(given) if given else None
+        if there and os.path.realpath(there) != LAUNCHER:
             self.is_given = True
-            return shutil.which(given)
+            return there
         plain = {name: value for name, value in os.environ.items() if name != "LAMBDA_LOCAL_PROGRAM"}
         found = subprocess.run([LAUNCHER, "path"], env=plain, stdout=subprocess.PIPE, stderr=subprocess.PIPE, text=True)
         if found.returncode:
@@ -89,7 +93,7 @@ class Source:
                            f"and LAMBDA_LOCAL_PROGRAM={path} packages it as it is")
         return path
 
-    def _what_proved(self, path):
+    def _what_proved(self, path: str) -> str:
         """The lines on what proved the program, which are said too."""
         sum_is = f"program {hashlib.sha256(self.program).hexdigest()}"
         if self.is_given:
@@ -103,30 +107,33 @@ class Source:
         return "".join(line + "\n" for line in lines)
 
     @staticmethod
-    def _try(path):
+    def _try(path: str) -> None:
         """Without this machine's settings, as its users will start it."""
+        nothing: Dict[str, str] = {}
         try:
-            got = subprocess.run([path], input=read(TRIAL), stdout=subprocess.PIPE, stderr=subprocess.DEVNULL, env={},
-                                 cwd="/").stdout
+            got = subprocess.run([path], input=read(TRIAL), stdout=subprocess.PIPE, stderr=subprocess.DEVNULL,
+                                 env=nothing, cwd="/").stdout
         except OSError as fault:
             raise Fault(4, f"{path}: {fault.strerror}: this is not a program that starts here") from None
         if got != read(ANSWER):
             raise Fault(1, f"the program does not answer {TRIAL} as it should: {path}")
 
     @staticmethod
-    def _read_commit():
+    def _read_commit() -> Iterator[Tuple[str, File]]:
         """The name of each packaged file, with its mode and contents."""
         with tarfile.open(fileobj=io.BytesIO(git("archive", "--format=tar", "HEAD", *PACKAGED))) as tar:
             for member in tar:
                 if member.isfile() and not member.name.startswith(MAKERS) and not member.name.endswith(".gitignore"):
-                    yield member.name, (0o755 if is_executable(member.mode) else 0o644, tar.extractfile(member).read())
+                    file = tar.extractfile(member)
+                    assert file is not None
+                    yield member.name, (0o755 if is_executable(member.mode) else 0o644, file.read())
 
-    def below(self, folder):
+    def below(self, folder: str) -> Dict[str, File]:
         """The files below a folder, by their names in it."""
         return {name[len(folder) + 1:]: file for name, file in self.files.items() if name.startswith(folder + "/")}
 
 
-def put(path, data):
+def put(path: str, data: bytes) -> str:
     """Writes a package at once, or not at all."""
     try:
         with open(path + ".new", "wb") as file:

@@ -7,8 +7,9 @@ import os
 import re
 import time
 import zipfile
+from typing import Dict
 
-from .source import put
+from .source import File, Source, put
 
 TAG = "py3-none-manylinux_2_34_x86_64"
 ENTRY_POINTS = """[console_scripts]
@@ -38,14 +39,14 @@ Tag: {TAG}
 """
 
 
-def without_links(readme):
+def without_links(readme: str) -> str:
     """A page's links lead to files of the repository, or to its own headings, and an index of packages has neither:
     their names stay."""
     return re.sub(r"!?\[([^\]]+)\]\((?!\w+:)([^)#\s]*)(?:#[^)\s]*)?\)",
                   lambda link: link[1] if link[2] in link[1] else f"{link[1]} (`{link[2]}`)", readme)
 
 
-def contents(source):
+def contents(source: Source) -> Dict[str, File]:
     """The name of each file in the wheel, with its mode and contents."""
     info = f"lambda_local-{source.version}.dist-info"
     readme = without_links(source.files["README.md"][1].decode())
@@ -63,12 +64,12 @@ def contents(source):
     return {**files, f"{info}/RECORD": (0o644, f"{record}{info}/RECORD,,\n".encode())}
 
 
-def sum_of(data):
+def sum_of(data: bytes) -> str:
     """A sum as RECORD has it."""
     return "sha256=" + base64.urlsafe_b64encode(hashlib.sha256(data).digest()).rstrip(b"=").decode()
 
 
-def make(source, folder):
+def make(source: Source, folder: str) -> str:
     """Writes the wheel into a folder; the same commit and program give the same bytes. RECORD comes last."""
     room = io.BytesIO()
     files = contents(source)

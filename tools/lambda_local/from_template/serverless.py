@@ -145,7 +145,8 @@ def apis_of(scope: ServerlessScope) -> Dict[str, Members]:
 
 def properties_of(key: str, member: Members, scope: ServerlessScope) -> Members:
     """A function's properties by the names of CloudFormation."""
-    properties: Members = {**DEFAULTS, **{PROPERTIES[name]: scope.provider[name] for name in SHARED if name in scope.provider}}
+    shared = {PROPERTIES[name]: scope.provider[name] for name in SHARED if name in scope.provider}
+    properties: Members = {**DEFAULTS, **shared}
     service = scope.whole["service"]
     service = service.get("name", "service") if isinstance(service, dict) else service
     properties["FunctionName"] = {"Fn::Join": ["-", [service, scope.stage, key]]}
