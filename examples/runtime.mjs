@@ -16,6 +16,8 @@ import fs from "node:fs";
 import http from "node:http";
 import { createRequire } from "node:module";
 import path from "node:path";
+import { Writable } from "node:stream";
+import { finished } from "node:stream/promises";
 import { pathToFileURL } from "node:url";
 import util from "node:util";
 
@@ -263,6 +265,101 @@ function outputOf(handler, text, headers) {
   });
 }
 
+// --- a response that is streamed (Developer Guide, "Response streaming for Lambda functions") ---
+
+const STREAMS = Symbol.for("aws.lambda.runtime.handler.streaming");
+const PRELUDE_TYPE = "application/vnd.awslambda.http-integration-response";
+const ERROR_TYPE = "Lambda-Runtime-Function-Error-Type";
+const ERROR_BODY = "Lambda-Runtime-Function-Error-Body";
+
+// What a streaming handler writes to. Its request begins with the first byte: until then an error is an error.
+class ResponseStream extends Writable {
+  constructor(id) {
+    super({ highWaterMark: 64 * 1024 });
+    [this.id, this.type, this.request, this.prelude] = [id, "application/octet-stream", undefined, undefined];
+  }
+
+  setContentType(type) {
+    this.type = type;
+  }
+
+  // The request that carries it, and its answer once that comes.
+  begin() {
+    if (this.request) return this.request;
+    const [host, port] = [ADDRESS.slice(0, ADDRESS.lastIndexOf(":")), ADDRESS.slice(ADDRESS.lastIndexOf(":") + 1)];
+    const headers = {
+      "Content-Type": this.type, "Lambda-Runtime-Function-Response-Mode": "streaming",
+      "Transfer-Encoding": "chunked", Trailer: `${ERROR_TYPE}, ${ERROR_BODY}`,
+    };
+    const route = `${RUNTIME}invocation/${this.id}/response`;
+    this.request = http.request({ host, port, method: "POST", path: route, agent: false, headers });
+    this.answered = new Promise((resolve) => {
+      this.request.on("error", (fault) => resolve({ status: 0, text: fault.message }));
+      this.request.on("response", (reply) => {
+        const parts = [];
+        reply.on("data", (part) => parts.push(part));
+        reply.on("close", () => resolve({ status: reply.statusCode, text: Buffer.concat(parts).toString() }));
+      });
+    });
+    if (this.prelude !== undefined) this.request.write(this.prelude);
+    return this.request;
+  }
+
+  _write(part, encoding, done) {
+    if (this.begin().write(part, encoding)) return done();
+    // (an answer that comes before the end, such as 413, frees it too)
+    const go = () => { this.request.off("drain", go); done(); };
+    this.request.once("drain", go);
+    this.answered.then(go);
+  }
+
+  _final(done) {
+    this.begin();
+    done();
+  }
+}
+
+globalThis.awslambda = {
+  streamifyResponse: (handler) => Object.assign(handler, { [STREAMS]: "response" }),
+  HttpResponseStream: {
+    from(stream, metadata) {
+      stream.setContentType(PRELUDE_TYPE);
+      stream.prelude = Buffer.concat([Buffer.from(JSON.stringify(metadata)), Buffer.alloc(8)]);
+      return stream;
+    },
+  },
+};
+
+async function invokeStreaming(handler, text, headers) {
+  const id = headers["lambda-runtime-aws-request-id"];
+  requestId = id;
+  const stream = new ResponseStream(id);
+  const fail = async (fault) => {
+    printTrace(fault);
+    const report = JSON.stringify(reportOf(fault));
+    if (!stream.request) return post("error", id, report, typeHeader(reportOf(fault)));
+    const trailers = { [ERROR_TYPE]: Object.values(typeHeader(reportOf(fault)))[0] };
+    stream.request.addTrailers({ ...trailers, [ERROR_BODY]: Buffer.from(report).toString("base64") });
+    return end(stream);
+  };
+  whenUncaught = (fault, status) => { fail(fault).finally(() => process.exit(status)); };
+  try {
+    await Promise.all([handler(JSON.parse(text), stream, contextOf(headers, () => {})), finished(stream)]);
+  } catch (fault) {
+    await fail(fault);
+    return;
+  }
+  await end(stream);
+  whenUncaught = (late, status) => { printTrace(late); process.exit(status); };
+}
+
+async function end(stream) {
+  stream.request.end();
+  const { status, text } = await stream.answered;
+  if (status === 500) process.exit(0);
+  if (status !== 202) tell(`runtime.mjs: the response to ${stream.id} is refused: ${status} ${text}`);
+}
+
 function textOf(output) {
   try {
     return JSON.stringify(output) ?? "null";
@@ -306,7 +403,7 @@ async function serve(handler) {
     } else {
       delete process.env._X_AMZN_TRACE_ID;
       if (headers["lambda-runtime-trace-id"]) process.env._X_AMZN_TRACE_ID = headers["lambda-runtime-trace-id"];
-      await invoke(handler, text, headers);
+      await (handler[STREAMS] ? invokeStreaming : invoke)(handler, text, headers);
     }
   }
 }

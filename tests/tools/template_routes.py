@@ -69,10 +69,10 @@ def url_resources():
         "Second": url("arn:aws:lambda:us-east-1:123456789012:function:H"), "Far": url({"Fn::ImportValue": "far"}),
         "None": url({"Ref": "I"}) | {"Condition": "Never"}, "Odd": {"Type": "AWS::Lambda::Url", "Properties": 5}}})
     check("URLs that are resources", {function["name"]: function.get("url") for function in made["functions"]}, {
-        "F": {"cors": {name[:1].lower() + name[1:]: value for name, value in cors.items()}}, "shop-g": True,
+        "F": {"cors": {name[:1].lower() + name[1:]: value for name, value in cors.items()},
+              "invoke": "RESPONSE_STREAM"}, "shop-g": True,
         "H": {"cors": {"allowOrigins": ["Site"]}}, "I": None})
     for words in ("F: leaves out Colour of its URL",
-                  "F: its URL answers once the whole result is there, without streaming",
                   "shop-g: its URL takes requests without a signature here",
                   "shop-g: its URL is of live, and here of $LATEST",
                   "H: HUrl has a placeholder for the resource Site",

@@ -47,9 +47,10 @@ class Addresses:
         """By the members that FunctionUrlConfig and AWS::Lambda::Url have in common."""
         if given.get("AuthType") == "AWS_IAM":
             self.tell("its URL takes requests without a signature here")
+        found = url_with(cors_of(given.get("Cors"), "its URL", self.scope, self.tell))
         if given.get("InvokeMode") == "RESPONSE_STREAM":
-            self.tell("its URL answers once the whole result is there, without streaming")
-        return url_with(cors_of(given.get("Cors"), "its URL", self.scope, self.tell))
+            return {**(found if isinstance(found, dict) else {}), "invoke": "RESPONSE_STREAM"}
+        return found
 
     # --- its routes ---
 

@@ -8,6 +8,7 @@ from typing import Any, Callable, Dict, Iterator, List, Optional, Protocol, Sequ
 
 from ..outgoing import Log
 from ..service import Fault, Service, free_ports
+from ..streaming.streams import Streams
 from .client import Client
 from .gateway import Api, Url
 from .invoke import InvokePort
@@ -75,9 +76,10 @@ class Front(threading.Thread):
         if self.routing:
             yield None, f"routes: {url_of(self.routing)}", url_of(self.routing)
 
-    def serve(self, service: Service, tails: Optional[Tails] = None, others: Sequence[Served] = ()) -> None:
+    def serve(self, service: Service, tails: Optional[Tails] = None, others: Sequence[Served] = (),
+              streams: Optional[Streams] = None) -> None:
         """Begins to answer, by this service; `tails` has what Invoke answers with the log type Tail, and `others` are
-        further servers that its thread runs."""
+        further servers that its thread runs, which have the responses that are streamed."""
         self.service, configuration = service, service.configuration
         self.client = Client(service.port)
         self.places = Places(places_for(sum(len(one["ports"]) for one in configuration["functions"]), len(others)))
@@ -85,11 +87,13 @@ class Front(threading.Thread):
                           tails)
         self.queue, identifiers = port.queue, port.identifiers
         urls = {function: url_of(listener) for function, listener in self.urls.items()}
-        management = Management(port, self.client, self.settings, configuration, urls)
+        streams = streams or Streams()
+        management = Management(port, self.client, self.settings, configuration, urls, streams)
         self.servers: List[Served] = [Server(self.invoking, management, self.places, self.log)]
         service.endpoint_url = url_of(self.invoking)
         for function, listener in self.urls.items():
-            url = Url(self.client, self.settings.urls[function], identifiers, self.log, function, configuration)
+            url = Url(self.client, self.settings.urls[function], identifiers, self.log, function, configuration,
+                      streams)
             self.servers.append(Server(listener, url, self.places, self.log))
         if self.routing:
             api = Api(self.client, self.settings.api, identifiers, self.log, self.settings.routes, configuration)

@@ -1,16 +1,18 @@
 """Ports at which HTTP requests invoke functions: a Function URL, and the routes of an HTTP API or a REST API."""
 import json
-from typing import Any, Dict, Mapping, NamedTuple, Optional
+from typing import Any, Callable, Dict, Mapping, NamedTuple, Optional
 
 from ..configuration import Members
 from ..outgoing import Log
-from . import cors
+from ..streaming.streams import Streams
+from . import cors, streamed
 from .client import Client
 from .events import Identifiers, target_of
 from .formats import OfHttpApi, OfUrl, format_of, message
-from .http import PHRASES, Malformed, Reply, Request, TooLong, first
+from .http import PHRASES, Headers, Malformed, Reply, Request, TooLong, first
 from .origins import FOREIGN_CODING, Refusal, further_hosts, refusal_of
 from .payload import Unmappable
+from .rest_payload import Tell
 from .routes import Routes
 from .settings import Address, Integration, Target
 from .wire import Gone
@@ -95,16 +97,24 @@ class Gateway:
             return self.too_large(found, request, "the event made of it")
         trace = [(name, value) for name, value in request.headers if name.lower() == "x-amzn-trace-id"]
         try:
-            status, headers, result = await self.client.ask("POST", target_of(found.function), trace, event)
+            return await self.answer(request, found, trace, event, tell)
         except (Gone, Malformed):
             self.say(found, request, "502, the service broke its connection off")
             return found.format.broken()
+
+    async def answer(self, request: Request, found: Found, trace: Headers, event: bytes, tell: Tell) -> Reply:
+        status, headers, result = await self.client.ask("POST", target_of(found.function), trace, event)
+        return self.mapped(request, found, status, headers, result, found.format.reply, tell)
+
+    def mapped(self, request: Request, found: Found, status: int, headers: Headers, result: bytes,
+               mapping: Callable[[bytes, Request, Tell], Reply], tell: Tell) -> Reply:
+        """The answer to a result that is whole."""
         if status != 200:
             return self.not_invoked(found, request, status, result)
         if first(headers, "x-amz-function-error") is not None:
             return found.format.broken()  # (the invocation's own line says why)
         try:
-            return found.format.reply(result, request, tell)
+            return mapping(result, request, tell)
         except Unmappable as reason:
             self.say(found, request, f"502, its result cannot be mapped: {reason}")
             return found.format.broken()
@@ -126,12 +136,33 @@ class Gateway:
 
 class Url(Gateway):
     def __init__(self, client: Client, address: Address, identifiers: Identifiers, log: Log, function: str,
-                 configuration: Members) -> None:
+                 configuration: Members, streams: Streams) -> None:
         super().__init__(client, address, identifiers, log)
+        self.streams = streams if address.streams else None
         name = f"{function.lower()}.lambda-url.{configuration['region']}.on.aws"
         context = {"accountId": "anonymous", "apiId": function.lower(), "domainName": name,
                    "domainPrefix": function.lower(), "routeKey": "$default", "stage": "$default"}
         self.found = Found(function, context, None, OfUrl())
+
+    async def answer(self, request: Request, found: Found, trace: Headers, event: bytes, tell: Tell) -> Reply:
+        if self.streams is None:
+            return await super().answer(request, found, trace, event, tell)
+        asking = streamed.Asking(self.client, self.streams, target_of(found.function), trace, event)
+        begun = await asking.first()
+        if not isinstance(begun, streamed.Begun):
+            await asking.aclose()
+            return self.mapped(request, found, *begun, streamed.as_it_is, tell)
+        self.held += len(event)
+        begun.asking.add_done_callback(lambda _: self.release(len(event)))
+        try:
+            return await streamed.url_reply(asking, begun.stream)
+        except Unmappable as reason:
+            await asking.aclose()
+            self.say(found, request, f"502, {reason}")
+            return found.format.broken()
+
+    def release(self, size: int) -> None:
+        self.held -= size
 
     def find(self, request: Request) -> Optional[Found]:
         return self.found

@@ -1,6 +1,7 @@
 """What the invoke port answers of the Lambda API beside Invoke and reserved concurrency: the functions of UP.json as
 GetFunction, GetFunctionConfiguration, ListFunctions and GetFunctionUrlConfig show them, which SDKs' waiters ask for;
 and an error with a sentence for each operation that is not there."""
+import contextlib
 import json
 import os
 import sys
@@ -9,14 +10,18 @@ from datetime import datetime, timezone
 from typing import Any, Dict, List, Optional, Tuple
 from urllib.parse import parse_qs, quote
 
+from ..streaming.streams import Streams
 from ..variables import text_of
+from . import streamed
 from .client import Client
 from .errors import of_service, of_user, refusal
 from .events import function_of, target_of
-from .http import Malformed, Reply, Request
-from .invoke import KNOWN, InvokePort
+from .held import Full as NoRoom
+from .http import Malformed, Reply, Request, TooLong, first
+from .invoke import KNOWN, TYPE, InvokePort
 from .operations import HERE, OF_API, Asked, asked, sentence
 from .origins import further_hosts, refusal_of
+from .passing import LONGEST, asked_headers
 from .settings import Address, Settings
 from .wire import Gone
 
@@ -28,7 +33,8 @@ class Management:
     """Answers these operations; `port` is the invoke port, which has all other requests."""
 
     def __init__(self, port: InvokePort, client: Client, settings: Settings, configuration: Dict[str, Any],
-                 urls: Dict[str, str]):
+                 urls: Dict[str, str], streams: Streams):
+        self.streams = streams
         self.client, self.settings, self.configuration, self.urls = client, settings, configuration, urls
         self.port, self.malformed, self.refusal = port, port.malformed, port.refusal
         self.hosts, self.since = further_hosts(), datetime.now(timezone.utc)
@@ -59,9 +65,13 @@ class Management:
             return self.list_functions(query, identifier)
         name = operation.parameters[0]
         try:
+            if operation.name == "InvokeWithResponseStream" and first(request.headers, TYPE) != "DryRun":
+                return await self.stream(request, self.target(name, query), identifier)
             unknown = await self.unknown(name, query)
             if unknown:
                 return unknown
+            if operation.name == "InvokeWithResponseStream":
+                return Reply(204, [("x-amzn-requestid", identifier)])
             return await self.of_function(operation.name, str(function_of(target_of(name))), identifier)
         except (Gone, Malformed):
             return of_service(500, "The service breaks its connection off")
@@ -75,11 +85,35 @@ class Management:
         return Reply(200, [("content-type", "application/json"), ("x-amzn-requestid", identifier)],
                      json.dumps(value).encode())
 
+    @staticmethod
+    def target(name: str, query: Dict[str, List[str]]) -> str:
+        """That of an Invoke of this name and qualifier."""
+        qualifier = first_of(query, "Qualifier")
+        return target_of(name) + (f"?Qualifier={quote(qualifier, safe='')}" if qualifier is not None else "")
+
+    async def stream(self, request: Request, target: str, identifier: str) -> Reply:
+        """Its payload counts among those that are held until the service has answered."""
+        length = LONGEST if request.body.length is None else min(LONGEST, request.body.length)
+        held = contextlib.ExitStack()
+        try:
+            held.enter_context(self.port.held.holding(length))
+            payload = await request.body.whole(LONGEST)
+        except NoRoom:
+            return self.refusal(503, "Too many bodies are held")
+        except TooLong:
+            held.close()
+            return of_user(413, "RequestTooLargeException", f"Payload exceeds {LONGEST} bytes", identifier)
+        except BaseException:
+            held.close()
+            raise
+        headers = asked_headers(request.headers)
+        return await streamed.invoke_with_response_stream(self.client, self.streams, target, headers, payload,
+                                                          held.close)
+
     async def unknown(self, name: str, query: Dict[str, List[str]]) -> Optional[Reply]:
         """What the service answers to this name and qualifier; none if it knows the function."""
-        qualifier = first_of(query, "Qualifier")
-        target = target_of(name) + (f"?Qualifier={quote(qualifier, safe='')}" if qualifier is not None else "")
-        status, headers, body = await self.client.ask("POST", target, [("X-Amz-Invocation-Type", "Event")])
+        status, headers, body = await self.client.ask("POST", self.target(name, query),
+                                                      [("X-Amz-Invocation-Type", "Event")])
         if status == 400 and KNOWN in body:
             return None
         kept = [(each, value) for each, value in headers
@@ -136,7 +170,8 @@ class Management:
     def of_url(self, name: str, address: Address) -> Dict[str, Any]:
         moment = self.since.strftime("%Y-%m-%dT%H:%M:%SZ")
         return {"FunctionUrl": f"{self.urls[name]}/", "FunctionArn": self.of_member(name)["FunctionArn"],
-                "AuthType": "NONE", "CreationTime": moment, "LastModifiedTime": moment, "InvokeMode": "BUFFERED",
+                "AuthType": "NONE", "CreationTime": moment, "LastModifiedTime": moment,
+                "InvokeMode": "RESPONSE_STREAM" if address.streams else "BUFFERED",
                 **({"Cors": of_cors(address)} if address.cors else {})}
 
 

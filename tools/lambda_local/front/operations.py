@@ -72,8 +72,8 @@ POST /2017-03-31/tags/{} TagResource
 DELETE /2017-03-31/tags/{} UntagResource
 GET /2016-08-19/account-settings GetAccountSettings
 """
-HERE = ("Invoke", "ListFunctions", "GetFunction", "GetFunctionConfiguration", "GetFunctionUrlConfig",
-        "GetFunctionConcurrency", "PutFunctionConcurrency", "DeleteFunctionConcurrency")
+HERE = ("Invoke", "InvokeWithResponseStream", "ListFunctions", "GetFunction", "GetFunctionConfiguration",
+        "GetFunctionUrlConfig", "GetFunctionConcurrency", "PutFunctionConcurrency", "DeleteFunctionConcurrency")
 OF_API = re.compile(r"/20\d\d-\d\d-\d\d/.*")  # what is a path of the Lambda API, and not of this service's own
 CODE = "functions are those of UP.json, which tools/up reads when it starts"
 VERSIONS = "the only version of a function is $LATEST"
@@ -81,7 +81,6 @@ INSTEAD: Dict[str, str] = {
     "CreateFunction": CODE, "DeleteFunction": CODE, "UpdateFunctionConfiguration": CODE,
     "UpdateFunctionCode": f"{CODE}; tools/up --reload takes code that changes",
     "InvokeAsync": 'use Invoke with the type Event, which "asynchronous": true in UP.json accepts',
-    "InvokeWithResponseStream": "use Invoke: results come whole",
     "ListVersionsByFunction": VERSIONS, "PublishVersion": VERSIONS, "ListAliases": VERSIONS, "CreateAlias": VERSIONS,
     "GetAlias": VERSIONS, "UpdateAlias": VERSIONS, "DeleteAlias": VERSIONS,
     **dict.fromkeys(("GetFunctionEventInvokeConfig", "PutFunctionEventInvokeConfig", "UpdateFunctionEventInvokeConfig",

@@ -35,6 +35,8 @@ OF_CORS = {
 }
 OBJECT = Kind(lambda value: isinstance(value, dict), "an object")
 OF_ADDRESS = {"port": PORT, "cors": OBJECT}
+OF_URL = {**OF_ADDRESS, "invoke": Kind(lambda value: value in ("BUFFERED", "RESPONSE_STREAM"),
+                                       '"BUFFERED" or "RESPONSE_STREAM"')}
 OF_INTEGRATION = {
     "payload": Kind(lambda value: value in ("1.0", "2.0"), '"1.0" or "2.0"'),
     "type": Kind(lambda value: value in ("REST", "HTTP"), '"REST" or "HTTP"'),
@@ -81,6 +83,7 @@ class Address(NamedTuple):
     """Where HTTP requests come in."""
     port: int = 0
     cors: Optional[Cors] = None
+    streams: bool = False  # a function's response is passed on as it comes
 
 
 class Integration(NamedTuple):
@@ -118,7 +121,7 @@ def mistakes(whole: Members) -> Iterator[str]:
             yield f"asynchronous: onFailure: there is no function {shown(given['onFailure'])}"
     for member in whole["functions"]:
         if isinstance(member.get("url"), dict):
-            yield from mistakes_of_address(member["url"], f"function {member['name']}: url: ")
+            yield from mistakes_of_address(member["url"], f"function {member['name']}: url: ", OF_URL)
     api = whole.get("api", {})
     yield from mistakes_of_address(api, "api: ", OF_API)
     yield from mistakes_of_integration(api, api, "api: ")
@@ -173,7 +176,7 @@ def cors_of(given: Optional[Members]) -> Optional[Cors]:
 
 def address_of(given: object) -> Address:
     given = given if isinstance(given, dict) else {}
-    return Address(given.get("port", 0), cors_of(given.get("cors")))
+    return Address(given.get("port", 0), cors_of(given.get("cors")), given.get("invoke") == "RESPONSE_STREAM")
 
 
 def kind_of(given: Members) -> str:

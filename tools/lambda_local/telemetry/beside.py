@@ -2,11 +2,12 @@
 otherwise nothing, at no cost."""
 import json
 import uuid
-from typing import Any, Callable, Dict, Iterable, List, Mapping, Optional, Protocol
+from typing import Any, Callable, Container, Dict, Iterable, List, Mapping, Optional, Protocol
 
 from ..front import origins
 from ..front.front import listener_at
 from ..http1 import Request
+from ..streaming.streams import Streams
 from .conversation import Answer
 from .desk import Desk
 from .ears import EnvironmentEars
@@ -98,10 +99,11 @@ def about(function: Any) -> About:
 
 
 class Sidecars:
-    """Those of all environments, by their numbers."""
+    """Those of all environments, by their numbers. `streaming` are the functions whose responses may be streamed."""
 
-    def __init__(self, functions: Iterable[Any], path: str, log: Callable[..., None]):
-        self.functions, self.path, self.log = list(functions), path, log
+    def __init__(self, functions: Iterable[Any], streaming: Container[str], path: str, log: Callable[..., None]):
+        self.functions, self.streaming, self.path, self.log = list(functions), streaming, path, log
+        self.streams = Streams()
         self.found: Dict[int, WithTelemetry] = {}
 
     def serve(self, configuration: Mapping[str, Any], printed: Mapping[int, Printed]) -> List[Proxy]:
@@ -111,7 +113,7 @@ class Sidecars:
         for function, part in zip(self.functions, configuration["functions"]):
             for place, port in enumerate(part["ports"], 1):
                 number += 1
-                if function.has_telemetry:
+                if function.has_telemetry or function.name in self.streaming:
                     self.found[number] = self._made(function, place, port, printed[number])
         return [each.proxy for each in self.found.values()]
 
@@ -121,8 +123,9 @@ class Sidecars:
         def tell(text: str) -> None:
             self.log(name, f"-- {text}", level="warning", kind="telemetry", function=function.name)
         desk = Desk(about(function), tell)
+        ears = EnvironmentEars(desk, refusal_of, self.streams, function.has_telemetry)
         listener = listener_at(0, f"telemetry of {name}", self.path)
-        return WithTelemetry(desk, Proxy(listener, port, EnvironmentEars(desk, refusal_of), tell), name, printed)
+        return WithTelemetry(desk, Proxy(listener, port, ears, tell), name, printed)
 
     def of(self, number: int, port: int) -> Beside:
         return self.found.get(number) or Beside(port)

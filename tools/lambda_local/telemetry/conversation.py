@@ -2,7 +2,7 @@
 for byte, and what comes back goes to it, whatever it is. Requests and answers are read beside that. A request for one
 of the routes that are answered here goes no further, and its answer waits for those before it."""
 from collections import deque
-from typing import Awaitable, Deque, List, Optional, Tuple, Union
+from typing import Awaitable, Callable, Deque, List, Optional, Tuple, Union
 
 from ..http1 import (CLOSED, NEED_DATA, Data, EndOfMessage, Headers, Malformed, Reader, Request, RequestReader,
                      Response, ResponseReader, response_head)
@@ -20,6 +20,14 @@ class Exchange:
 
     def __init__(self, head: Request):
         self.head = head
+
+    @property
+    def is_full(self) -> bool:
+        """Whether no more of its request is wanted just now."""
+        return False
+
+    def when_room(self, resume: Callable[[], None]) -> None:
+        """What is called once more of its request is wanted."""
 
     def sent(self, data: bytes) -> None:
         """A part of the request's body."""
@@ -119,6 +127,12 @@ class Conversation:
         if not self.is_held and not self.closes:
             self._ahead += len(self._from_client)
             self._pass(len(self._from_client))
+
+    @property
+    def full(self) -> Optional[Exchange]:
+        """The exchange whose request is not to be read further just now."""
+        current = self._current
+        return current if isinstance(current, Exchange) and current.is_full else None
 
     @property
     def is_held(self) -> bool:

@@ -6,6 +6,7 @@ from typing import Callable, List, Optional
 
 from ..http1 import Headers, Request, Response, first
 from ..json_reader import NotJson, read_json
+from ..streaming.streams import Streams
 from .conversation import Answer, Ears, Exchange
 from .desk import Desk
 from .story import ERROR, SUCCESS, TOO_LARGE
@@ -119,9 +120,9 @@ class ExtensionReport(Short):
 
 
 class RuntimePoll(Exchange):
-    def __init__(self, head: Request, desk: Desk):
+    def __init__(self, head: Request, desk: Desk, streams: Streams):
         super().__init__(head)
-        self.desk, self.polls = desk, False
+        self.desk, self.streams, self.polls = desk, streams, False
 
     def all_sent(self, trailers: Headers) -> None:
         self.polls = True
@@ -131,7 +132,9 @@ class RuntimePoll(Exchange):
         self.lost()
         identifier = first(head.headers, REQUEST)
         if head.status == 200 and identifier is not None:
-            self.desk.delivered(plain(identifier), first(head.headers, "lambda-runtime-trace-id"))
+            trace = first(head.headers, "lambda-runtime-trace-id")
+            self.streams.delivered(plain(identifier), trace)
+            self.desk.delivered(plain(identifier), trace)
 
     def lost(self) -> None:
         if self.polls:
@@ -149,16 +152,33 @@ class InitReport(Exchange):
 
 
 class Result(Exchange):
-    """A response, or an error."""
+    """A response, or an error. A response that is streamed goes to its caller as well as to the service."""
 
-    def __init__(self, head: Request, desk: Desk, identifier: str, kind: str):
+    def __init__(self, head: Request, desk: Desk, streams: Streams, identifier: str, kind: str):
         super().__init__(head)
         self.desk, self.identifier, self.kind, self.size = desk, plain(identifier), kind, 0
         self.status = 0
+        self.trailers: Headers = []
+        self.stream = streams.begins(self.identifier, head.headers) if kind == "response" else None
         desk.responds(self.identifier)
+
+    @property
+    def is_full(self) -> bool:
+        return self.stream is not None and self.stream.is_full
+
+    def when_room(self, resume: Callable[[], None]) -> None:
+        if self.stream is not None:
+            self.stream.on_room = resume
 
     def sent(self, data: bytes) -> None:
         self.size += len(data)
+        if self.stream is not None:
+            self.stream.feed(data)
+
+    def all_sent(self, trailers: Headers) -> None:
+        self.trailers = trailers
+        if self.stream is not None:
+            self.stream.trailed(trailers)
 
     def answered(self, head: Response) -> None:
         self.status = head.status
@@ -167,7 +187,8 @@ class Result(Exchange):
         if self.status == 413:
             self.desk.answered(self.identifier, ERROR, TOO_LARGE, 0)
         elif self.status == 202 and self.kind == "response":
-            self.desk.answered(self.identifier, SUCCESS, None, self.size)
+            broken = first(self.trailers, ERROR_TYPE)
+            self.desk.answered(self.identifier, ERROR if broken else SUCCESS, broken, self.size)
         elif self.status == 202:
             self.desk.answered(self.identifier, ERROR, first(self.head.headers, ERROR_TYPE) or UNKNOWN_ERROR, self.size)
 
@@ -176,15 +197,16 @@ Refusal = Callable[[Request], Optional[Answer]]
 
 
 class EnvironmentEars(Ears):
-    """`refusal` is the service's own answer to a request of a web page, or one for a foreign host."""
+    """`refusal` is the service's own answer to a request of a web page, or one for a foreign host. Without telemetry
+    the routes of subscriptions are the service's."""
 
-    def __init__(self, desk: Desk, refusal: Refusal):
-        self.desk, self.refusal = desk, refusal
+    def __init__(self, desk: Desk, refusal: Refusal, streams: Streams, has_telemetry: bool = True):
+        self.desk, self.refusal, self.streams, self.has_telemetry = desk, refusal, streams, has_telemetry
 
     def exchange(self, head: Request) -> Exchange:
         path, desk = head.parts.path, self.desk
         if head.method == "GET" and path == RUNTIME + "invocation/next":
-            return RuntimePoll(head, desk)
+            return RuntimePoll(head, desk, self.streams)
         if head.method == "GET" and path == EXTENSION + "event/next":
             return ExtensionPoll(head, desk)
         return self.of_post(head, path) if head.method == "POST" else Exchange(head)
@@ -193,7 +215,7 @@ class EnvironmentEars(Ears):
         desk = self.desk
         found = POSTED.fullmatch(path)
         if found:
-            return Result(head, desk, found[1], found[2])
+            return Result(head, desk, self.streams, found[1], found[2])
         if path == RUNTIME + "init/error":
             return InitReport(head, desk)
         if path == EXTENSION + "register":
@@ -203,7 +225,7 @@ class EnvironmentEars(Ears):
         return ExtensionReport(head, desk, states[0]) if states else Exchange(head)
 
     def is_own(self, head: Request) -> bool:
-        return head.method == "PUT" and head.parts.path in (TELEMETRY, LOGS)
+        return self.has_telemetry and head.method == "PUT" and head.parts.path in (TELEMETRY, LOGS)
 
     def answer(self, head: Request, body: Optional[bytes]) -> Answer:
         refused = self.refusal(head)

@@ -16,6 +16,7 @@ PAUSE = 0.1  # seconds, after a newcomer for whom there is no descriptor
 HELD_SECONDS = 20.0  # for the rest of a request that is answered here, as the service has it for a head
 BY_RESET = struct.pack("ii", 1, 0)  # of SO_LINGER
 HERE = "127.0.0.1"
+OTHER_SIDE, CALLER = "the other side", "the caller of a stream"  # that takes no more just now
 Tell = Callable[[str], None]
 
 
@@ -25,7 +26,8 @@ class Side(asyncio.Protocol):
     def __init__(self, pair: "Pair", is_client: bool):
         self.pair, self.is_client = pair, is_client
         self.transport: Optional[asyncio.Transport] = None
-        self.has_ended = self.is_lost = self.is_paused = False
+        self.has_ended = self.is_lost = False
+        self.reasons: Set[str] = set()  # for which it is not read from
 
     def connection_made(self, transport: asyncio.BaseTransport) -> None:
         assert isinstance(transport, asyncio.Transport)
@@ -44,21 +46,23 @@ class Side(asyncio.Protocol):
         self.pair.lost(self, fault)
 
     def pause_writing(self) -> None:
-        self.pair.other(self).pause()
+        self.pair.other(self).pause(OTHER_SIDE)
 
     def resume_writing(self) -> None:
-        self.pair.other(self).resume()
+        self.pair.other(self).resume(OTHER_SIDE)
 
     # ---- what its pair does ------------------------------------------------------------------------------------------
 
-    def pause(self) -> None:
-        if self.transport and not self.is_lost and not self.is_paused:
-            self.is_paused = True
+    def pause(self, reason: str) -> None:
+        if self.transport and not self.is_lost and not self.reasons:
             self.transport.pause_reading()
+        self.reasons.add(reason)
 
-    def resume(self) -> None:
-        if self.transport and not self.is_lost and self.is_paused:
-            self.is_paused = False
+    def resume(self, reason: str) -> None:
+        if reason not in self.reasons:
+            return
+        self.reasons.discard(reason)
+        if self.transport and not self.is_lost and not self.reasons:
             self.transport.resume_reading()
 
     def write(self, data: bytearray) -> None:
@@ -127,6 +131,10 @@ class Pair:
             self.task = asyncio.get_running_loop().create_task(self._wait())
         if not self.is_waiting:
             self._flush_client()
+        full = conversation.full
+        if full is not None:
+            self.client.pause(CALLER)
+            full.when_room(lambda: self.client.resume(CALLER))
         self._watch_held()
 
     def _flush_client(self) -> None:

@@ -58,7 +58,8 @@ class Session:
         self.patience = options.ready or max([READY_SECONDS, *(function.init + READY_SECONDS // 2 for function
                                                                in self.functions if function.init)])
         self.front = Front(front, options.up, options.drain, log)
-        self.sidecars = Sidecars(self.functions, options.up, log)
+        streaming = {name for name, address in front.urls.items() if address.streams}
+        self.sidecars = Sidecars(self.functions, streaming, options.up, log)
         if salt is None and "salt" not in configuration:
             configuration["salt"] = int(1000 * time.time()) << 16  # so that no two runs have the same identifiers
         # From here on a signal ends it in order; a second one kills.
@@ -74,7 +75,7 @@ class Session:
         self.report = self.make_report(invocations) if options.report else None
         self.watch.lines = Lines(self.report.tell, self.functions) if self.report else Lines(log, self.functions)
         self.front.serve(self.service, Tails(invocations, self.watch),
-                         self.sidecars.serve(self.service.configuration, self.printed))
+                         self.sidecars.serve(self.service.configuration, self.printed), self.sidecars.streams)
         self.environments = list(self.make_environments())
         self.watch.hooks += [environment.answer_callers for environment in self.environments]
         if any(environment.is_extra for environment in self.environments):
