@@ -3,7 +3,7 @@
 sound emulator, and each fault that is planted in the emulator. The program is LAMBDA_LOCAL_PROGRAM, else
 ./lambda_local. Ends with 'N passed, M failed'.
 
-usage: tests/tools/conformance_service.py [FAULT ..]   (or `sound`, `lambda_local`; default: everything)"""
+usage: tests/tools/conformance_service.py [FAULT ..]   (or `sound`, `lambda_local`, `pairs`; default: everything)"""
 import concurrent.futures
 import os
 import re
@@ -19,8 +19,8 @@ TOOL = [sys.executable, "-S", os.path.join(ROOT, "tools", "conformance"), "servi
 sys.path[:0] = [EMULATOR, os.path.join(ROOT, "tools"), os.path.join(ROOT, "tests", "library")]
 import counted  # noqa: E402
 from counted import check  # noqa: E402
-from faults import FAULTS  # noqa: E402
-from lambda_local.conformance.service import known, oracle, sequences  # noqa: E402
+from faults import FAULTS, OF_PAIRS  # noqa: E402
+from lambda_local.conformance.service import known, oracle, pairs, sequences  # noqa: E402
 from lambda_local.service import Service, free_ports, program_path  # noqa: E402
 
 POOL = concurrent.futures.ThreadPoolExecutor(4 * len(os.sched_getaffinity(0)))  # of runs, which wait most of the time
@@ -93,6 +93,12 @@ SHOWS_AS = {
 }
 
 
+SHOWS_IN_PAIRS = {
+    "uses-one-environment": {"invoke waits answered", "next deliver connection"},
+    "mixes-environments": {"response BadId status", "failure BadId status"},
+    "ends-both-environments": {"invoke waits answered", "next waits answered", "ext-next waits answered"},
+    "shares-extensions": {"ext-next Unknown status", "ext-next Unknown connection"},
+}
 AT_THE_BEGINNING = {"accepts-with-200"}  # found before a sequence is played
 
 
@@ -123,10 +129,12 @@ class Run:
             print(self.output, self.errors[-1000:], flush=True)
 
 
-def against_emulator(faults, *words):
-    """A run against an emulator with these faults."""
-    invoke_port, runtime_port = free_ports(2, set())
-    numbers = map(str, (invoke_port, runtime_port, EMULATOR_TIMEOUT))
+def against_emulator(faults, *words, is_pair=False):
+    """A run against an emulator with these faults, with one environment or with two."""
+    invoke_port, runtime_port, second_port = free_ports(3, set())
+    ports = f"{runtime_port},{second_port}" if is_pair else runtime_port
+    words = (*words, "--second", f"127.0.0.1:{second_port}") if is_pair else words
+    numbers = map(str, (invoke_port, ports, EMULATOR_TIMEOUT))
     emulator = subprocess.Popen([sys.executable, "-S", os.path.join(EMULATOR, "emulator.py"), *numbers, *faults],
                                 stdout=subprocess.PIPE, text=True, start_new_session=True)
     try:
@@ -138,12 +146,13 @@ def against_emulator(faults, *words):
         emulator.stdout.close()
 
 
-def against_lambda_local(*words):
-    function = {"name": "function", "ports": [0], "timeout": SERVICE_TIMEOUT}
+def against_lambda_local(*words, environments=1):
+    function = {"name": "function", "ports": [0] * environments, "timeout": SERVICE_TIMEOUT}
     service = Service({"account": "123456789012", "region": "us-east-1", "functions": [function]})
     try:
-        port = service.configuration["functions"][0]["ports"][0]
-        return Run("--invoke", service.endpoint_url, "--runtime", f"127.0.0.1:{port}", *words)
+        port, *more = service.configuration["functions"][0]["ports"]
+        second = [word for other in more for word in ("--second", f"127.0.0.1:{other}")]
+        return Run("--invoke", service.endpoint_url, "--runtime", f"127.0.0.1:{port}", *second, *words)
     finally:
         service.kill()
 
@@ -196,6 +205,27 @@ def each_fault_is_found():
             last = (run.output.splitlines() or [""])[-1]
             check(f"{name} is found, with {run.calls} calls: {title[:160]}; {last}", seen, (1, 1, True, True))
             run.told(seen == (1, 1, True, True))
+
+
+def two_environments():
+    if sys.argv[1:] and "pairs" not in sys.argv[1:]:
+        return
+    for name, run in (("lambda_local", against_lambda_local(environments=2)),
+                      ("an emulator without a fault", against_emulator((), is_pair=True))):
+        seen = (run.status, run.words, f"{len(all_pairs())} sequences" in run.output)
+        check(f"with two environments nothing differs in {name}", seen, (0, [], True))
+        run.told(seen == (0, [], True))
+    check("each fault of two environments has what it shows as", set(OF_PAIRS) ^ set(SHOWS_IN_PAIRS), set())
+    for name in OF_PAIRS:
+        run = against_emulator((name,), "--most", "1", is_pair=True)
+        seen = (run.status, bool(set(run.words) & SHOWS_IN_PAIRS[name]))
+        check(f"{name} is found: {' '.join(run.words) or 'nothing'}", seen, (1, True))
+        run.told(seen == (1, True))
+
+
+def all_pairs():
+    """The sequences with two environments, each of which is played."""
+    return sequences.sequences_of(pairs.PAIRS, oracle.FRESH)
 
 
 def each_worked_sequence_is_played():
@@ -279,5 +309,5 @@ def wrong_usage():
 
 if __name__ == "__main__":
     others = (each_worked_sequence_is_played, differences_can_be_known, built_in_points_stand_in_the_page, wrong_usage)
-    parts = (nothing_in_lambda_local, nothing_in_a_sound_emulator, each_fault_is_found)
+    parts = (nothing_in_lambda_local, nothing_in_a_sound_emulator, two_environments, each_fault_is_found)
     sys.exit(counted.run(*(() if sys.argv[1:] else others), *parts))

@@ -2,14 +2,14 @@
 """A small emulator, shaped like AWS's Runtime Interface Emulator: one function named `function`, one port for callers,
 one for the Runtime API and the Extensions API. For tests of tools/conformance.
 
-usage: emulator.py INVOKE_PORT RUNTIME_PORT TIMEOUT [FAULT ..]     it writes a line once it listens, and runs until it
-is ended"""
+usage: emulator.py INVOKE_PORT RUNTIME_PORT[,SECOND_PORT] TIMEOUT [FAULT ..]     it writes a line once it listens, and
+runs until it is ended; with a second port the function has two environments"""
 import asyncio
 import json
 import re
 import sys
 
-from faults import FAULTS
+from faults import FAULTS, OF_PAIRS
 from life import Life, Reply
 
 INVOKE = "/2015-03-31/functions/function/invocations"
@@ -17,11 +17,35 @@ RUNTIME, EXTENSION = "/2018-06-01/runtime", "/2020-01-01/extension"
 NOT_FOUND = Reply(404, {"errorMessage": "no such path", "errorType": "NotFound"})
 
 
-def of_caller(life, method, path, headers, body):
+class Lives(list):
+    """The environments of the function."""
+
+    @property
+    def faults(self):
+        return self[0].faults
+
+    @property
+    def content_type(self):
+        return self[0].content_type
+
+    def leave(self, waiting):
+        for life in self:
+            life.leave(waiting)
+
+    def free(self):
+        """The one that takes the next invocation: one that waits for it, else one that can begin."""
+        def rank(life):
+            return (not (life.phase == "idle" and life.poll), life.phase == "busy" or bool(life.invocation))
+        if "uses-one-environment" in self.faults:
+            return self[0]
+        return min(self, key=rank)
+
+
+def of_caller(lives, method, path, headers, body):
     path, _, query = path.partition("?")
     if (method, path) != ("POST", INVOKE):
         return NOT_FOUND
-    return life.invoke(body, headers.get("x-amzn-trace-id"), query == "Qualifier=$LATEST")
+    return lives.free().invoke(body, headers.get("x-amzn-trace-id"), query == "Qualifier=$LATEST")
 
 
 def of_environment(life, method, path, headers, body):
@@ -74,12 +98,16 @@ async def serve(life, routes, reader, writer):
 
 
 async def main(invoke_port, runtime_port, timeout, *faults):
-    if unknown := set(faults) - set(FAULTS):
+    if unknown := set(faults) - set(FAULTS) - set(OF_PAIRS):
         sys.exit(f"no such fault: {' '.join(unknown)}")
-    life = Life(float(timeout), faults)
-    servers = [await asyncio.start_server(lambda reader, writer, routes=routes: serve(life, routes, reader, writer),
-                                          "127.0.0.1", int(port))
-               for port, routes in ((invoke_port, of_caller), (runtime_port, of_environment))]
+    ports = runtime_port.split(",")
+    lives = Lives(Life(float(timeout), faults) for _ in ports)
+    for life in lives:
+        life.all = lives
+    servers = [await asyncio.start_server(
+        lambda reader, writer, life=life, routes=routes: serve(life, routes, reader, writer), "127.0.0.1", int(port))
+        for port, life, routes in ((invoke_port, lives, of_caller),
+                                   *((port, life, of_environment) for port, life in zip(ports, lives)))]
     print("listening", flush=True)
     await asyncio.gather(*(server.serve_forever() for server in servers))
 

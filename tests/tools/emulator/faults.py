@@ -56,4 +56,10 @@ FAULTS = {
     "counts-characters": "the length of a reply is that of its characters",
     "types-by-number": "errorType of a refusal is a number",
 }
+OF_PAIRS = {  # of a function with two environments
+    "uses-one-environment": "its second environment gets no invocation",
+    "mixes-environments": "an answer counts for the invocation of the other environment",
+    "ends-both-environments": "the failure of an extension ends both",
+    "shares-extensions": "an extension is known to the other environment",
+}
 LATER = {"tells-a-later-deadline": 2000, "tells-events-another-deadline": 5000}  # milliseconds

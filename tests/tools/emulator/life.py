@@ -43,7 +43,7 @@ UNKNOWN, ACCEPTED = refusal(403, "Extension.UnknownExtensionIdentifier"), Reply(
 
 class Life:
     def __init__(self, timeout, faults):
-        self.timeout, self.faults = timeout, faults
+        self.timeout, self.faults, self.all = timeout, faults, [self]
         self.content_type = "text/plain" if "sends-plain-text" in faults else "application/json"
         self.phase, self.invocation, self.answered = "starting", None, False
         self.poll, self.extensions, self.earlier, self.queue = None, {}, {}, []
@@ -245,6 +245,10 @@ class Life:
         return self._answered(identifier, body, True)
 
     def _answered(self, identifier, body, failed):
+        other = next((life for life in self.all if life is not self and life.invocation
+                      and life.invocation.id == identifier), None)
+        if other and "mixes-environments" in self.faults:
+            return other._answered(identifier, body, failed)
         if "takes-late-responses" in self.faults and identifier == self.late:
             return ACCEPTED
         if self.phase != "busy" or self.answered:
@@ -332,13 +336,16 @@ class Life:
         if self.phase == "closing":
             self._look_at_end()
         else:
-            self._fail(body)
-            self._close("failure")
+            for life in self.all if "ends-both-environments" in self.faults else [self]:
+                life._fail(body)
+                life._close("failure")
         return self._accepted()
 
     def _extension(self, identifier):
         if "keeps-extensions" in self.faults and identifier in self.earlier:
             return self.earlier[identifier]
+        if "shares-extensions" in self.faults:
+            return next((life.extensions[identifier] for life in self.all if identifier in life.extensions), None)
         return self.extensions.get(identifier)
 
 

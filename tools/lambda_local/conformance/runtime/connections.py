@@ -91,8 +91,9 @@ def connection_ends(stage: Stage) -> None:
     environment = stage.environment
     stage.idle()
     environment.proxy.of("next")[-1].by_rule = Rule("next", close=True)
-    output = stage.output({"do": "sleep", "value": WORKS})
-    if output != WORKS:
+    works = round(WORKS * CLOCK.slowness())  # (so that the end is surely there when the handler returns)
+    output = stage.output({"do": "sleep", "value": works})
+    if output != works:
         return stage.check("connection_end", False, f"the caller received {shown(output)}")
     if fault := fault_after(stage, "after the connection's end", environment.process):
         return stage.check("connection_end", False, fault)

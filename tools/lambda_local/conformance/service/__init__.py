@@ -1,4 +1,4 @@
-"""Compares another local Lambda, with one environment, with the definitions.
+"""Compares another local Lambda, with one environment or two, with the definitions.
 
   lambda_local conformance service --invoke http://127.0.0.1:8080 --runtime 127.0.0.1:9001
   lambda_local conformance service --invoke URL --runtime HOST:PORT --seconds 60 --seed 7 --known accepted.txt --junit
@@ -25,7 +25,8 @@ from .calls import Call
 from .course import ANSWER_SECONDS, SURELY, Course, Difference, Played, Unrecoverable
 from .known import KnownDifferences
 from .minimise import Undecided, confirmed, minimised
-from .oracle import FRESH, WARM, Oracle, Plan, left_polls
+from .oracle import FRESH, WARM, Oracle, Plan, counts_at, left_polls
+from .pairs import pairs_of
 from .random_sequences import Generator
 from .report import Report
 from .sequences import plans_of, timed, worked
@@ -43,9 +44,9 @@ class Run:
 
     def __init__(self, options: argparse.Namespace, report: Report) -> None:
         self.options, self.report = options, report
-        self.tested = tested_by(options.invoke, options.runtime, options.function)
+        self.tested = tested_by(options.invoke, options.runtime, options.function, options.second)
         self.course = Course(self.tested, KnownDifferences(options.known), USUAL_TIMEOUT)
-        self.oracle = Oracle(program_path(options.program), USUAL_TIMEOUT)
+        self.oracle = Oracle(program_path(options.program), USUAL_TIMEOUT, self.tested.environments)
         self.generator, self.begun = Generator(random.Random(options.seed)), time.monotonic()
         self.reported: Set[Tuple[str, str, str]] = set()  # of differences, the words
 
@@ -76,6 +77,8 @@ class Run:
         return self.course.ask(Call("next"), {}, SURELY) in (0, 200, 202, 403, 500)
 
     def everything(self) -> None:
+        if self.options.second:
+            return self.play_all(pairs_of(self.oracle))
         with_timeouts = self.oracle.timeout <= MOST_TIMEOUT
         share = 0.0
         for start, until in ((FRESH, FRESH_SHARE), (WARM, 1.0)):
@@ -86,6 +89,10 @@ class Run:
             share = until
         if not with_timeouts:
             self.report.write(f"left out: sequences with a timeout, since it is {self.oracle.timeout} s")
+
+    def play_all(self, plans: List[Plan]) -> None:
+        """Plays these, which are worked ones."""
+        self.play(plans, False)
 
     def _random(self, start: str, share: float, until: float) -> None:
         """Random sequences until their share of the number or of the time is used up."""
@@ -119,7 +126,8 @@ class Run:
             difference = confirmed(self.course, self.oracle, plan)
             if not difference or difference.words in self.reported:
                 return
-            difference = minimised(self.course, self.oracle, difference)
+            if not self.options.second:
+                difference = minimised(self.course, self.oracle, difference)
         except Undecided:
             self.report.undecided += 1
             return
@@ -140,7 +148,8 @@ class Run:
         entries = {place: place for place in range(len(plan.sequence.calls))}  # (each call is one)
         left = left_polls(plan.sequence, plan.steps, entries)
         for place, (call, moment) in enumerate(zip(plan.sequence.calls, difference.moments)):
-            lines.append(f"{moment} {call.script(1, 'f1', plan.counts, left.get(place))}")
+            known = counts_at(plan.sequence, plan.counts, call.environment)
+            lines.append(f"{moment} {call.script(call.environment, 'f1', known, left.get(place))}")
         return lines
 
 
@@ -163,6 +172,9 @@ def main(words: List[str]) -> int:
     parser = parser_of("conformance service", __doc__, made=Parser)
     parser.add_argument("--invoke", metavar="URL", help="the port for callers, for example http://127.0.0.1:8080")
     parser.add_argument("--runtime", metavar="HOST:PORT", help="the Runtime API, for example 127.0.0.1:9001")
+    parser.add_argument("--second", metavar="HOST:PORT",
+                        help="that of a second environment of the function: sequences with two are played, and no "
+                        "others")
     parser.add_argument("--function", metavar="NAME", default="function", help="the function's name (function)")
     parser.add_argument("--seconds", metavar="S", type=seconds, default=20,
                         help="how long random sequences are played (20)")
@@ -208,4 +220,4 @@ def run(whole: Run, report: Report, options: argparse.Namespace) -> int:
         report.write(f"the run ends: the service {why}")
     finally:
         whole.course.close()
-    return report.finish(whole.course, time.monotonic() - whole.begun)
+    return report.finish(whole.course, time.monotonic() - whole.begun, not options.second)

@@ -11,6 +11,8 @@
   leave                      the connection of the Next that waits ends
   hang-up a                  the caller of an invocation ends its connection
 
+  @2 next                    at the second environment, if the function has two
+
 Texts are percent-decoded, as in a script (docs/formats.md)."""
 from typing import Dict, NamedTuple, Optional, Tuple
 
@@ -31,9 +33,11 @@ class Call(NamedTuple):
     kind: str  # the script's word, or one of `MADE_BY_NONE`
     label: str = ""  # of the invocation or the extension that it is about
     fields: Tuple[str, ...] = ()  # the other words
+    environment: int = 1
 
     def __str__(self) -> str:
-        return " ".join(word for word in (self.kind, self.label, *self.fields) if word)
+        at = f"@{self.environment}" if self.environment > 1 else ""
+        return " ".join(word for word in (at, self.kind, self.label, *self.fields) if word)
 
     @property
     def body(self) -> bytes:
@@ -74,8 +78,11 @@ def calls_of(text: str) -> Tuple[Call, ...]:
     calls = []
     for line in filter(None, map(str.strip, text.splitlines())):
         kind, *words = line.split(" ")
+        environment = 1
+        if kind.startswith("@"):
+            environment, (kind, *words) = int(kind[1:]), words
         label = words.pop(0) if kind in LABELLED else ""
-        calls.append(Call(kind, label, tuple(words)))
+        calls.append(Call(kind, label, tuple(words), environment))
     return tuple(calls)
 
 

@@ -118,8 +118,10 @@ class Course:
         """Ends that of the Next that waits, or of an invocation's caller: what it would be answered is not compared."""
         call = plan.sequence.calls[step]
         kind = "next" if call.kind == "leave" else "invoke"
+        about = (kind, call.label, call.environment)
+        calls = plan.sequence.calls
         places = [place for place, exchange in exchanges.items() if not exchange.over
-                  and plan.sequence.calls[place].kind == kind and plan.sequence.calls[place].label == call.label]
+                  and (calls[place].kind, calls[place].label, calls[place].environment) == about]
         self.wire.leave([exchanges.pop(place) for place in places])
 
     def _compare(self, plan: Plan, step: int, exchanges: Dict[int, Exchange],
@@ -187,12 +189,13 @@ class Course:
             for label in extensions:
                 self.ask(Call(kind, label, ("={}",) if kind == "ext-exit-failure" else ()), self.ids)
         end = time.monotonic() + self.timeout + RESTORE_SECONDS
-        while not self._is_fresh():
+        while stale := [one for one in range(1, self.tested.environments + 1) if not self._is_fresh(one)]:
             if time.monotonic() > end:
                 raise Unrecoverable
             self.wire.drop()
             # An open invocation times out; so does one that is given to the runtime now.
-            self.send(Call("next"), {})
+            for environment in stale:
+                self.send(Call("next", environment=environment), {})
             invoke = self.send(PROBE, {})
             self.wire.collect([invoke], min(1.0, self.timeout))
             if invoke.over:
@@ -221,14 +224,15 @@ class Course:
         self.wire.collect([exchange], seconds)
         return exchange.status
 
-    def _is_fresh(self) -> bool:
+    def _is_fresh(self, environment: int) -> bool:
         """Whether an Init can fail now; then the environment begins anew, unless extensions have to end first."""
-        if self.ask(Call("init-failure", "", ("={}",)), {}, ANSWER_SECONDS) != 202:
+        failure = Call("init-failure", "", ("={}",), environment)
+        if self.ask(failure, {}, ANSWER_SECONDS) != 202:
             return False
         self.wire.drop()
         end = time.monotonic() + CLOSING_SECONDS
         while True:  # (an invocation that waited for the Closing fails with the next Init)
-            if self.ask(Call("init-failure", "", ("={}",)), {}, ANSWER_SECONDS) == 202:
+            if self.ask(failure, {}, ANSWER_SECONDS) == 202:
                 return True
             if time.monotonic() > end:
                 return False

@@ -2,6 +2,7 @@
 
 Each sequence of a script has a function and an environment of its own, so that many are replayed at once. Before each
 call there is a `tick`, whose own answer shows the entry of the call, even if environments have expired before it."""
+import collections
 import json
 import subprocess
 from typing import Dict, Iterable, Iterator, List, Mapping, NamedTuple, Optional, Set, Tuple
@@ -62,8 +63,10 @@ Steps = Tuple[Tuple[Given, ...], ...]  # the answers of each step
 
 
 class Oracle:
-    def __init__(self, program: str, timeout: int) -> None:
-        self.program, self.timeout, self.replays = program, timeout, 0
+    """`environments` is how many the function has."""
+
+    def __init__(self, program: str, timeout: int, environments: int = 1) -> None:
+        self.program, self.timeout, self.environments, self.replays = program, timeout, environments, 0
 
     def plans(self, sequences: TypingSequence[Sequence]) -> List[Plan]:
         """A plan for each of the sequences."""
@@ -98,7 +101,9 @@ class Oracle:
                 lines.append(f"{now} tick")
                 if call.kind not in BY_TICK:
                     ticket = tickets[number].get(place)
-                    lines.append(f"{now} {call.script(number + 1, f'f{number + 1}', counts[number], ticket)}")
+                    environment = number * self.environments + call.environment
+                    known = counts_at(sequence, counts[number], call.environment)
+                    lines.append(f"{now} {call.script(environment, f'f{number + 1}', known, ticket)}")
                 marks.append((number, place))
         steps, entries = self._steps(self._replay(lines), sequences, marks, times)
         left = [left_polls(*parts) for parts in zip(sequences, steps, entries)]
@@ -106,8 +111,9 @@ class Oracle:
 
     def opening(self, count: int) -> List[str]:
         """Returns the first two lines of a script with this many functions."""
-        functions = [{"name": f"f{number + 1}", "ports": [FIRST_PORT + number], "timeout": self.timeout}
-                     for number in range(count)]
+        functions = [{"name": f"f{number + 1}", "timeout": self.timeout,
+                      "ports": [FIRST_PORT + number * self.environments + place
+                                for place in range(self.environments)]} for number in range(count)]
         return ["form 2", json.dumps({"account": "123456789012", "region": "us-east-1", "functions": functions},
                                      separators=(",", ":"))]
 
@@ -159,29 +165,38 @@ def deadline_of(answer: Answer) -> int:
 
 def left_polls(sequence: Sequence, steps: Steps, entries: Entries) -> Dict[int, int]:
     """By the place of each `leave`: the ticket of the Next that waits then, if there is one."""
-    found, waiting = {}, None
+    found: Dict[int, int] = {}
+    waiting: Dict[int, int] = {}  # by environments
     for place, call in enumerate(sequence.calls):
         if call.kind == "next":
-            waiting = place
-        if call.kind == "leave" and waiting is not None:
-            found[place] = entries[waiting]
-        if any(given.call == waiting for given in steps[place]):
-            waiting = None
+            waiting[call.environment] = place
+        if call.kind == "leave" and call.environment in waiting:
+            found[place] = entries[waiting[call.environment]]
+        answered = {given.call for given in steps[place]}
+        waiting = {environment: one for environment, one in waiting.items() if one not in answered}
     return found
 
 
 def counts_of(calls: TypingSequence[Call], registered: Optional[Set[int]]) -> Counts:
-    """The count in the identifier of each label: all Invokes count, and the registrations that are taken (all, if that
-    is not known yet)."""
-    counts, invocations, extensions = {}, 0, 0
+    """The count in the identifier of each label: all Invokes count, and in each environment the registrations that are
+    taken (all, if that is not known yet)."""
+    counts: Counts = {}
+    invocations, extensions = 0, collections.Counter[int]()
     for place, call in enumerate(calls):
         if call.kind == "invoke":
             invocations += 1
             counts[False, call.label] = invocations
         elif call.kind == "register" and (registered is None or place in registered):
-            extensions += 1
-            counts[True, call.label] = extensions
+            extensions[call.environment] += 1
+            counts[True, call.label] = extensions[call.environment]
     return counts
+
+
+def counts_at(sequence: Sequence, counts: Counts, environment: int) -> Counts:
+    """Those that an environment knows: an extension's is its own environment's."""
+    homes = {call.label: call.environment for call in sequence.calls if call.kind == "register"}
+    return {(of_extension, label): count for (of_extension, label), count in counts.items()
+            if not of_extension or homes[label] == environment}
 
 
 def taken_registrations(plan: Plan) -> Set[int]:

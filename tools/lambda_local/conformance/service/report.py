@@ -45,7 +45,7 @@ class Report:
             self.write(line)
         self.suite.case("conformance service", "init-failure accepted status", 0.0, failure=title, details=page)
 
-    def finish(self, course: Course, seconds: float) -> int:
+    def finish(self, course: Course, seconds: float, needs_random: bool = True) -> int:
         """The last lines and the file: the exit status."""
         for why, count in sorted(course.known.met.items()):
             self.write(f"accepted {count} times: {why}")
@@ -58,7 +58,7 @@ class Report:
                    f"differences in {seconds:.1f} s")
         if self.path:
             self.suite.write(self.path)
-        if not self.differences and not self.random:
+        if needs_random and not self.differences and not self.random:
             self.write("no random sequence was played: this says little about the service")
             return 2
         return 1 if self.differences else 0

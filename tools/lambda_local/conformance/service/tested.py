@@ -18,6 +18,11 @@ class Tested(NamedTuple):
     invoke: Tuple[str, int]
     path: str  # of an Invoke
     runtime: Tuple[str, int]
+    second: Optional[Tuple[str, int]] = None  # of its second environment, if it has two
+
+    @property
+    def environments(self) -> int:
+        return 2 if self.second else 1
 
     def request(self, call: Call, ids: Ids) -> Request:
         """The address, method, path, headers and body of a call. `ids` has the identifier of each label."""
@@ -25,7 +30,7 @@ class Tested(NamedTuple):
             headers = [("Content-Type", "application/json"), *([("X-Amzn-Trace-Id", call.trace)] if call.trace else [])]
             path = self.path + ("?Qualifier=$LATEST" if call.qualified else "")
             return self.invoke, "POST", path, headers, call.body
-        return (self.runtime, *from_environment(call, ids))
+        return (self.second if self.second and call.environment == 2 else self.runtime, *from_environment(call, ids))
 
 
 def from_environment(call: Call, ids: Ids) -> Tuple[str, str, List[Tuple[str, str]], Optional[bytes]]:
@@ -53,8 +58,15 @@ def from_environment(call: Call, ids: Ids) -> Tuple[str, str, List[Tuple[str, st
     return "POST", EXTENSION + route, [*extension, ("Lambda-Extension-Function-Error-Type", ERROR_TYPE)], call.body
 
 
-def tested_by(invoke: str, runtime: str, function: str) -> Tested:
-    """What --invoke, --runtime and --function name."""
+def address_of(option: str, text: str) -> Tuple[str, int]:
+    host, _, number = text.rpartition(":")
+    if not host or not number.isdigit() or not 0 < int(number) < 65536:
+        raise Fault(2, f"{option} {text}: write HOST:PORT, for example 127.0.0.1:9001")
+    return host, int(number)
+
+
+def tested_by(invoke: str, runtime: str, function: str, second: Optional[str] = None) -> Tested:
+    """What --invoke, --runtime, --function and --second name."""
     found = urllib.parse.urlsplit(invoke)
     try:
         port = found.port or 80
@@ -62,9 +74,7 @@ def tested_by(invoke: str, runtime: str, function: str) -> Tested:
         port = 0
     if found.scheme != "http" or not found.hostname or not port:
         raise Fault(2, f"--invoke {invoke}: write the URL of the port for callers, for example http://127.0.0.1:8080")
-    host, _, number = runtime.rpartition(":")
-    if not host or not number.isdigit() or not 0 < int(number) < 65536:
-        raise Fault(2, f"--runtime {runtime}: write HOST:PORT, for example 127.0.0.1:9001")
     path = found.path if found.path.endswith("/invocations") else (
         f"{found.path.rstrip('/')}/2015-03-31/functions/{function}/invocations")
-    return Tested((found.hostname, port), path, (host, int(number)))
+    return Tested((found.hostname, port), path, address_of("--runtime", runtime),
+                  address_of("--second", second) if second else None)

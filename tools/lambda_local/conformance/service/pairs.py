@@ -1,0 +1,95 @@
+"""The sequences for a function with two environments. An invocation is for the one that is ready, so that it does not
+matter by which rule a service chooses; each sequence leaves both fresh."""
+from typing import List
+
+from .oracle import FRESH, Oracle, Plan, playable
+from .sequences import sequences_of
+
+PAIRS = """
+an invocation in each environment
+  register x =one -
+  ext-next x
+  next
+  invoke a ={"n":1}
+  @2 register y =two -
+  @2 ext-next y
+  @2 next
+  invoke b ={"n":2}
+  @2 response b ={"n":3}
+  response a ={"n":4}
+  next
+  @2 next
+  ext-exit-failure x REPORT
+  @2 ext-exit-failure y REPORT
+  init-failure REPORT
+  @2 init-failure REPORT
+three invocations at once
+  register x =one -
+  ext-next x
+  next
+  invoke a =1
+  @2 register y =two -
+  @2 ext-next y
+  @2 next
+  invoke b =2
+  invoke c =3
+  response a =4
+  @2 response b =5
+  ext-exit-failure x REPORT
+  @2 ext-exit-failure y REPORT
+  init-failure REPORT
+  @2 init-failure REPORT
+an answer at the other environment
+  register x =one -
+  ext-next x
+  next
+  invoke a =1
+  @2 register y =two -
+  @2 ext-next y
+  @2 next
+  invoke b =2
+  @2 response a =3
+  response b =4
+  failure b REPORT
+  response a =5
+  @2 response b =6
+  ext-exit-failure x REPORT
+  @2 ext-exit-failure y REPORT
+  init-failure REPORT
+  @2 init-failure REPORT
+an environment that fails
+  register x =one is
+  ext-next x
+  next
+  invoke a =1
+  @2 register y =two is
+  @2 ext-next y
+  @2 next
+  invoke b =2
+  ext-exit-failure x REPORT
+  @2 ext-next y
+  @2 response b =3
+  @2 next
+  invoke c =4
+  @2 response c =5
+  @2 ext-exit-failure y REPORT
+  init-failure REPORT
+  @2 init-failure REPORT
+extensions of the same name
+  register x =probe i
+  @2 register y =probe i
+  @2 ext-next x
+  ext-next y
+  ext-next x
+  @2 ext-next y
+  ext-exit-failure x REPORT
+  @2 ext-exit-failure y REPORT
+  init-failure REPORT
+  @2 init-failure REPORT
+"""
+
+
+def pairs_of(oracle: Oracle) -> List[Plan]:
+    """Plans of these."""
+    return [plan for plan in oracle.plans(sequences_of(PAIRS, FRESH))
+            if playable(plan) == plan.sequence and not plan.waiting()]
