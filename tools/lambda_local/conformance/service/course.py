@@ -15,6 +15,7 @@ ANSWER_SECONDS = 2.0  # how long an answer may take that the definitions give at
 BEYOND_SECONDS = 5.0  # and how long more one that a timeout gives
 SILENCE_SECONDS = 0.5  # how long one that is accepted to be missing is waited for
 CLOSING_SECONDS = 2.1  # how long an environment may wait for extensions that end
+OF_TIMEOUT = 0.7  # of the function's timeout, as real time, that such an answer may take at most
 SURELY = 0.05  # how long a call waits that is to be taken before the next one
 RESTORE_SECONDS = 30  # and a timeout: how long a service is brought to a fresh environment
 PROBE = Call("invoke", "probe", ("={}",))
@@ -100,8 +101,11 @@ class Course:
         answered = [one for one in given
                     if not self.known.accepts_silence((plan.sequence.calls[one.call].kind, label_of(one, False)))]
         if answered:
-            limit = self.timeout + BEYOND_SECONDS if call.kind == "wait" else patience
-            self.wire.collect([exchanges[one.call] for one in answered], limit)
+            waited_for = [exchanges[one.call] for one in answered]
+            if call.kind == "wait":
+                self.wire.collect(waited_for, self.timeout + BEYOND_SECONDS)
+            else:  # (an answer that is missing is to be missed before a deadline comes)
+                self.wire.collect(waited_for, patience, OF_TIMEOUT * self.timeout)
         elif call.kind == "wait":
             self.wire.collect(seconds=self.timeout + 0.5)
         if len(answered) < len(given):

@@ -17,6 +17,7 @@ PAGES = {"invoke": INVOKE, "next": NEXT, "response": RESPONSE, "response-too-lar
          "init-failure": INIT_ERROR, "register": REGISTER, "ext-next": EXTENSION_NEXT,
          "ext-init-failure": EXTENSION_INIT_ERROR, "ext-exit-failure": EXTENSION_EXIT_ERROR}
 TOLERANCE, MOST_TOLERANCE = 400, 1500  # milliseconds that a deadline may differ by, on a calm and on a busy machine
+SLOW_ANSWER = 300  # more that the answer may take on its way
 JSON = "application/json"
 STATUSES = {"deliver": 200, "tell": 200, "shutdown": 200, "registered": 200, "accepted": 202, "output": 200,
             "error": 200, "timeout": 200, "init-timeout": 200, "too-large-output": 200, "throttled": 429, "State": 403,
@@ -169,7 +170,7 @@ class Judge:
         deadline = self.deadlines.get(self.plan.sequence.calls[given.call].label)
         if given.answer.kind == "timeout" and deadline:
             late = exchange.wall - deadline
-            fits = -tolerance() <= late <= 2 * tolerance()
+            fits = -TOLERANCE <= late <= tolerance() + SLOW_ANSWER  # (a busy machine makes it late, and not early)
             words = f"{abs(late) / 1000:.1f} s {'after' if late > 0 else 'before'} its Lambda-Runtime-Deadline-Ms"
             yield "moment", "" if fits else words, "" if fits else "then"
         told = members(exchange)

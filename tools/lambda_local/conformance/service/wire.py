@@ -2,6 +2,7 @@
 as `lambda_local.http1` reads them. One thread."""
 import collections
 import contextlib
+import math
 import select
 import socket
 import time
@@ -105,16 +106,18 @@ class Wire:
         connection.setsockopt(socket.IPPROTO_TCP, socket.TCP_NODELAY, 1)
         return connection
 
-    def collect(self, wanted: Sequence[Exchange] = (), seconds: float = 0.0) -> None:
-        """Reads until all that is wanted is over or the time is up; without a wish, for as long as that."""
+    def collect(self, wanted: Sequence[Exchange] = (), seconds: float = 0.0, most: float = math.inf) -> None:
+        """Reads until all that is wanted is over or the time is up, of which there are at most so many real seconds;
+        without a wish, for as long as that."""
         now = CLOCK.now if wanted else time.monotonic  # (what is wanted may be late if this machine is busy)
-        end = now() + seconds
+        end, last = now() + seconds, time.monotonic() + most
         while True:
-            left = max(0.0, end - now())
+            left = max(0.0, min(end - now(), last - time.monotonic()))
             ready = select.select(list(self.open), [], [], left)[0]
             for connection in ready:
                 self._read(connection)
-            if (wanted and all(exchange.over for exchange in wanted)) or (not ready and now() >= end):
+            if (wanted and all(exchange.over for exchange in wanted)) or (
+                    not ready and (now() >= end or time.monotonic() >= last)):
                 return
 
     def _read(self, connection: socket.socket) -> None:
