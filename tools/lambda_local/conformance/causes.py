@@ -3,10 +3,13 @@ import re
 from typing import Callable, Dict, Optional, Tuple
 
 SIGNS = re.compile(r"\d+|[0-9a-f]{8}-[0-9a-f-]{27}")  # that differ from one FAIL of a cause to another
+LATER = "a later invocation: "  # what `again` writes before the words that an invocation by itself would have had
 # Checks that fail as well if one of these has failed: they say nothing new then.
 FOLLOWS: Dict[str, Tuple[str, ...]] = {
     "long_text": ("utf8",), "kinds": ("utf8", "payload_empty", "payload_null", "payload_scalars"),
-    "escapes": ("utf8", "kinds"), "payload_limit": ("long_text",), "output_limit": ("payload_limit", "long_text"),
+    "escapes": ("utf8", "kinds"), "payload_limit": ("long_text",),
+    "payload_spaces": ("payload_empty", "payload_null", "payload_scalars"),
+    "output_limit": ("payload_limit", "long_text"),
     "nesting": ("kinds",), "many_invocations": ("long_text", "payload_limit", "error_reported"),
     "function_arn": ("request_id",), "deadline": ("request_id",), "remaining_time": ("deadline",),
     "trace_id": ("request_id",), "trace_renewed": ("request_id", "trace_id"),
@@ -38,7 +41,7 @@ class Causes:
 
     def first(self, name: str, came: str, cause: str) -> Optional[str]:
         """Notes a FAIL: the check whose FAIL was told for the same cause; none if this one is to be told."""
-        key = cause or SIGNS.sub("", came)
+        key = cause or SIGNS.sub("", came.replace(LATER, ""))
         about = [one for words, names in TOLD if words.search(came) for one in names]
         has_failed: Callable[[str], bool] = self._failed.__contains__
         before = next(filter(has_failed, (*FOLLOWS.get(name, ()), *about)), None)

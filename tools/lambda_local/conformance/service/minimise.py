@@ -18,7 +18,7 @@ class Undecided(Exception):
 
 
 def confirmed(course: Course, oracle: Oracle, plan: Plan) -> Optional[Difference]:
-    """The difference of a plan if the same answer differs each time when each call has much time to be taken; else none.
+    """The difference of a plan if the same answer differs each time when each call has much time to be taken, or none.
     (What comes in its place may change with the time that it has.)"""
     first = determined(course, oracle, plan, SLOW)
     again = first and determined(course, oracle, plan, SLOWEST, 2 * ANSWER_SECONDS)
@@ -32,7 +32,7 @@ def determined(course: Course, oracle: Oracle, plan: Plan, settle: float,
     again."""
     for _ in range(TRIES):
         difference = course.play(plan, settle, patience).difference
-        if not difference or by_its_moments(oracle, difference):
+        if not difference or difference.aspect.name == "moment" or by_its_moments(oracle, difference):
             return difference
     raise Undecided
 
