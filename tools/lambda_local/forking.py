@@ -17,6 +17,10 @@ import sys
 import time
 import types
 
+if False:  # (for types alone)
+    from typing import Any, Dict, Optional, Tuple
+    Request = Dict[str, Any]
+
 LENGTH = 4  # bytes, the most significant first
 MODULE = "lambda_local_runtime"
 
@@ -26,7 +30,7 @@ def framed(message: object) -> bytes:
     return len(data).to_bytes(LENGTH, "big") + data
 
 
-def received(channel):  # type: ignore[no-untyped-def]
+def received(channel: socket.socket) -> "Tuple[Optional[Request], int]":
     """The next request with the descriptor that came with it; none at the end."""
     data, handles, wanted = b"", array.array("i"), LENGTH
     while len(data) < wanted:
@@ -39,14 +43,15 @@ def received(channel):  # type: ignore[no-untyped-def]
         data += piece
         if len(data) == LENGTH == wanted:
             wanted += int.from_bytes(data, "big")
-    return json.loads(data[LENGTH:].decode()), handles[0]
+    request: "Request" = json.loads(data[LENGTH:].decode())
+    return request, handles[0]
 
 
 def has_threads() -> bool:
     return len(os.listdir("/proc/self/task")) > 1
 
 
-def forked(channel):  # type: ignore[no-untyped-def]
+def forked(channel: socket.socket) -> "Tuple[Optional[Request], int]":
     """Serves requests. In each process that it forks, gives its request and its output; at the end, nothing."""
     while True:
         request, output = received(channel)
@@ -68,10 +73,11 @@ def forked(channel):  # type: ignore[no-untyped-def]
         pid = os.read(reading, 32)
         os.close(reading)
         os.waitpid(between, 0)
-        channel.sendall(framed({"pid": int(pid)} if pid else {"reason": "it could not fork"}))
+        answer: "Dict[str, object]" = {"pid": int(pid)} if pid else {"reason": "it could not fork"}
+        channel.sendall(framed(answer))
 
 
-def become(path, request, output):  # type: ignore[no-untyped-def]
+def become(path: str, request: "Request", output: int) -> types.ModuleType:
     """Makes this process what the runtime at this path is at its start; the module whose code is to be run."""
     os.setsid()
     os.chdir(request["cwd"])
@@ -90,17 +96,19 @@ def become(path, request, output):  # type: ignore[no-untyped-def]
     return module
 
 
-def prepared(path, channel):  # type: ignore[no-untyped-def]
+def prepared(path: str, channel: socket.socket) -> "Optional[types.CodeType]":
     """The code of the runtime, whose imports have been made; none if no fork could be as a fresh interpreter."""
     with open(path, "rb") as file:
-        code = compile(file.read(), path, "exec")
+        code: "types.CodeType" = compile(file.read(), path, "exec")
     module = types.ModuleType(MODULE)
     module.__file__ = path
     exec(code, module.__dict__)  # (as a module it only defines)
     if has_threads():  # (what starts with the interpreter has started some, and a fork has none)
         channel.sendall(framed({"reason": "there are threads"}))
         return None
-    gc.freeze() if hasattr(gc, "freeze") else None
+    if hasattr(gc, "freeze"):
+        gc.freeze()
+    del sys.modules["gc"]  # (a runtime has not imported it)
     channel.sendall(framed({"ready": True}))
     return code
 
@@ -109,6 +117,6 @@ if __name__ == "__main__":
     _channel = socket.socket(fileno=int(sys.argv[2]))
     _code = prepared(sys.argv[1], _channel)
     _request, _output = forked(_channel) if _code is not None else (None, -1)
-    if _request is not None:
+    if _request is not None and _code is not None:
         _own = sys.modules["__main__"]  # (kept: its names are in use)
         exec(_code, become(sys.argv[1], _request, _output).__dict__)

@@ -122,15 +122,15 @@ def received(channel: socket.socket) -> Tuple[Optional[Dict[str, object]], List[
 
 
 class Forker:
-    """A process that forks runtimes (`forking`): it has the imports of one that was started by these words, with these
-    variables."""
+    """A process that forks runtimes (`forking`): it has the imports of one that was started by these words, in this
+    folder and with these variables."""
 
-    def __init__(self, words: List[str], env: Mapping[str, str]):
+    def __init__(self, words: List[str], cwd: str, env: Mapping[str, str]):
         self.channel, its = socket.socketpair()
         self.channel.settimeout(FORKER_SECONDS)
         path = os.path.join(os.path.dirname(os.path.realpath(__file__)), "forking.py")
         try:
-            self.process = subprocess.Popen([*words[:-1], path, words[-1], str(its.fileno())], env=env, cwd="/",
+            self.process = subprocess.Popen([*words[:-1], path, words[-1], str(its.fileno())], env=env, cwd=cwd,
                                             stdin=subprocess.DEVNULL, stdout=subprocess.DEVNULL,
                                             stderr=subprocess.DEVNULL, start_new_session=True, pass_fds=[its.fileno()])
         except OSError:
@@ -181,8 +181,8 @@ class Forked:
 
 
 class Forkers:
-    """Those that there are, by what a fresh interpreter would begin with: its program and all variables but those that
-    name the function and the environment."""
+    """Those that there are, by what a fresh interpreter would begin with: its program, its folder, and all variables
+    but those that name the function and the environment."""
 
     def __init__(self) -> None:
         self.forkers: Dict[str, Optional[Forker]] = {}  # none for one that has failed
@@ -191,22 +191,22 @@ class Forkers:
     def start(self, words: List[str], cwd: str, env: Mapping[str, str], output: int) -> Optional[Forked]:
         """A runtime that was forked; none if it is to be started afresh. The first of its kind is."""
         kept = {name: value for name, value in env.items() if name not in OF_ENVIRONMENTS}
-        key = json.dumps([words, sorted(kept.items())])
+        key = json.dumps([words, cwd, sorted(kept.items())])
         if env.get(SWITCH) == "0" or not self.seen.get(key):
             self.seen[key] = True
             return None
         try:
-            forker = self.forkers[key] if key in self.forkers else self._made(key, words, env)
+            forker = self.forkers[key] if key in self.forkers else self._made(key, words, cwd, env)
             return Forked(forker.start(cwd, env, output)) if forker else None
         except (OSError, ValueError):
             self._failed(key)
             return None
 
-    def _made(self, key: str, words: List[str], env: Mapping[str, str]) -> Optional[Forker]:
+    def _made(self, key: str, words: List[str], cwd: str, env: Mapping[str, str]) -> Optional[Forker]:
         if len(self.forkers) >= MOST_FORKERS:
             return None
         self.forkers[key] = None  # (until it is ready)
-        self.forkers[key] = found = Forker(words, env)
+        self.forkers[key] = found = Forker(words, cwd, env)
         return found
 
     def _failed(self, key: str) -> None:

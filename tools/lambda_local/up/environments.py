@@ -161,7 +161,8 @@ class Environment(threading.Thread):
         assert self.function.command is not None  # (what has none is started by hand)
         self.generation += 1
         self.printed.begins()
-        self.runtime = Process(self.name, self.function.command, self.function.directory, self.variables, self.printed)
+        self.runtime = Process(self.name, self.function.command, self.function.directory, self.variables, self.printed,
+                               self.function.forks)
         return self.runtime
 
     def begin_unseen(self) -> bool:

@@ -96,6 +96,8 @@ class Function:
         self.variables = self._variables(member.get("variables", {}))
         self.memory: int = member.get("memory", 128)
         self.watch = [os.path.join(self.directory, name) for name in member.get("watch", ["."])]
+        # Whether its runtime is the bundled one of Python. (A debugger may look at the interpreter from its start.)
+        self.forks = programs.is_of_python(member.get("runtime")) and not debug
         self.handler: str = member.get("handler", "index.handler")
         self.member = member
         self.command = self._command(member)

@@ -18,6 +18,10 @@ def is_runtime(value: object) -> bool:
     return isinstance(value, str) and NAMED.fullmatch(value) is not None
 
 
+def is_of_python(value: object) -> bool:
+    return isinstance(value, str) and is_runtime(value) and language_of(value) == "python"
+
+
 def language_of(runtime: str) -> str:
     return "python" if runtime.startswith("python") else "node"
 

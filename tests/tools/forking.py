@@ -1,0 +1,174 @@
+#!/usr/bin/env python3
+"""Checks Python runtimes that tools/up forks from a process with their imports: each is what a fresh interpreter would
+be, ends as one would, is below the guard, and shares nothing with the others. Ends with 'N passed, M failed'."""
+import os
+import signal
+import sys
+
+ROOT = os.path.dirname(os.path.dirname(os.path.dirname(os.path.realpath(__file__))))
+sys.path[:0] = [os.path.join(ROOT, "tools"), os.path.join(ROOT, "tests", "library")]
+import counted  # noqa: E402
+from counted import check  # noqa: E402
+from up_kit import Up, children, command_of, lives, until  # noqa: E402
+
+APP = r'''import os, random, sys
+LOADED = sorted(sys.modules)
+STATE = {"count": 0}
+import colorsys
+def run(event, context):
+    do = event.get("do")
+    if do == "crash": os._exit(7)
+    if do == "exit": sys.exit(5)
+    if do == "signal": os.kill(os.getpid(), 11)
+    if do == "later": import threading; threading.Timer(0.2, os._exit, [9]).start()
+    if do == "child":
+        import subprocess
+        return subprocess.Popen(["sleep", "7773"], start_new_session=True).pid
+    if do == "hang": import time; time.sleep(60)
+    if do == "count": STATE["count"] += 1; return STATE["count"]
+    if do == "random": return [os.getpid(), random.random(), hash("a text")]
+    if do == "main":
+        import __main__, inspect
+        return [__main__.__name__, os.path.basename(__main__.__file__), callable(__main__.serve),
+                bool(inspect.getsource(__main__.serve))]
+    if do == "describe":
+        named = ("AWS_LAMBDA_RUNTIME_API", "AWS_LAMBDA_LOG_STREAM_NAME")
+        with open("/proc/self/environ", "rb") as file:
+            file.read()
+        return {"modules": LOADED, "argv": sys.argv, "path": sys.path, "directory": os.getcwd(),
+                "flags": list(sys.flags),
+                "executable": sys.executable, "prefix": sys.prefix, "sid": os.getsid(0) == os.getpid(),
+                "environment": sorted(name for name in os.environ), "own": len([os.environ[name] for name in named]),
+                "values": {name: value for name, value in os.environ.items() if name not in named},
+                "streams": [(stream.encoding, stream.errors, stream.line_buffering, stream.write_through,
+                             stream.fileno()) for stream in (sys.stdin, sys.stdout, sys.stderr)],
+                "open": sorted(os.readlink(f"/proc/self/fd/{number}").split(":")[0]
+                               for number in os.listdir("/proc/self/fd")
+                               if os.path.exists(f"/proc/self/fd/{number}")),
+                "umask": os.umask(0o022), "nice": os.nice(0)}
+    return os.getpid()
+'''
+FUNCTION = {"name": "f", "runtime": "python", "handler": "app.run", "timeout": 2, "variables": {"OF_ALL": "1"}}
+SERVER = "forking.py"
+
+
+def up_of(*options, environ=None, files={}, functions=None, **members):
+    return Up(*options, app=APP, functions=functions or [{**FUNCTION, **members}], environ=environ, files=files)
+
+
+def parent_of(pid):
+    try:
+        with open(f"/proc/{pid}/stat") as file:
+            return int(file.read().rpartition(")")[2].split()[1])
+    except OSError:
+        return 0
+
+
+def with_its_line(up):
+    """The process that forks, and those that it has forked, which have its command line."""
+    return [pid for pid in children(up.process.pid) if SERVER in command_of(pid)]
+
+
+def forkers(up):
+    """Whichever came first."""
+    return sorted(with_its_line(up))[:1]
+
+
+def again(up):
+    """The environment has its next process."""
+    seen = up.count("exited")
+    up.invoke(do="crash")
+    until(lambda: up.count("exited") > seen, 20)
+
+
+def same_as_fresh():
+    seen = {}
+    for switch in ("0", "1"):
+        up = up_of(environ={**os.environ, "LAMBDA_LOCAL_FORK": switch})
+        up.until("ready")
+        again(up)
+        again(up)
+        seen[switch] = up.invoke(patience=20, do="describe")[0]
+        check(f"LAMBDA_LOCAL_FORK={switch}", with_its_line(up) != [], switch == "1")
+        main = up.invoke(patience=20, do="main")[0]
+        check("the runtime is the main module", main, ["__main__", "runtime.py", True, True])
+        check("nothing is left", up.end(), (0, []))
+    fresh, other = seen["0"], seen["1"]
+    # (UP.json's folder and the service's ports are those of another run)
+    for place in (fresh, other):
+        for name in ("LAMBDA_LOCAL_FORK", "LAMBDA_TASK_ROOT", "PWD"):
+            place["values"].pop(name, None)
+        place["values"] = {name: value for name, value in place["values"].items() if "127.0.0.1" not in value}
+        place["path"], place["directory"] = place["path"][1:], place["path"][0] == place["directory"]
+    for name in sorted(fresh):
+        check(f"a forked runtime's {name} is a fresh one's", other[name], fresh[name])
+
+
+def apart():
+    up = up_of(environments=4)
+    up.until("ready")
+    check("of four environments three are forked, by a fourth process", len(with_its_line(up)), 4)
+    draws = {}
+    for _ in range(60):
+        pid, number, _ = up.invoke(patience=20, do="random")[0]
+        draws.setdefault(pid, number)
+    check("no two draw the same random number", len(set(draws.values())), len(draws))
+    for _ in range(2):
+        again(up)
+    counts = [up.invoke(patience=20, do="count")[0] for _ in range(3)]
+    check("each has its handler's own state", counts[0] in (1, 2, 3) and max(counts) <= 3)
+    up.end()
+
+
+def ends():
+    up = up_of()
+    up.until("ready")
+    again(up)
+    for do, said in (("crash", "exit status 7"), ("exit", "exit status 5"), ("signal", "signal 11"),
+                     ("later", "exit status 9")):
+        up.invoke(patience=20, do=do)
+        check(f"{do}: its end is told", up.until(said, 20))
+    child = up.invoke(patience=20, do="child")[0]
+    pid = up.invoke(patience=20)[0]
+    check("it is below the guard", parent_of(parent_of(pid)), up.process.pid)
+    check("what it has started lives", lives(child))
+    up.invoke(patience=20, do="hang")
+    check("and ends with it", until(lambda: not lives(child), 10))
+    pid = up.invoke(patience=20)[0]
+    for forker in forkers(up):
+        os.kill(forker, signal.SIGKILL)
+    again(up)
+    check("without the one that forks, a fresh one is started", isinstance(up.invoke(patience=20)[0], int))
+    pid = up.invoke(patience=20)[0]
+    up.process.kill()
+    check("what is forked ends with tools/up", until(lambda: not lives(pid), 10))
+    up.end(None)
+
+
+def kinds():
+    """Functions with other variables have other interpreters; one that has threads at its start forks nothing."""
+    two = [{**FUNCTION, "name": name, "environments": 2, "variables": {"PYTHONHASHSEED": seed}}
+           for name, seed in (("f", "1"), ("g", "2"))]
+    up = up_of(functions=two)
+    up.until("ready")
+    seeds = {name: {up.invoke(name, 20, do="random")[0][2] for _ in range(6)} for name in ("f", "g")}
+    check("each function has its own interpreter's seed", (len(seeds["f"]), len(seeds["g"]), seeds["f"] != seeds["g"]),
+          (1, 1, True))
+    up.end()
+    site = "import threading, time\nthreading.Thread(target=time.sleep, args=(600,), daemon=True).start()\n"
+    for name, text, count in (("that begins with threads", site, 0), ("with the function's own path", "", 2)):
+        up = Up(app=APP, functions=[{**FUNCTION, "environments": 2, "variables": {"PYTHONPATH": "site"}}],
+                prepare=lambda at: (os.mkdir(f"{at}/site"), write(f"{at}/site/sitecustomize.py", text)))  # noqa: B023
+        check(f"an interpreter {name}", (up.until("ready"), len(with_its_line(up))), (True, count))
+        path = up.invoke(patience=20, do="describe")[0]["path"]
+        check("its path", f"{up.at}/site" in path)
+        up.end()
+
+
+def write(path, text):
+    with open(path, "w") as file:
+        file.write(text)
+
+
+if __name__ == "__main__":
+    sys.exit(counted.run(same_as_fresh, apart, ends, kinds))
