@@ -98,7 +98,7 @@ def sam():
             "A": "1", "LIVE": "true", "OTHER": "orders-dev-us-east-1",
             "ARN": "arn:aws:lambda:us-east-1:123456789012:function:orders-dev-us-east-1",
             "QUEUE": "Queue.Arn", "MODE": "Open", "WHO": "123456789012/${Raw}"}},
-    }, "leaves out Table, AWS::DynamoDB::Table", "One: leaves out Layers",
+    }, "leaves out Table, AWS::DynamoDB::Table", "One: leaves out the layer x, whose content is not here",
     "One: the variable B is Table, a placeholder for the resource Table",
         "Four: it is called Four, since its FunctionName is not known here: it needs the parameter Open, which has no "
         "Default",
@@ -450,6 +450,91 @@ def places():
               (0, json.dumps(os.path.join(root, "app", "src"))))
 
 
+def layers():
+    template = {"Resources": {
+        "Shared": {"Type": "AWS::Serverless::LayerVersion", "Properties": {"ContentUri": "layer"}},
+        "Built": {"Type": "AWS::Serverless::LayerVersion", "Properties": {"ContentUri": "src"},
+                  "Metadata": {"BuildMethod": "python3.12"}},
+        "Asset": {"Type": "AWS::Lambda::LayerVersion", "Properties": {"Content": {"S3Bucket": "b", "S3Key": "k"}},
+                  "Metadata": {"aws:asset:path": "layer"}},
+        "Far": {"Type": "AWS::Lambda::LayerVersion", "Properties": {"Content": {"S3Bucket": "b", "S3Key": "k"}}},
+        "Gone": {"Type": "AWS::Serverless::LayerVersion", "Properties": {"ContentUri": "not/here"}},
+        **{name: {"Type": "AWS::Serverless::Function", "Properties": {
+            "Runtime": "python3.12", "Handler": "app.run", "CodeUri": "src", "Layers": list(listed)}}
+           for name, listed in {
+               "F": [{"Ref": "Shared"}, {"Ref": "Asset"}],
+               "G": [{"Ref": "Built"}, {"Ref": "Far"}, {"Ref": "Gone"},
+                     "arn:aws:lambda:us-east-1:1:layer:x:1"]}.items()}}}
+    case("the layers of a SAM template", template, {
+        "F": {"name": "F", "directory": "src", "environments": 1, "handler": "app.run", "layers": ["layer", "layer"],
+              **python("app.run")},
+        "G": {"name": "G", "directory": "src", "environments": 1, "handler": "app.run", "layers": ["src"],
+              **python("app.run")}},
+        "G: the layer Built is built from src: build it", "G: leaves out the layer Far, whose content is not here",
+        "G: leaves out the layer Gone: not/here is not a folder or .zip file (yet)",
+        "G: leaves out the layer arn:aws:lambda:us-east-1:1:layer:x:1, whose content is not here",
+        folders=("src", "layer/python"))
+    if HAS_YAML:
+        case("the layers of a serverless.yml", "service: s\nprovider: {name: aws, runtime: python3.12}\n"
+             "layers:\n  common-code: {path: layer}\nfunctions:\n  f:\n    handler: app.run\n"
+             "    layers: [{Ref: CommonDashcodeLambdaLayer}]\n", {
+                 "s-dev-f": {"name": "s-dev-f", "environments": 1, "handler": "app.run", "timeout": 6, "memory": 1024,
+                             "layers": ["layer"], **python("app.run")}}, folders=("layer",), name="serverless.yml")
+
+
+def schedules():
+    def sam(**events):
+        return {"Resources": {"F": {"Type": "AWS::Serverless::Function", "Properties": {
+            "Runtime": "python3.12", "Handler": "app.run", "CodeUri": "src", "Events": events}}}}
+
+    def made(schedule):
+        return {"F": {"name": "F", "directory": "src", "environments": 1, "handler": "app.run",
+                      **({"schedule": schedule} if schedule else {}), **python("app.run")}}
+    case("a schedule of SAM", sam(Tick={"Type": "Schedule", "Properties": {"Schedule": "rate(5 minutes)"}}),
+         made("rate(5 minutes)"))
+    case("two, one with its input", sam(
+        A={"Type": "Schedule", "Properties": {"Schedule": "rate(1 hour)"}},
+        B={"Type": "ScheduleV2", "Properties": {"ScheduleExpression": "cron(0 12 * * ? *)", "Input": '{"a": 1}'}}),
+        made(["rate(1 hour)", {"expression": "cron(0 12 * * ? *)", "input": {"a": 1}}]))
+    case("one that is not enabled, and one that is none here", sam(
+        A={"Type": "Schedule", "Properties": {"Schedule": "rate(1 hour)", "Enabled": False}},
+        B={"Type": "ScheduleV2", "Properties": {"ScheduleExpression": "at(2030-01-01T00:00:00)"}}), made(None),
+        "F: leaves out its event A, which is not enabled", "F: leaves out its event B, at(2030-01-01T00:00:00): ")
+    cdk = {"Resources": {
+        "Fn1": {"Type": "AWS::Lambda::Function", "Properties": {"Runtime": "python3.12", "Handler": "app.run"},
+                "Metadata": {"aws:asset:path": "src"}},
+        "Rule1": {"Type": "AWS::Events::Rule", "Properties": {
+            "ScheduleExpression": "rate(1 day)", "State": "ENABLED",
+            "Targets": [{"Arn": {"Fn::GetAtt": ["Fn1", "Arn"]}, "Id": "Target0", "Input": '{"from":"rule"}'}]}},
+        "Rule2": {"Type": "AWS::Events::Rule", "Properties": {
+            "EventPattern": {"source": ["aws.s3"]}, "Targets": [{"Arn": {"Fn::GetAtt": ["Fn1", "Arn"]}}]}}}}
+    case("a rule of CDK", cdk, {"Fn1": {"name": "Fn1", "directory": "src", "environments": 1, "handler": "app.run",
+                                        "schedule": {"expression": "rate(1 day)", "input": {"from": "rule"}},
+                                        **python("app.run")}},
+         "Rule2: leaves out this AWS::Events::Rule, which has no ScheduleExpression")
+    if HAS_YAML:
+        case("schedules of a serverless.yml", "service: s\nprovider: {name: aws, runtime: python3.12}\nfunctions:\n"
+             "  f:\n    handler: app.run\n    events:\n      - schedule: rate(10 minutes)\n"
+             "      - schedule: {rate: ['cron(0 12 * * ? *)'], input: {a: 1}}\n"
+             "      - schedule: {rate: rate(1 hour), enabled: false}\n", {
+                 "s-dev-f": {"name": "s-dev-f", "environments": 1, "handler": "app.run", "timeout": 6, "memory": 1024,
+                             "schedule": ["rate(10 minutes)",
+                                          {"expression": "cron(0 12 * * ? *)", "input": {"a": 1}}],
+                             **python("app.run")}}, "leaves out its schedule, which is not enabled",
+             name="serverless.yml")
+
+
+def grouped():
+    """What is the same of several functions is said once."""
+    of = {"Type": "AWS::Serverless::Function", "Properties": {
+        "Runtime": "python3.12", "Handler": "app.run", "CodeUri": "src",
+        "Environment": {"Variables": {"TABLE": {"Ref": "Table"}}}}}
+    _, said = made_of({"Resources": {"F": of, "G": of, "H": of, "Table": {"Type": "AWS::DynamoDB::Table"}}})
+    lines = [line for line in said.splitlines() if "placeholder" in line]
+    check("a placeholder that three functions have is one line", (len(lines), lines[0].startswith(
+        "from_template: F, G, H: the variable TABLE is ") if lines else None), (1, True))
+
+
 if __name__ == "__main__":
     sys.exit(counted.run(sam, cdk, serverless, expressions, code, numbers, names, wrong_templates,
-                         other_types, places))
+                         other_types, places, layers, schedules, grouped))

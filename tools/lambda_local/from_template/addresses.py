@@ -4,6 +4,7 @@ from typing import Iterator, List, Optional, Union
 
 from ..configuration import Members
 from ..front.routes import WrongRoute
+from . import schedules
 from .cors import Tell, cors_of, rest_cors_of
 from .routes import IMPLICIT, IMPLICIT_REST, OF_SERVERLESS, REST_OF_SERVERLESS, Mapped, Of, key_of
 from .telling import shown
@@ -62,6 +63,8 @@ class Addresses:
         events = self.properties.get("Events")
         for name, event in events.items() if isinstance(events, dict) else ():
             kind = event.get("Type") if isinstance(event, dict) else None
+            if kind in schedules.OF_SAM:
+                continue
             if kind not in ("HttpApi", "Api"):
                 self.tell(f"leaves out its event {name}, {shown(kind)}: examples/events has samples to invoke it with")
                 continue
@@ -83,6 +86,8 @@ class Addresses:
         events = self.properties.get("events")
         for event in events if isinstance(events, list) else ():
             (kind, given), = event.items() if isinstance(event, dict) and len(event) == 1 else [(event, None)]
+            if kind == "schedule":
+                continue
             if kind not in ("httpApi", "http"):
                 self.tell(f"leaves out events: {shown(kind)}")
                 continue

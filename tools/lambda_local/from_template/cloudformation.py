@@ -10,7 +10,8 @@ FUNCTION, SAM_FUNCTION = "AWS::Lambda::Function", "AWS::Serverless::Function"
 # Read once the functions are known
 TAKEN_LATER = re.compile(r"AWS::Lambda::Url|AWS::Serverless::(Http)?Api|"
                          r"AWS::ApiGateway::(RestApi|Resource|Method|Stage)|"
-                         r"AWS::ApiGatewayV2::(Api|Route|Integration|Stage)")
+                         r"AWS::ApiGatewayV2::(Api|Route|Integration|Stage)|AWS::(Serverless|Lambda)::LayerVersion|"
+                         r"AWS::Events::Rule|AWS::Scheduler::Schedule")
 ASSET = "aws:asset:path"  # CDK says here, of what it has staged, in which folder it is
 
 

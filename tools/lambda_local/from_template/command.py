@@ -29,6 +29,7 @@ from .gateway_resources import add_routes
 from .reading import read
 from .resources import add_urls, apis_of
 from .routes import Apis
+from .rules import add_schedules
 from .telling import Fault, tell
 from .values import REGION
 
@@ -57,6 +58,7 @@ def up_of(path: str) -> Members:
         raise Fault(f"{path} has no function")
     if is_of_resources:
         add_urls(functions, scope)
+        add_schedules(functions, scope)
         apis = {**apis_of(whole, scope), **add_routes(functions, scope)}
     else:
         assert isinstance(scope, serverless.ServerlessScope)
@@ -73,12 +75,18 @@ def place(functions: List[Members], template: str, folder: Optional[str]) -> Non
         code = os.path.join(base, made.pop("directory", ""))
         if not os.path.isdir(code):
             tell(f"{made['name']}: {code} is not a folder (yet): lambda_local up needs it")
-        if folder is None:
-            code = os.path.normpath(code)
-        else:
-            code = os.path.relpath(os.path.realpath(code), os.path.realpath(folder))
+        code = seen_from(folder, code)
         if code != ".":
             made["directory"] = code
+        if "layers" in made:
+            made["layers"] = [seen_from(folder, os.path.join(base, path)) for path in made["layers"]]
+
+
+def seen_from(folder: Optional[str], path: str) -> str:
+    """A path as it is seen from a folder; from the root if there is none."""
+    if folder is None:
+        return os.path.normpath(path)
+    return os.path.relpath(os.path.realpath(path), os.path.realpath(folder))
 
 
 def folder_of_output() -> Optional[str]:

@@ -7,12 +7,13 @@ import shutil
 from typing import Dict, List, Optional, Sequence, Tuple
 
 from ..configuration import Members
-from . import addresses
-from .telling import shown, tell
+from . import addresses, schedules
+from .layers import layers_of
+from .telling import Grouped, shown, tell
 from .values import NO_VALUE, Scope, Unknown, is_scalar, text_of
 
 READ = {"FunctionName", "Handler", "Timeout", "ReservedConcurrentExecutions", "Environment", "Runtime", "CodeUri",
-        "Code", "InlineCode", "MemorySize", "PackageType", "ImageUri", "ImageConfig", *addresses.READ}
+        "Code", "InlineCode", "MemorySize", "PackageType", "ImageUri", "ImageConfig", "Layers", *addresses.READ}
 MOST_ENVIRONMENTS = 10  # of a function that reserves more: each is a process
 MOST_IN_ALL, MOST_FUNCTIONS = 256, 64  # of a service
 NAME = re.compile(r"[A-Za-z0-9_-]{1,64}")
@@ -59,12 +60,12 @@ class Maker:
 
     is_elsewhere = False  # its code is not among the files here
 
-    def __init__(self, name: str, properties: Members, scope: Scope, base: str) -> None:
-        self.name, self.properties, self.scope, self.base = name, properties, scope, base
+    def __init__(self, name: str, properties: Members, scope: Scope, base: str, group: Grouped) -> None:
+        self.name, self.properties, self.scope, self.base, self.group = name, properties, scope, base, group
         self.made: Members = {"name": name}
 
     def tell(self, line: str) -> None:
-        tell(f"{self.name}: {line}")
+        self.group.add(self.name, line)
 
     def known(self, name: str) -> object:
         """Returns a property's value; None if it is absent, or unknown, which is reported. A placeholder is unknown."""
@@ -105,6 +106,8 @@ class Maker:
         found = addresses.Addresses(self.properties, self.scope, self.tell)
         self.put("url", found.url())
         self.put("routes", found.routes() or None)
+        self.put("layers", layers_of(self.properties.get("Layers"), self.scope, self.base, self.tell) or None)
+        schedules.put(self.made, schedules.of_events(self.properties, self.scope, self.tell))
         if left := sorted(str(name) for name in set(self.properties) - READ):
             self.tell(f"leaves out {', '.join(left)}")
         return self.made
@@ -230,7 +233,9 @@ def functions_of(listed: List[Tuple[str, Members]], scope: Scope, base: str) -> 
         tell(f"leaves out the function {key}: {MOST_FUNCTIONS} are the most")
     listed = listed[:MOST_FUNCTIONS]
     scope.functions = names_of(listed, scope)
-    made = [Maker(scope.functions[key], properties, scope, base).make() for key, properties in listed]
+    group = Grouped()
+    made = [Maker(scope.functions[key], properties, scope, base, group).make() for key, properties in listed]
+    group.say()
     left = MOST_IN_ALL - len(made)
     for function in made:
         given = min(function["environments"], 1 + left)

@@ -4,16 +4,17 @@ import re
 from typing import Dict, List, Tuple
 
 from ..configuration import Members
+from . import layers
 from .routes import OF_SERVERLESS, REST_OF_SERVERLESS
 from .telling import shown, tell
 from .values import ACCOUNT, REGION, Scope, Unknown, is_scalar, members_of, text_of
 
 PROPERTIES = {"name": "FunctionName", "handler": "Handler", "timeout": "Timeout",
               "reservedConcurrency": "ReservedConcurrentExecutions",
-              "runtime": "Runtime", "memorySize": "MemorySize", "image": "ImageUri"}
-SHARED = ("timeout", "runtime", "memorySize")  # of `provider`, for all functions
+              "runtime": "Runtime", "memorySize": "MemorySize", "image": "ImageUri", "layers": "Layers"}
+SHARED = ("timeout", "runtime", "memorySize", "layers")  # of `provider`, for all functions
 DEFAULTS = {"Timeout": 6, "MemorySize": 1024}  # the Serverless Framework's own
-TAKEN = {"service", "provider", "functions", "frameworkVersion", "custom", "params"}
+TAKEN = {"service", "provider", "functions", "frameworkVersion", "custom", "params", "layers"}
 INNERMOST = re.compile(r"\$\{([^${}]*)\}")
 SOURCE = re.compile(r"""\s*(?:(?P<quote>["'])(?P<text>.*?)(?P=quote)|(?P<source>[^,]+))\s*(?:,|$)""")
 LITERALS = {"true": True, "false": False, "null": None}
@@ -33,6 +34,7 @@ class ServerlessScope(Scope):
         self.provider: Members = {"stage": "dev", "region": REGION, **members_of(whole, "provider")}
         self.whole = {"service": "service", **whole, "provider": self.provider}
         super().__init__(members_of(whole, "resources"), stack)
+        self.layers = layers.of_serverless(whole)
         self.stage, self.region = "dev", REGION  # (as options, until they are known)
         self.stage = self.setting("stage", self.stage)
         self.region = self.pseudo["AWS::Region"] = self.setting("region", self.region)

@@ -55,6 +55,7 @@ class Scope:
         self.parameters, self.conditions = members_of(template, "Parameters"), members_of(template, "Conditions")
         self.mappings, self.resources = members_of(template, "Mappings"), members_of(template, "Resources")
         self.functions: Dict[str, str] = {}
+        self.layers: Dict[str, str] = {}  # the path of each that is not among the resources, by its logical id
         self.placeholders: List[str] = []
         self.depth = self.steps = 0
         self.pseudo: Dict[str, object] = {
