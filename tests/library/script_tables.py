@@ -1,4 +1,6 @@
-"""The cases of a table of scripts, in the form that docs/checks.md describes under "Adding a case"."""
+"""The cases of a table of scripts, in the form that docs/checks.md describes under "Adding a case", and what a program
+makes of one."""
+import subprocess
 from typing import NamedTuple
 
 
@@ -56,3 +58,11 @@ def case_of(name, lines):
     if kind != "gives":
         raise ValueError(f"{name}: its last part is {kind!r}, not 'gives'")
     return Case(name, script, "".join(line + "\n" for line in given))
+
+
+def fault_of(program, case):
+    """What is wrong with what this program makes of a case; nothing if it gives what is wanted."""
+    ran = subprocess.run([program, "replay"], input=case.script, stdout=subprocess.PIPE, stderr=subprocess.PIPE,
+                         timeout=60)
+    seen = ran.stdout.decode() + (f"{ran.stderr.decode().strip()}, status {ran.returncode}\n" if ran.returncode else "")
+    return "" if seen == case.gives else f"gives {seen!r}, wanted {case.gives!r}"

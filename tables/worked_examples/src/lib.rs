@@ -30,7 +30,7 @@ enum Table {
 
 /// The files. Those whose shortest case is long come last: a test that lets each allocation fail in
 /// turn reaches them least often.
-const TABLES: [(&str, Table); 43] = [
+const TABLES: [(&str, Table); 42] = [
     ("parts/names.txt", Table::Parts(parts::Table::Names)),
     (
         "parts/identifiers.txt",
@@ -114,10 +114,6 @@ const TABLES: [(&str, Table); 43] = [
     (
         "parts/long_lines.txt",
         Table::Parts(parts::Table::ScriptLines),
-    ),
-    (
-        "scripts/long_lines.txt",
-        Table::Scripts(scripts::Table::LongLines),
     ),
 ];
 

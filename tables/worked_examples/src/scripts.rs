@@ -16,8 +16,6 @@ use case_tables::{Case, CaseFault, Given};
 pub enum Table {
     /// Scripts, each replayed in every way.
     Scripts,
-    /// Scripts whose lines are too long to be replayed byte by byte.
-    LongLines,
     /// Books.
     Books,
 }
@@ -26,8 +24,7 @@ impl Table {
     /// Adds what a case gives.
     pub fn tell(self, case: &Case, given: &mut Given) -> Result<(), CaseFault> {
         match self {
-            Table::Scripts => replays::give(case, true, given),
-            Table::LongLines => replays::give(case, false, given),
+            Table::Scripts => replays::give(case, given),
             Table::Books => books::give(case, given),
         }
     }

@@ -170,27 +170,19 @@ fn push_others(way: &Way<'_>, whole: &str, given: &mut Given) -> Result<(), Case
     push_history(way.script, whole, given)
 }
 
-/// Adds what a script gives when it is replayed as a whole and, if asked to, in every other way.
-fn push_whole(
-    way: &Way<'_>,
-    wanted: &str,
-    in_every_way: bool,
-    given: &mut Given,
-) -> Result<(), CaseFault> {
+/// Adds what a script gives when it is replayed as a whole, and then in every other way.
+fn push_whole(way: &Way<'_>, wanted: &str, given: &mut Given) -> Result<(), CaseFault> {
     let whole = text_of(given.alloc(), wanted, way)?;
     given.push(whole.as_str());
-    match in_every_way {
-        true => push_others(way, whole.as_str(), given),
-        false => Ok(()),
-    }
+    push_others(way, whole.as_str(), given)
 }
 
-/// Adds the answers to a script that is replayed as a whole, and, if `in_every_way`, also byte by
-/// byte, in form 2 and from its history. Its parts are those of a script; with `reader-fails` the
-/// reader fails after the script, and with `room N` the writer takes N bytes. A case gives the
-/// answers and, after a fault, the program's line on standard error and its status.
-pub fn give(case: &Case, in_every_way: bool, given: &mut Given) -> Result<(), CaseFault> {
+/// Adds the answers to a script that is replayed as a whole, byte by byte, in form 2 and from its
+/// history. Its parts are those of a script; with `reader-fails` the reader fails after the script,
+/// and with `room N` the writer takes N bytes. A case gives the answers and, after a fault, the
+/// program's line on standard error and its status.
+pub fn give(case: &Case, given: &mut Given) -> Result<(), CaseFault> {
     let script = script_of(given.alloc(), case, &["reader-fails", "room"])?;
     let way = whole_way(case, script.as_slice())?;
-    push_whole(&way, case.wanted(), in_every_way, given)
+    push_whole(&way, case.wanted(), given)
 }
