@@ -1,4 +1,5 @@
-"""A handler of your own: `examples/runtime.py handler.greet` serves it, and so does `tools/up examples/up.json`."""
+"""A handler of your own: `examples/runtime.py handler.greet` serves it, and so does `./lambda_local up
+examples/up.json`."""
 
 
 def greet(event, context):

@@ -1,6 +1,7 @@
 #!/usr/bin/env python3
 """An extension that subscribes to telemetry and prints what it gets, an event in a line. Nothing here is of
-lambda_local: it is what runs on Lambda too. tools/up starts it with the function, if UP.json has "telemetry": true:
+lambda_local: it is what runs on Lambda too. ./lambda_local up starts it with the function, if UP.json has "telemetry":
+true:
 
   {"functions": [{"name": "greet", "runtime": "python", "handler": "handler.greet", "telemetry": true,
                   "extensions": {"telemetry.py": "./telemetry.py"}}]}

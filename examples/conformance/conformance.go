@@ -1,6 +1,7 @@
-// A runtime in Go with the handler that `tools/conformance runtime` expects, and nothing but Go's standard library.
+// A runtime in Go with the handler that `./lambda_local conformance runtime` expects, and nothing but Go's
+// standard library.
 //
-// usage: go build -o /tmp/bootstrap conformance.go && tools/conformance runtime -- /tmp/bootstrap
+// usage: go build -o /tmp/bootstrap conformance.go && ./lambda_local conformance runtime -- /tmp/bootstrap
 package main
 
 import (

@@ -1,4 +1,4 @@
-// The handler that `tools/conformance runtime` expects, for a Node runtime: _HANDLER=conformance.handler.
+// The handler that `./lambda_local conformance runtime` expects, for a Node runtime: _HANDLER=conformance.handler.
 const pause = (milliseconds) => new Promise((resolve) => setTimeout(resolve, milliseconds));
 
 const actions = {

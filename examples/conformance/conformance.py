@@ -1,4 +1,4 @@
-"""The handler that `tools/conformance runtime` expects, for a Python runtime: _HANDLER=conformance.handler."""
+"""The handler that `./lambda_local conformance runtime` expects, for a Python runtime: _HANDLER=conformance.handler."""
 import os
 import time
 

@@ -1,5 +1,5 @@
-# The handler that `tools/conformance runtime` expects, for examples/runtime.sh: _HANDLER=conformance.handler. It relies
-# on the kit's events, which are compact, `do` first and `value` last.
+# The handler that `./lambda_local conformance runtime` expects, for examples/runtime.sh: _HANDLER=conformance.handler.
+# It relies on the kit's events, which are compact, `do` first and `value` last.
 # shellcheck shell=sh
 
 handler() {

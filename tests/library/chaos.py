@@ -1,6 +1,7 @@
-"""Chaos under tools/up: events, calls, Function URLs and routes beside one another, while functions and extensions are
-killed at random, the queue fills, and the log is not read for a while. Beside it, further runs of tools/up, each with a
-command, are killed themselves (so is their front, a thread of theirs): nothing of them may be left."""
+"""Chaos under lambda_local up: events, calls, Function URLs and routes beside one another, while functions and
+extensions are killed at random, the queue fills, and the log is not read for a while. Beside it, further runs of
+lambda_local up, each with a command, are killed themselves (so is their front, a thread of theirs): nothing of them
+may be left."""
 import collections
 import http.client
 import json
@@ -123,7 +124,7 @@ class Chaos:
                     pass
 
     def kill_fronts(self):
-        """A run of tools/up at a time, which is killed at any moment."""
+        """A run of lambda_local up at a time, which is killed at any moment."""
         while self.goes_on():
             one = {"runtime": "python", "handler": "app.run", "timeout": 5}
             up = Up("--ready", "600", app=LEAVING, command=COMMAND, whole={"asynchronous": True}, functions=[
@@ -163,7 +164,7 @@ def chaos(seconds, seed=None):
         thread.join()
     one.up.reading.set()
     check("what was killed itself left nothing", one.counts["fronts that left something"], 0)
-    check("tools/up is there after chaos", lives(pid), True)
+    check("lambda_local up is there after chaos", lives(pid), True)
     ended = lambda: {found[1] for line in list(one.up.lines) if (found := EVENT.search(line)) and OVER.search(found[2])}
     until(lambda: set(one.taken) <= ended() or left_out_of(list(one.up.lines)), 120)
     after = state_of(pid)

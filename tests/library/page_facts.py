@@ -16,7 +16,7 @@ FENCED = re.compile(r"(?:^<!-- (\w[\w ]*) -->\n)?^```(\w*)\n(.*?)^```$", re.M | 
 NUMBERS = {word: number for number, word in enumerate(
     "one two three four five six seven eight nine ten eleven twelve thirteen fourteen fifteen sixteen seventeen "
     "eighteen nineteen twenty twenty-one twenty-two twenty-three twenty-four twenty-five twenty-six".split(), 1)}
-COMMAND = re.compile(r"((?:\./lambda_local |tools/)conformance (?:runtime|extension|service)"
+COMMAND = re.compile(r"(\./lambda_local conformance (?:runtime|extension|service)"
                      r"|\./lambda_local (?:check|from_template|invoke|package|rerun|timeline|up)|tools/\w+"
                      r"|tests/\w+/run|tests/must_fail/gate|tests/\w+|tables/run"
                      r"|bench/serve/\w+|bench/\w+|\./lambda_local)\b(.*)")
@@ -87,9 +87,9 @@ def sources_of(root, crate):
 
 
 # The tools whose options a page lists, each of them.
-HELPS = {"docs/up.md": ("tools/up", "tools/invoke"), "docs/rerun.md": ("tools/rerun",),
-         "docs/timeline.md": ("tools/timeline",), "docs/ci.md": ("tools/package",),
-         "docs/conformance.md": tuple(f"tools/conformance {it}" for it in ("runtime", "extension", "service"))}
+HELPS = {"docs/up.md": ("./lambda_local up", "./lambda_local invoke"), "docs/rerun.md": ("./lambda_local rerun",),
+         "docs/timeline.md": ("./lambda_local timeline",), "docs/ci.md": ("tools/package",),
+         "docs/conformance.md": tuple(f"./lambda_local conformance {it}" for it in ("runtime", "extension", "service"))}
 
 
 def help_of(root, command):

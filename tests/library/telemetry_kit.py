@@ -1,4 +1,5 @@
-"""Extensions that subscribe to telemetry, for tests with tools/up: what each is answered, and which events it gets."""
+"""Extensions that subscribe to telemetry, for tests with lambda_local up: what each is answered, and which events it
+gets."""
 import json
 import os
 import sys

@@ -1,4 +1,4 @@
-"""What the checks of tools/timeline have in common: running it, and reading what it drew."""
+"""What the checks of lambda_local timeline have in common: running it, and reading what it drew."""
 import json
 import os
 import subprocess
@@ -9,7 +9,7 @@ ROOT = os.path.dirname(os.path.dirname(os.path.dirname(os.path.realpath(__file__
 sys.path.insert(0, os.path.join(ROOT, "tools"))
 import counted  # noqa: E402
 
-TOOL = os.path.join(ROOT, "tools", "timeline")
+TOOL = [os.path.join(ROOT, "lambda_local"), "timeline"]
 PROGRAM = os.environ.get("LAMBDA_LOCAL_PROGRAM") or os.path.join(ROOT, "lambda_local")
 ENVIRONMENT = dict(os.environ, LAMBDA_LOCAL_PROGRAM=PROGRAM)
 NOWHERE = dict(os.environ, LAMBDA_LOCAL_PROGRAM="/nowhere/program")
@@ -47,7 +47,7 @@ def told(part):
 
 def run(*arguments, script=None, environment=ENVIRONMENT):
     """The tool's status, output and standard error."""
-    done = subprocess.run([TOOL, *arguments], input=None if script is None else script.encode(),
+    done = subprocess.run([*TOOL, *arguments], input=None if script is None else script.encode(),
                           stdin=None if script is not None
                           else subprocess.DEVNULL, capture_output=True, env=environment, timeout=300)
     return done.returncode, done.stdout.decode(), done.stderr.decode()

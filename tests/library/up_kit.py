@@ -1,4 +1,4 @@
-"""tools/up over functions in a folder of their own, and its lines as they come."""
+"""lambda_local up over functions in a folder of their own, and its lines as they come."""
 import atexit
 import json
 import os
@@ -13,7 +13,7 @@ import urllib.error
 import urllib.request
 
 ROOT = os.path.dirname(os.path.dirname(os.path.dirname(os.path.realpath(__file__))))
-TOOLS = os.path.join(ROOT, "tools")
+TOOLS, LAUNCHER = os.path.join(ROOT, "tools"), os.path.join(ROOT, "lambda_local")
 RUNTIME = [sys.executable, os.path.join(ROOT, "examples", "runtime.py"), "app:run"]
 HANDLER = '''import os, sys, time
 def run(event):
@@ -85,7 +85,7 @@ class Up:
         function = {"name": "f", "command": BREAKABLE, "variables": {"GREETING": "hello"}, "timeout": 1, **members}
         self.write("up.json", json.dumps({"functions": functions or [function], **whole}))
         self.lines, self.endpoint = [], None
-        self.process = subprocess.Popen([os.path.join(TOOLS, "up"), *options, "up.json", *command], cwd=self.at,
+        self.process = subprocess.Popen([LAUNCHER, "up", *options, "up.json", *command], cwd=self.at,
                                         env=environ, stdin=subprocess.DEVNULL, stderr=subprocess.PIPE,
                                         stdout=subprocess.PIPE, text=True, start_new_session=True)
         atexit.register(self.process.kill)  # (if a check fails on the way; what it has started goes with it)

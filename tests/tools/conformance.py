@@ -1,7 +1,7 @@
 #!/usr/bin/env python3
-"""Checks tools/conformance: the runtimes and the extension of examples/ pass, and so do sound ones, among them some in
-the shapes of AWS's own clients; each wrong one is caught by the check named after its mistake, and by no other. The
-program is LAMBDA_LOCAL_PROGRAM, else ./lambda_local.
+"""Checks lambda_local conformance: the runtimes and the extension of examples/ pass, and so do sound ones, among them
+some in the shapes of AWS's own clients; each wrong one is caught by the check named after its mistake, and by no other.
+The program is LAMBDA_LOCAL_PROGRAM, else ./lambda_local.
 Ends with 'N passed, M failed'.
 
 Each wrong one is run with the scenarios of its own check, and one in ten of them with all, as all that are sound; with
@@ -42,7 +42,7 @@ AT_ONCE = max(2, len(os.sched_getaffinity(0)))  # runs of the kit, each of which
 EACH = 10  # wrong programs, of which one is run with all scenarios
 WHOLE, CHOSEN = "--whole" in sys.argv, [word for word in sys.argv[1:] if word != "--whole"]
 PYTHON = [sys.executable, "-S"]  # (it starts in half the time)
-TOOL = [*PYTHON, os.path.join(ROOT, "tools", "conformance")]
+TOOL = [*PYTHON, os.path.join(ROOT, "tools"), "conformance"]
 
 
 LEAKS = {"memory", "descriptors", "threads", "children", "zombies"}  # (a machine may be too slow to judge them)

@@ -1,6 +1,6 @@
 #!/usr/bin/env python3
-"""Checks the proxy of tools/conformance: a client and a service meet through it what they meet without it, however one
-of the two ends the connection, and it records what was asked and answered. Ends with 'N passed, M failed'.
+"""Checks the proxy of lambda_local conformance: a client and a service meet through it what they meet without it,
+however one of the two ends the connection, and it records what was asked and answered. Ends with 'N passed, M failed'.
 
 usage: tests/tools/conformance_proxy.py"""
 import os

@@ -1,6 +1,6 @@
 #!/usr/bin/env python3
-"""Checks tools/conformance service: it finds nothing in lambda_local over a thousand random sequences and nothing in a
-sound emulator, and each fault that is planted in the emulator. The program is LAMBDA_LOCAL_PROGRAM, else
+"""Checks lambda_local conformance service: it finds nothing in lambda_local over a thousand random sequences and
+nothing in a sound emulator, and each fault that is planted in the emulator. The program is LAMBDA_LOCAL_PROGRAM, else
 ./lambda_local. Ends with 'N passed, M failed'.
 
 usage: tests/tools/conformance_service.py [FAULT ..]   (or `sound`, `lambda_local`, `pairs`; default: everything)"""
@@ -15,7 +15,7 @@ import xml.etree.ElementTree as xml
 
 ROOT = os.path.dirname(os.path.dirname(os.path.dirname(os.path.realpath(__file__))))
 EMULATOR = os.path.join(ROOT, "tests", "tools", "emulator")
-TOOL = [sys.executable, "-S", os.path.join(ROOT, "tools", "conformance"), "service"]
+TOOL = [sys.executable, "-S", os.path.join(ROOT, "tools"), "conformance", "service"]
 sys.path[:0] = [EMULATOR, os.path.join(ROOT, "tools"), os.path.join(ROOT, "tests", "library")]
 import counted  # noqa: E402
 from counted import check  # noqa: E402

@@ -1,6 +1,6 @@
 #!/usr/bin/env python3
 """Checks asynchronous invocations: what callers are answered, retries, destinations, the queue's bounds and its end,
-and that all else passes through tools/up unchanged. Needs boto3. The program is LAMBDA_LOCAL_PROGRAM, else
+and that all else passes through lambda_local up unchanged. Needs boto3. The program is LAMBDA_LOCAL_PROGRAM, else
 ./lambda_local. Ends with 'N passed, M failed'."""
 import contextlib
 import json

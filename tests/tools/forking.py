@@ -1,5 +1,5 @@
 #!/usr/bin/env python3
-"""Checks Python runtimes that tools/up forks from a process with their imports: each is what a fresh interpreter would
+"""Checks Python runtimes that lambda_local up forks from a process with their imports: each is what a fresh interpreter would
 be, ends as one would, is below the guard, and shares nothing with the others. Ends with 'N passed, M failed'."""
 import os
 import signal
@@ -141,7 +141,7 @@ def ends():
     check("without the one that forks, a fresh one is started", isinstance(up.invoke(patience=20)[0], int))
     pid = up.invoke(patience=20)[0]
     up.process.kill()
-    check("what is forked ends with tools/up", until(lambda: not lives(pid), 10))
+    check("what is forked ends with lambda_local up", until(lambda: not lives(pid), 10))
     up.end(None)
 
 

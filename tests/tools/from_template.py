@@ -1,6 +1,7 @@
 #!/usr/bin/env python3
-"""Checks tools/from_template: what it makes of SAM, CloudFormation, CDK and Serverless templates, what it says, and
-that what it makes runs. The program is LAMBDA_LOCAL_PROGRAM, else ./lambda_local. Ends with 'N passed, M failed'."""
+"""Checks lambda_local from_template: what it makes of SAM, CloudFormation, CDK and Serverless templates, what it says,
+and that what it makes runs. The program is LAMBDA_LOCAL_PROGRAM, else ./lambda_local. Ends with 'N passed, M
+failed'."""
 import contextlib
 import importlib.util
 import io
@@ -13,7 +14,7 @@ import time
 
 ROOT = os.path.dirname(os.path.dirname(os.path.dirname(os.path.realpath(__file__))))
 TOOLS = os.path.join(ROOT, "tools")
-FROM_TEMPLATE = os.path.join(TOOLS, "from_template")
+FROM_TEMPLATE = [os.path.join(ROOT, "lambda_local"), "from_template"]
 sys.path[:0] = [TOOLS, os.path.join(ROOT, "tests", "library")]
 import counted  # noqa: E402
 from counted import check  # noqa: E402
@@ -41,7 +42,7 @@ def made_of(template, name="template.yaml", folders=("src",)):
         with open(path, "w") as file:
             file.write(template if isinstance(template, str) else json.dumps(template))
         output = os.path.join(folder, "up.json")
-        done = subprocess.run([FROM_TEMPLATE, path, "-o", output], stdout=subprocess.PIPE, stderr=subprocess.PIPE,
+        done = subprocess.run([*FROM_TEMPLATE, path, "-o", output], stdout=subprocess.PIPE, stderr=subprocess.PIPE,
                               text=True, timeout=60)
         if done.returncode:
             return done.returncode, done.stderr
@@ -310,14 +311,14 @@ def wrong_templates():
         properties = '{Runtime: x, "A\\e[2J": 1}'
         made, said = made_of(f"Resources:\n  F: {{Type: AWS::Serverless::Function, Properties: {properties}}}\n")
         check("a name reaches no terminal", ("\x1b" in said, "A\\x1b[2J" in said), (False, True))
-    done = subprocess.run([FROM_TEMPLATE, "/no/such/file"], stderr=subprocess.PIPE, text=True)
+    done = subprocess.run([*FROM_TEMPLATE, "/no/such/file"], stderr=subprocess.PIPE, text=True)
     check("no file", (done.returncode, done.stderr),
           (2, "from_template: /no/such/file: No such file or directory: name a template\n"))
     with tempfile.TemporaryDirectory() as folder:
         path = os.path.join(folder, "t.json")
         with open(path, "w") as file:
             json.dump(function_of(), file)
-        done = subprocess.run([FROM_TEMPLATE, path, "-o", os.path.join(folder, "no", "up.json")],
+        done = subprocess.run([*FROM_TEMPLATE, path, "-o", os.path.join(folder, "no", "up.json")],
                               stderr=subprocess.PIPE, text=True)
         check("no folder to write to",
               (done.returncode, "No such file or directory" in done.stderr and "Traceback" not in done.stderr),
@@ -416,7 +417,7 @@ def other_types():
 
 
 def places():
-    """A template's function is found wherever its UP.json is, and wherever tools/up is started."""
+    """A template's function is found wherever its UP.json is, and wherever lambda_local up is started."""
     with tempfile.TemporaryDirectory() as root:
         for name in ("app/src", "made", "else where"):
             os.makedirs(os.path.join(root, name))
@@ -426,14 +427,14 @@ def places():
                 "Runtime": "python3.12"}} for key, code in (("F", "./src"), ("G", "s3://far/away"))}
         with open(os.path.join(root, "app", "template.json"), "w") as file:
             json.dump({"Resources": functions}, file)
-        shell = 'cd "$1" && "$2" "$3" '
+        shell = 'cd "$1" && "$2" "$3" "$4" '
         for name, where, template, words, wanted in (
                 ("beside it", "app", "template.json", "-o ../app/up.json", ["src", None]),
                 ("elsewhere", "else where", "../app/template.json", "-o ../made/up.json", ["../app/src", "../app"]),
                 ("through a pipe", "else where", "../app/template.json", "| cat > ../made/up.json",
                  [os.path.join(root, "app", "src"), os.path.join(root, "app")]),
                 ("by a redirection", "made", "../app/template.json", "> up.json", ["../app/src", "../app"])):
-            subprocess.run(["sh", "-c", shell + words, "sh", os.path.join(root, where), FROM_TEMPLATE, template],
+            subprocess.run(["sh", "-c", shell + words, "sh", os.path.join(root, where), *FROM_TEMPLATE, template],
                            stderr=subprocess.DEVNULL)
             made = os.path.join(root, "app" if name == "beside it" else "made", "up.json")
             with open(made) as file:
@@ -443,10 +444,10 @@ def places():
         with open(made, "w") as file:
             json.dump({"functions": whole["functions"][:1]}, file)
         command = 'curl -s -d "{}" "$AWS_ENDPOINT_URL_LAMBDA/2015-03-31/functions/F/invocations"'
-        done = subprocess.run([os.path.join(TOOLS, "up"), "../made/up.json", "--", "sh", "-c", command],
+        done = subprocess.run([os.path.join(ROOT, "lambda_local"), "up", "../made/up.json", "--", "sh", "-c", command],
                               cwd=os.path.join(root, "else where"),
                               stdout=subprocess.PIPE, stderr=subprocess.PIPE, text=True, timeout=120)
-        check("tools/up runs it from a third folder", (done.returncode, done.stdout),
+        check("lambda_local up runs it from a third folder", (done.returncode, done.stdout),
               (0, json.dumps(os.path.join(root, "app", "src"))))
 
 

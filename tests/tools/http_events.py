@@ -194,7 +194,7 @@ def of_a_template():
         template, output = (os.path.join(folder, name) for name in ("template.json", "up.json"))
         with open(template, "w") as file:
             json.dump(TEMPLATE, file)
-        subprocess.run([os.path.join(ROOT, "tools", "from_template"), template, "-o", output],
+        subprocess.run([os.path.join(ROOT, "lambda_local"), "from_template", template, "-o", output],
                        stderr=subprocess.DEVNULL, check=True)
         with open(output) as file:
             made = json.load(file)

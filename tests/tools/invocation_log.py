@@ -1,7 +1,7 @@
 #!/usr/bin/env python3
-"""Checks the log of an invocation: what Invoke answers with the log type Tail, and the lines of `tools/up --report`, by
-the forms that AWS's public pages show (Developer Guide, "Viewing CloudWatch logs for Lambda functions"; API reference,
-"Invoke"). Ends with 'N passed, M failed'."""
+"""Checks the log of an invocation: what Invoke answers with the log type Tail, and the lines of `lambda_local up
+--report`, by the forms that AWS's public pages show (Developer Guide, "Viewing CloudWatch logs for Lambda functions";
+API reference, "Invoke"). Ends with 'N passed, M failed'."""
 import base64
 import concurrent.futures
 import json
@@ -145,7 +145,7 @@ def clients():
             "LogType='Tail')['LogResult']).decode(), end='')")
     done = subprocess.run([sys.executable, "-c", code, up.endpoint], capture_output=True, text=True)
     check("boto3's LogResult", parts(done.stdout)[0], ["to standard output", "to standard error"])
-    words = [sys.executable, os.path.join(ROOT, "tools", "invoke"), "f", "--tail", "--endpoint", up.endpoint]
+    words = [sys.executable, os.path.join(ROOT, "tools"), "invoke", "f", "--tail", "--endpoint", up.endpoint]
     done = subprocess.run(words, capture_output=True, text=True)
     check("lambda_local invoke --tail", (done.stdout, parts(done.stderr)[0]),
           ("null\n", ["to standard output", "to standard error"]))

@@ -19,13 +19,13 @@ from counted import check  # noqa: E402
 from lambda_local.in_process import LambdaLocal  # noqa: E402
 from up_kit import Up  # noqa: E402
 
-INVOKE = os.path.join(ROOT, "tools", "invoke")
+INVOKE = [sys.executable, os.path.join(ROOT, "tools"), "invoke"]
 CLEAN = {name: value for name, value in os.environ.items() if name != "AWS_ENDPOINT_URL_LAMBDA"}
 
 
 def invoke(*words, stdin="", **environ):
     """The status, and what is printed on both streams."""
-    done = subprocess.run([sys.executable, INVOKE, *words], input=stdin, capture_output=True, text=True, timeout=60,
+    done = subprocess.run([*INVOKE, *words], input=stdin, capture_output=True, text=True, timeout=60,
                           env={**CLEAN, **environ})
     return done.returncode, done.stdout, done.stderr
 
@@ -64,7 +64,7 @@ def results():
         check("a function that is not there", invoke("other", **here)[2].startswith(
             "invoke: other: 404 ResourceNotFoundException: "))
         check("no log is in the answer, which is said", invoke("same", "1", "--tail", **here),
-              (0, "1\n", "invoke: the answer has no log: `tools/up` keeps what functions print\n"))
+              (0, "1\n", "invoke: the answer has no log: `lambda_local up` keeps what functions print\n"))
 
 
 def faults():
@@ -97,7 +97,7 @@ def faults():
                   (2, "", 1, True), shown=said)
     status, output, said = invoke("f", AWS_ENDPOINT_URL_LAMBDA="http://127.0.0.1:1")
     check("a service that is not there", (status, output, said),
-          (4, "", "invoke: http://127.0.0.1:1: Connection refused: start the service, for example by `tools/up "
+          (4, "", "invoke: http://127.0.0.1:1: Connection refused: start the service, for example by `lambda_local up "
                   "UP.json`, and name the address that it prints by --endpoint or AWS_ENDPOINT_URL_LAMBDA\n"))
 
 
@@ -143,11 +143,11 @@ def documented():
 
 
 def under_up():
-    up = Up(command=["--", sys.executable, INVOKE, "f", '{"do":"name"}'])
+    up = Up(command=["--", *INVOKE, "f", '{"do":"name"}'])
     status, left = up.end(None)
-    check("the command of tools/up is led to its functions", (status, left, json.loads(up.output or "0")),
+    check("the command of lambda_local up is led to its functions", (status, left, json.loads(up.output or "0")),
           (0, [], ["f", "index.handler", "hello"]))
-    up = Up(command=["--", sys.executable, INVOKE, "f", "--event"], whole={"asynchronous": True})
+    up = Up(command=["--", *INVOKE, "f", "--event"], whole={"asynchronous": True})
     check("an event is taken", (up.end(None)[0], up.has("the event is taken: ")), (0, True))
     up = Up(command=["--", os.path.join(ROOT, "examples", "invoke.sh"), "f", '{"do":"name"}'])
     check("examples/invoke.sh is led there too", (up.end(None)[0], up.output.split("\n")[-1]),

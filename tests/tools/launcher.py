@@ -91,9 +91,6 @@ def says():
             status, output, said = run(root, tool, "--help")
             check(f"{tool} --help", (status, f"lambda_local {tool} " in output, said), (0, True, ""))
             check("has no other name for a tool", re.findall(r"tools/\w+", output), [])
-            status, output, said = run(root, "--help", launcher=f"tools/{tool}")
-            check(f"tools/{tool} --help", (status, f"tools/{tool} " in output, said), (0, True, ""))
-            check("has no other name for a tool", re.findall(rf"lambda_local (?:{'|'.join(TOOLS)})\b", output), [])
         for words in (["nothing"], ["serve"], ["replay", "file"], ["serve", "a", "b"], ["path", "x"], ["--quick"]):
             status, output, said = run(root, *words)
             fine = (status == 2 and not output and said.count("\n") == 1 and "'" + " ".join(words) + "'" in said

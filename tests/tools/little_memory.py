@@ -1,8 +1,8 @@
 #!/usr/bin/env python3
 """Checks what a service does that may have little memory: how the launcher finds out how much, which limit it sets, and
 that a service of 200 MB refuses what it has no room for, 64 connections with bodies of 5 MB notwithstanding: it is not
-killed, counts each call once, and stops by itself; its history replays; tools/up says when nine tenths are used. If
-this user may make control groups of version 1, the service runs in one of 200 MB, else with LAMBDA_LOCAL_MEMORY=200.
+killed, counts each call once, and stops by itself; its history replays; lambda_local up says when nine tenths are used.
+If this user may make control groups of version 1, the service runs in one of 200 MB, else with LAMBDA_LOCAL_MEMORY=200.
 Ends with 'N passed, M failed'."""
 import contextlib
 import http.client
@@ -254,7 +254,7 @@ def fills() -> None:
 
 
 def tells() -> None:
-    """What tools/up says of a service that has little memory."""
+    """What lambda_local up says of a service that has little memory."""
     up = Up(environ={**os.environ, "LAMBDA_LOCAL_MEMORY": "32"})
     up.until("AWS_ENDPOINT_URL_LAMBDA")
     payload = json.dumps({"x": 1_000_000 * "x"}).encode()

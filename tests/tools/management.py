@@ -1,5 +1,5 @@
 #!/usr/bin/env python3
-"""Checks what the invoke port of tools/up answers of the Lambda API beside Invoke: GetFunction,
+"""Checks what the invoke port of lambda_local up answers of the Lambda API beside Invoke: GetFunction,
 GetFunctionConfiguration, ListFunctions, GetFunctionConcurrency and GetFunctionUrlConfig, the waiters of boto3 (if it is
 installed), and an error with a sentence for each other operation of the service model that botocore has. The program is
 LAMBDA_LOCAL_PROGRAM, else ./lambda_local. Ends with 'N passed, M failed'."""
@@ -159,7 +159,7 @@ def by_boto3():
         except botocore.exceptions.ClientError as fault:
             check("create_function", (fault.response["Error"]["Code"], fault.response["Error"]["Message"]),
                   ("NotImplementedException", "lambda_local has no CreateFunction: functions are those of UP.json, "
-                                              "which tools/up reads when it starts"))
+                                              "which lambda_local up reads when it starts"))
 
 
 if __name__ == "__main__":

@@ -1,6 +1,6 @@
 #!/usr/bin/env python3
-"""Checks tools/rerun: which invocations are sent and when, how outputs are compared and reported, the marker of the
-pytest plugin, and bad input. The program is LAMBDA_LOCAL_PROGRAM, else ./lambda_local. Ends with 'N passed, M
+"""Checks lambda_local rerun: which invocations are sent and when, how outputs are compared and reported, the marker of
+the pytest plugin, and bad input. The program is LAMBDA_LOCAL_PROGRAM, else ./lambda_local. Ends with 'N passed, M
 failed'."""
 import contextlib
 import glob
@@ -22,7 +22,7 @@ from counted import check  # noqa: E402
 from lambda_local.rerun import compare, play, record, report  # noqa: E402
 from lambda_local.service import Fault, Service, ask  # noqa: E402
 
-TOOL = os.path.join(ROOT, "tools", "rerun")
+TOOL = [os.path.join(ROOT, "lambda_local"), "rerun"]
 WHOLE = ('form 2\n{"account":"123456789012","accountLimit":1000,'
          '"functions":[{"extensions":[],"handler":"index.handler","name":"f","ports":[9001,9002],"timeout":3}],'
          '"invokePort":9000,"leastRemainder":100,"maxEntries":1000000,"region":"us-east-2","salt":7}\n')
@@ -262,7 +262,7 @@ def recorded_history():
 
 
 def run(*arguments):
-    done = subprocess.run([TOOL, *arguments], stdin=subprocess.DEVNULL, capture_output=True, text=True, timeout=900)
+    done = subprocess.run([*TOOL, *arguments], stdin=subprocess.DEVNULL, capture_output=True, text=True, timeout=900)
     return done.returncode, done.stdout.splitlines(), done.stderr
 
 

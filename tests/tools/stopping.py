@@ -53,7 +53,7 @@ def waits_without_descriptors():
 
 
 def waits_beside_another():
-    """tools/up has a thread that waits for the service as well."""
+    """lambda_local up has a thread that waits for the service as well."""
     seen = []
     for _ in range(30):
         with subprocess.Popen(["sleep", "0.02"]) as child:

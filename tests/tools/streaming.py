@@ -1,5 +1,5 @@
 #!/usr/bin/env python3
-"""Checks streamed responses of tools/up: by Function URLs with "invoke": "RESPONSE_STREAM" and by
+"""Checks streamed responses of lambda_local up: by Function URLs with "invoke": "RESPONSE_STREAM" and by
 InvokeWithResponseStream, of a custom runtime and of Node's streaming handlers. The program is LAMBDA_LOCAL_PROGRAM,
 else ./lambda_local. Ends with 'N passed, M failed'."""
 import http.client

@@ -1,6 +1,6 @@
 #!/usr/bin/env python3
-"""Checks the Telemetry API and the Logs API of tools/up with real processes: extensions that subscribe over HTTP and
-TCP, receivers that are slow, away or wrong, and the history of the same calls. The program is LAMBDA_LOCAL_PROGRAM,
+"""Checks the Telemetry API and the Logs API of lambda_local up with real processes: extensions that subscribe over HTTP
+and TCP, receivers that are slow, away or wrong, and the history of the same calls. The program is LAMBDA_LOCAL_PROGRAM,
 else ./lambda_local. Ends with 'N passed, M failed'."""
 import http.client
 import json

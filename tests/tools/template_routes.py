@@ -1,6 +1,6 @@
 #!/usr/bin/env python3
-"""Checks what tools/from_template makes of Function URLs, of routes and of their APIs, in SAM, CloudFormation, CDK and
-Serverless templates, as their public references have them, and that what it makes runs. The program is
+"""Checks what lambda_local from_template makes of Function URLs, of routes and of their APIs, in SAM, CloudFormation,
+CDK and Serverless templates, as their public references have them, and that what it makes runs. The program is
 LAMBDA_LOCAL_PROGRAM, else ./lambda_local. Ends with 'N passed, M failed'."""
 import json
 import os
@@ -298,7 +298,7 @@ def runs():
     # (its own runtime, also where another client is installed)
     functions = [{"name": "F", "handler": "app.lambda_handler", "runtime": "python"}]
     up = Up(*READY, functions=functions, app=APP, whole={name: made[name] for name in ("routes", "api")})
-    check("tools/up is ready", up.until("[up] ready", READY_SECONDS))
+    check("lambda_local up is ready", up.until("[up] ready", READY_SECONDS))
     address = next(found[1] for line in up.lines for found in [re.search(r"routes: (\S+)$", line)] if found)
     with Caller(address) as caller:
         caller.connection.request("GET", "/orders/7")

@@ -1,6 +1,6 @@
 #!/usr/bin/env python3
-"""Checks what tools/timeline draws of the examples, of worked scripts and of random ones, and how much memory a million
-lines take. The program is LAMBDA_LOCAL_PROGRAM, else ./lambda_local. Ends with 'N passed, M failed'."""
+"""Checks what lambda_local timeline draws of the examples, of worked scripts and of random ones, and how much memory a
+million lines take. The program is LAMBDA_LOCAL_PROGRAM, else ./lambda_local. Ends with 'N passed, M failed'."""
 import glob
 import json
 import os
@@ -190,7 +190,7 @@ def pictures():
         name = os.path.splitext(os.path.basename(path))[0]
         status, picture, said = run("--svg", os.path.join(ROOT, "examples", name + ".txt"))
         check(f"docs/pictures/{name}.svg", status == 0 and picture == open(path).read(),
-              said or "tools/timeline --svg draws another one")
+              said or "lambda_local timeline --svg draws another one")
 
 
 def history_lines(count):
@@ -220,7 +220,7 @@ def history_lines(count):
 def measured(arguments, pieces, environment=ENVIRONMENT):
     """Runs the tool over what is piped into it: its status, its greatest memory in MB, and the seconds of the
     processor."""
-    process = subprocess.Popen([TOOL, *arguments], stdin=subprocess.PIPE, env=environment, stderr=subprocess.DEVNULL)
+    process = subprocess.Popen([*TOOL, *arguments], stdin=subprocess.PIPE, env=environment, stderr=subprocess.DEVNULL)
     for piece in pieces:
         process.stdin.write(piece.encode())
     process.stdin.close()

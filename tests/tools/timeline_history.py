@@ -1,6 +1,6 @@
 #!/usr/bin/env python3
-"""Checks what tools/timeline says of histories, also of edited and of cut ones, which part of them it shows, and the
-faults that it names. The program is LAMBDA_LOCAL_PROGRAM, else ./lambda_local. Ends with 'N passed, M failed'."""
+"""Checks what lambda_local timeline says of histories, also of edited and of cut ones, which part of them it shows, and
+the faults that it names. The program is LAMBDA_LOCAL_PROGRAM, else ./lambda_local. Ends with 'N passed, M failed'."""
 import os
 import re
 import subprocess
@@ -158,7 +158,7 @@ def edited():
 
 
 def hidden():
-    """What tools/up does itself is shown on request alone."""
+    """What lambda_local up does itself is shown on request alone."""
     up = ONE.replace('"ports":[9001]', '"ports":[9001],"extensions":["lambda_local.up"]')
     script = (up + "\n0 register 1 =lambda_local.up s -\n1 register 1 =other s -\n2 ext-next 1 1\n3 ext-next 1 2\n4 "
               "next 1\n"

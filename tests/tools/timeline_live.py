@@ -1,7 +1,7 @@
 #!/usr/bin/env python3
-"""Checks tools/timeline --live: the page of a running service, who may ask for it, what it shows after many calls and
-when the service goes, and how it ends. The program is LAMBDA_LOCAL_PROGRAM, else ./lambda_local. Ends with 'N passed, M
-failed'."""
+"""Checks lambda_local timeline --live: the page of a running service, who may ask for it, what it shows after many
+calls and when the service goes, and how it ends. The program is LAMBDA_LOCAL_PROGRAM, else ./lambda_local. Ends with 'N
+passed, M failed'."""
 import contextlib
 import json
 import os
@@ -31,7 +31,7 @@ class Live:
     def __init__(self, *arguments, configuration=CONFIGURATION):
         self.service = Service(configuration)
         self.runtime = self.service.configuration["functions"][0]["ports"][0]
-        self.tool = subprocess.Popen([TOOL, "--live", self.service.endpoint_url, *arguments], stdout=subprocess.PIPE,
+        self.tool = subprocess.Popen([*TOOL, "--live", self.service.endpoint_url, *arguments], stdout=subprocess.PIPE,
                                      stderr=subprocess.PIPE, text=True, env=ENVIRONMENT)
         self.line = self.tool.stdout.readline()
         self.port = int(self.line.split(" ")[0].rstrip("/").rpartition(":")[2])
@@ -198,7 +198,7 @@ def hidden():
             ask(each.runtime, "POST", "/2020-01-01/extension/register", '{"events":[]}',
                 {"Lambda-Extension-Name": "lambda_local.up"})
         drawn = other.until(lambda drawn: "lambda_local.up" in drawn)
-        check("--all shows what tools/up does", "lambda_local.up" in drawn)
+        check("--all shows what lambda_local up does", "lambda_local.up" in drawn)
         drawn = page.until(lambda drawn: "1 calls" in drawn)
         check("else it is hidden", "1 calls" in drawn and "lambda_local.up" not in drawn, drawn[:300])
 

@@ -1,5 +1,5 @@
 #!/usr/bin/env python3
-"""Checks tools/up against real processes. The program is
+"""Checks lambda_local up against real processes. The program is
 LAMBDA_LOCAL_PROGRAM, else ./lambda_local. Ends with 'N passed, M failed'."""
 import json
 import os
@@ -104,12 +104,13 @@ def reload():
 
 
 def own_log():
-    """What tools/up writes into a watched folder does not count as a change."""
+    """What lambda_local up writes into a watched folder does not count as a change."""
     with tempfile.TemporaryDirectory() as folder:
         with open(os.path.join(folder, "up.json"), "w") as file:
             json.dump({"functions": [{"name": "f", "command": ["sleep", "100"]}]}, file)
         with open(os.path.join(folder, "log"), "w") as log:
-            child = subprocess.Popen([os.path.join(TOOLS, "up"), "--reload", "up.json"], cwd=folder, stderr=log,
+            words = [os.path.join(ROOT, "lambda_local"), "up", "--reload", "up.json"]
+            child = subprocess.Popen(words, cwd=folder, stderr=log,
                                      stdout=log)
             try:
                 child.wait(6)

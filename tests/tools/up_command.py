@@ -1,6 +1,7 @@
 #!/usr/bin/env python3
-"""Checks how tools/up begins and ends: its command and Ctrl-C, credentials, identifiers, ports, a full history, and
-that nothing outlives it. The program is LAMBDA_LOCAL_PROGRAM, else ./lambda_local. Ends with 'N passed, M failed'."""
+"""Checks how lambda_local up begins and ends: its command and Ctrl-C, credentials, identifiers, ports, a full history,
+and that nothing outlives it. The program is LAMBDA_LOCAL_PROGRAM, else ./lambda_local. Ends with 'N passed, M
+failed'."""
 import json
 import os
 import pty
@@ -17,7 +18,7 @@ ROOT = os.path.dirname(os.path.dirname(os.path.dirname(os.path.realpath(__file__
 sys.path[:0] = [os.path.join(ROOT, "tools"), os.path.join(ROOT, "tests", "library")]
 import counted  # noqa: E402
 from counted import check  # noqa: E402
-from up_kit import RUNTIME, TOOLS, Up, children, lives, until  # noqa: E402
+from up_kit import LAUNCHER, RUNTIME, TOOLS, Up, children, lives, until  # noqa: E402
 
 # A command with a teardown that takes a while.
 TIDY = '''import sys, time
@@ -65,7 +66,7 @@ def in_a_terminal():
     child, terminal = pty.fork()
     if child == 0:
         os.chdir(up.at)
-        os.execv(os.path.join(TOOLS, "up"), ["up", "up.json", "--", sys.executable, "tidy.py"])
+        os.execv(LAUNCHER, [LAUNCHER, "up", "up.json", "--", sys.executable, "tidy.py"])
     until(lambda: is_there(up, "running"), 30)
     os.write(terminal, b"\x03")
     try:
@@ -224,7 +225,7 @@ def other_ends():
           ((0, []), True))
     up = Up(command=["pytest", "-x"])
     check("a command without -- is told", (up.end(None), up.lines),
-          ((2, []), ["up: write -- before the command: tools/up up.json -- pytest -x"]))
+          ((2, []), ["up: write -- before the command: lambda_local up up.json -- pytest -x"]))
     up = Up("--ready", "1", command=["--", "true"], extensions={"late": ["sleep", "100"]})
     check("what is not ready is told with who is waited for",
           (up.end(None)[0], up.has("not ready after 1 s: f/1, which waited for its extension late, which must register "
@@ -251,7 +252,7 @@ def runtimes():
         path = os.path.join(folder, "up.json")
         with open(path, "w") as file:
             json.dump({"functions": functions[1:]}, file)
-        done = subprocess.run([sys.executable, os.path.join(TOOLS, "up"), path],
+        done = subprocess.run([sys.executable, TOOLS, "up", path],
                               env={**os.environ, "PATH": folder},
                               capture_output=True,
                               text=True)

@@ -1,6 +1,6 @@
 #!/usr/bin/env python3
-"""Checks that nothing that a function, a caller or a file gives silences tools/up, holds it up, or speaks for it:
-reports of any bytes, a log that no one reads, lines without an end, control characters. The program is
+"""Checks that nothing that a function, a caller or a file gives silences lambda_local up, holds it up, or speaks for
+it: reports of any bytes, a log that no one reads, lines without an end, control characters. The program is
 LAMBDA_LOCAL_PROGRAM, else ./lambda_local. Ends with 'N passed, M failed'."""
 import fcntl
 import http.client
@@ -27,7 +27,7 @@ from lambda_local.up.log import Log  # noqa: E402
 from lambda_local.up.output import LONGEST_LINE, read_lines  # noqa: E402
 from lambda_local.up.reports import Report, kind_in  # noqa: E402
 from ports import free_range  # noqa: E402
-from up_kit import RUNTIME, TOOLS, Up, children, command_of, lives, until  # noqa: E402
+from up_kit import LAUNCHER, RUNTIME, Up, children, command_of, lives, until  # noqa: E402
 
 # A runtime that answers an invocation with the report, in hexadecimal, that its event has; otherwise it responds.
 REPORTING = f'''#!{sys.executable}
@@ -113,13 +113,13 @@ def foreign_names():
 
 
 def unread_log():
-    """tools/up whose standard error is a pipe that no one reads."""
+    """lambda_local up whose standard error is a pipe that no one reads."""
     folder = tempfile.TemporaryDirectory()
     with open(os.path.join(folder.name, "app.py"), "w") as file:
         file.write("def run(event):\n    print('x' * 2000)\n    return 1\n")
     with open(os.path.join(folder.name, "up.json"), "w") as file:
         json.dump({"functions": [{"name": "f", "runtime": "python", "handler": "app.run"}]}, file)
-    process = subprocess.Popen([os.path.join(TOOLS, "up"), "up.json"], cwd=folder.name, stderr=subprocess.PIPE)
+    process = subprocess.Popen([LAUNCHER, "up", "up.json"], cwd=folder.name, stderr=subprocess.PIPE)
     read = b""
     while not (found := re.search(rb"AWS_ENDPOINT_URL_LAMBDA=(http://[0-9.:]+)\n", read)):
         read += os.read(process.stderr.fileno(), 4096)
@@ -311,13 +311,13 @@ def of_sessions_of_their_own():
 
 
 def killed():
-    """kill -9 of each process of tools/up, but those of functions."""
+    """kill -9 of each process of lambda_local up, but those of functions."""
     up = leaving()
-    check("after kill -9 of tools/up nothing is left", end_by(up, up.process.pid), (-9, []))
+    check("after kill -9 of lambda_local up nothing is left", end_by(up, up.process.pid), (-9, []))
     up = leaving()
     guard = next(pid for pid in children(up.process.pid) if "guarding.py" in command_of(pid))
     check("after kill -9 of its guard nothing is left", end_by(up, guard), (70, []))
-    check("which it tells", up.has("tools/up ends, since its guard process has ended"), True)
+    check("which it tells", up.has("lambda_local up ends, since its guard process has ended"), True)
     up = leaving()
     service = next(pid for pid in children(up.process.pid) if "serve" in command_of(pid).split("\0"))
     check("after kill -9 of its service nothing is left", end_by(up, service), (4, []))
@@ -326,7 +326,8 @@ def killed():
     for pid in everyone:
         if "guarding.py" not in command_of(pid):
             kill(pid)
-    check("after kill -9 of tools/up and all but its guard nothing is left", end_by(up, up.process.pid), (-9, []))
+    check("after kill -9 of lambda_local up and all but its guard nothing is left", end_by(up, up.process.pid),
+          (-9, []))
 
 
 # A command that starts a process in a session of its own, and one whose parent has ended.
@@ -335,7 +336,7 @@ COMMAND = ["--", "sh", "-c", "setsid sleep 995 >/dev/null 2>&1 & (setsid sleep 9
 
 
 def killed_with_a_command():
-    """What the command of a killed tools/up has started ends too, whatever session that is in."""
+    """What the command of a killed lambda_local up has started ends too, whatever session that is in."""
     for everyone in (False, True):
         up = Up(command=COMMAND)
         up.until("begun")
@@ -345,7 +346,7 @@ def killed_with_a_command():
         for pid in here if everyone else ():
             if "997" in command_of(pid):  # (what the shell waits for: the command ends at the same time)
                 kill(pid)
-        check(f"after kill -9 of tools/up{' and of its command' if everyone else ''} nothing is left",
+        check(f"after kill -9 of lambda_local up{' and of its command' if everyone else ''} nothing is left",
               end_by(up, up.process.pid), (-9, []))
     up = Up(command=["--", "sh", "-c", "setsid sleep 998 >/dev/null 2>&1 &"])
     until(lambda: up.process.poll() is not None, 60)
@@ -386,7 +387,7 @@ def few_ports():
 
 
 def out_of_memory():
-    """What a limit of memory does to tools/up: it is told, and TERM ends it."""
+    """What a limit of memory does to lambda_local up: it is told, and TERM ends it."""
     up = Up("--drain", "0", functions=[{"name": "f", "command": ["./slow"], "timeout": 900}],
             files={"slow": "#!/bin/sh\nulimit -v unlimited; exec " + " ".join(RUNTIME) + "\n"},
             whole={"asynchronous": True}, app="import time\ndef run(event):\n    time.sleep(600)\n")
@@ -421,7 +422,7 @@ def kill(pid):
 
 
 def end_by(up, pid):
-    """The status and what is left of tools/up, a few seconds after a process was killed."""
+    """The status and what is left of lambda_local up, a few seconds after a process was killed."""
     kill(pid)
     until(lambda: up.process.poll() is not None, 30)
     until(lambda: not any(map(up.is_here, filter(str.isdigit, os.listdir("/proc")))), 10)

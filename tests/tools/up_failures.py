@@ -1,6 +1,6 @@
 #!/usr/bin/env python3
-"""Checks what tools/up says and does when functions fail: a line for each invocation, Inits that fail, extensions that
-exit. The program is LAMBDA_LOCAL_PROGRAM, else ./lambda_local. Ends with 'N passed, M failed'."""
+"""Checks what lambda_local up says and does when functions fail: a line for each invocation, Inits that fail,
+extensions that exit. The program is LAMBDA_LOCAL_PROGRAM, else ./lambda_local. Ends with 'N passed, M failed'."""
 import json
 import os
 import pty
@@ -17,7 +17,7 @@ from counted import check  # noqa: E402
 from lambda_local.history import opened  # noqa: E402
 from lambda_local.up.reports import Report  # noqa: E402
 from lambda_local.up.restarts import Restarts  # noqa: E402
-from up_kit import RUNTIME, TOOLS, Up, until  # noqa: E402
+from up_kit import LAUNCHER, RUNTIME, Up, until  # noqa: E402
 
 REQUEST = "[0-9a-f]{8}-[0-9a-f]{4}-8[0-9a-f]{3}-8[0-9a-f]{3}-[0-9a-f]{12}"
 # Reports a failed Init as Lambda's runtime clients do, and exits.
@@ -208,14 +208,14 @@ def quietly():
 
 
 def on_a_terminal(**variables):
-    """What tools/up writes to a terminal."""
+    """What lambda_local up writes to a terminal."""
     master, slave = pty.openpty()
     up = Up(functions=[{"name": "f", "command": RUNTIME}])  # (for its folder)
     up.until("[up] ready")
     invoke = 'curl -s -d "{}" $AWS_ENDPOINT_URL_LAMBDA/2015-03-31/functions/f/invocations >/dev/null'
     environ = {**{name: value for name, value in os.environ.items() if name != "NO_COLOR"}, "TERM": "xterm",
                **variables}
-    process = subprocess.Popen([os.path.join(TOOLS, "up"), "up.json", "--", "sh", "-c", invoke], cwd=up.at,
+    process = subprocess.Popen([LAUNCHER, "up", "up.json", "--", "sh", "-c", invoke], cwd=up.at,
                                stderr=slave, stdin=subprocess.DEVNULL, env=environ)
     os.close(slave)
     written = []

@@ -1,6 +1,6 @@
 #!/usr/bin/env python3
-"""Checks what tools/up says about an invalid UP.json: one line that names file, function and member, status 2, and
-nothing left behind. The program is LAMBDA_LOCAL_PROGRAM, else ./lambda_local. Ends with 'N passed, M failed'."""
+"""Checks what lambda_local up says about an invalid UP.json: one line that names file, function and member, status 2,
+and nothing left behind. The program is LAMBDA_LOCAL_PROGRAM, else ./lambda_local. Ends with 'N passed, M failed'."""
 import glob
 import json
 import os
@@ -13,14 +13,14 @@ sys.path[:0] = [os.path.join(ROOT, "tools"), os.path.join(ROOT, "tests", "librar
 import counted  # noqa: E402
 from counted import check  # noqa: E402
 from lambda_local.configuration import SENTENCES, explained  # noqa: E402
-from up_kit import TOOLS  # noqa: E402
+from up_kit import LAUNCHER  # noqa: E402
 
 
 def told(text, folder, *options):
-    """Status and lines of tools/up over an UP.json with this text."""
+    """Status and lines of lambda_local up over an UP.json with this text."""
     with open(os.path.join(folder, "up.json"), "w") as file:
         file.write(text if isinstance(text, str) else json.dumps(text))
-    done = subprocess.run([os.path.join(TOOLS, "up"), *options, "up.json", "--", "true"], cwd=folder,
+    done = subprocess.run([LAUNCHER, "up", *options, "up.json", "--", "true"], cwd=folder,
                           capture_output=True, text=True, timeout=60, env={**os.environ, "TMPDIR": folder})
     return done.returncode, done.stderr.splitlines()
 
@@ -53,7 +53,7 @@ OF_FUNCTION = {
                                        "extensions must be an object: the name by which each registers, and its "
                                                                  'command, or null if you start it, not {"x": 5}'),
     "ten extensions": ({"extensions": [f"x{n}" for n in range(10)]},
-                       "extensions: at most nine, none of them lambda_local.up: the tenth is tools/up"),
+                       "extensions: at most nine, none of them lambda_local.up: the tenth is lambda_local up"),
     "ports that are texts": ({"ports": ["9001"]},
                              'ports must be a list of ports, one for each environment, not ["9001"]'),
     "ports and environments": ({"ports": [0, 0], "environments": 3},
@@ -141,14 +141,14 @@ def absent():
               (2, ["up: --debug x: up.json has no such function with a command"]))
         status, lines = told(one, folder, "--salt", "x")
         check("a salt that is none", (status, lines[-1]),
-              (2, "tools/up: error: argument --salt: invalid whole number below 2^64 value: 'x'"))
+              (2, "lambda_local up: error: argument --salt: invalid whole number below 2^64 value: 'x'"))
         status, lines = told(one, folder, "--relaod")
         check("an option that is none", (status, "there is no option --relaod" in lines[-1]), (2, True))
         os.remove(os.path.join(folder, "up.json"))
-        words = [os.path.join(TOOLS, "up"), "none.json"]
+        words = [LAUNCHER, "up", "none.json"]
         done = subprocess.run(words, cwd=folder, capture_output=True, text=True)
         check("an absent file", (done.returncode, done.stderr),
-              (2, "up: none.json: No such file or directory: name a file as `tools/up --help` describes it\n"))
+              (2, "up: none.json: No such file or directory: name a file as `lambda_local up --help` describes it\n"))
         done = subprocess.run([*words, "--log", "json"], cwd=folder, capture_output=True, text=True)
         check("a fault in JSON", (json.loads(done.stderr)["status"], json.loads(done.stderr)["level"]), (2, "error"))
         check("nothing is left of those", os.listdir(folder), [])
@@ -210,7 +210,7 @@ def faults():
 def examples():
     for path in glob.glob(os.path.join(ROOT, "examples", "**", "up*.json"), recursive=True):
         with tempfile.TemporaryDirectory() as folder:
-            done = subprocess.run([os.path.join(TOOLS, "up"), path, "--", "true"], cwd=folder, capture_output=True,
+            done = subprocess.run([LAUNCHER, "up", path, "--", "true"], cwd=folder, capture_output=True,
                                   text=True, timeout=60)
             check(f"{os.path.relpath(path, ROOT)} runs", done.returncode, 0)
 

@@ -211,7 +211,7 @@ def interpreters():
           (sys.executable, True))
     check("versions", (programs.version_of(sys.executable, "python"), programs.version_of("/nowhere", "node")),
           ("%d.%d" % sys.version_info[:2], ""))
-    done = subprocess.run([sys.executable, os.path.join(ROOT, "tools", "up"), "--help"], capture_output=True, text=True)
+    done = subprocess.run([sys.executable, os.path.join(ROOT, "tools"), "up", "--help"], capture_output=True, text=True)
     check("--help has the options", [name for name in ("--only", "--allow-unready") if name not in done.stdout], [])
 
 

@@ -27,7 +27,7 @@ from urllib.parse import quote, urlsplit
 
 from .paths import bundled
 from .service import Fault
-from .usage import called, parser_of
+from .usage import parser_of
 
 USAGE = "[OPTION..] NAME [PAYLOAD | FILE | - | --sample KIND]"
 NOWHERE = "http://127.0.0.1:9000"
@@ -174,7 +174,7 @@ def show_log(headers: Message) -> None:
 
 
 def say(text: object) -> None:
-    print(f"invoke: {called(str(text))}", file=sys.stderr)
+    print(f"invoke: {text}", file=sys.stderr)
 
 
 def refusal(name: str, status: int, headers: Message, body: bytes) -> str:

@@ -1,5 +1,6 @@
 #!/usr/bin/env python3
-"""An extension that does all that tools/conformance checks, in methods that the wrong ones override one by one."""
+"""An extension that does all that lambda_local conformance checks, in methods that the wrong ones override one by
+one."""
 import json
 import os
 import sys

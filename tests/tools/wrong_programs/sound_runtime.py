@@ -1,5 +1,5 @@
 #!/usr/bin/env python3
-"""A runtime that does all that tools/conformance checks, in methods that the wrong ones override one by one."""
+"""A runtime that does all that lambda_local conformance checks, in methods that the wrong ones override one by one."""
 import importlib
 import json
 import os

@@ -9,7 +9,6 @@ import importlib
 import sys
 
 from ..service import Fault
-from ..usage import called
 
 SUBCOMMANDS = ("runtime", "extension", "service")
 
@@ -17,10 +16,10 @@ SUBCOMMANDS = ("runtime", "extension", "service")
 def main() -> int:
     words = sys.argv[1:]
     if words and words[0] in ("-h", "--help"):
-        print(called(__doc__))
+        print(__doc__)
         return 0
     if not words or words[0] not in SUBCOMMANDS:
-        usage = called("lambda_local conformance --help")
+        usage = "lambda_local conformance --help"
         print(f"conformance: write one of {', '.join(SUBCOMMANDS)} as its first word (`{usage}`)", file=sys.stderr)
         return 2
     try:

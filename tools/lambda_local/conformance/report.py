@@ -16,7 +16,7 @@ LINES, WIDTH = 24, 200  # of a timeline as text
 
 
 def draw(history: str, *options: Any) -> str:
-    """What tools/timeline writes of a history."""
+    """What lambda_local timeline writes of a history."""
     done = subprocess.run([*tool("timeline"), *options], input=history.encode(), capture_output=True)
     return done.stdout.decode(errors="replace")
 

@@ -2,7 +2,6 @@
 from typing import Dict, List
 
 from .. import outgoing
-from ..usage import called
 
 
 class Fault(Exception):
@@ -10,7 +9,7 @@ class Fault(Exception):
 
 
 def tell(line: object) -> None:
-    outgoing.tell(f"from_template: {called(str(line))}")
+    outgoing.tell(f"from_template: {line}")
 
 
 class Grouped:

@@ -6,7 +6,7 @@ from typing import Any, Callable, Dict, List, Match, NamedTuple, Tuple
 
 from ..configuration import Members
 
-ACCOUNT, REGION = "123456789012", "us-east-1"  # those of tools/up
+ACCOUNT, REGION = "123456789012", "us-east-1"  # those of lambda_local up
 NO_VALUE = object()  # what AWS::NoValue stands for: the property is not there
 IN_TEXT = re.compile(r"\$\{(!?)([^${}]*)\}")  # of Fn::Sub
 NAMED_BY = {"AWS::DynamoDB::Table": "TableName", "AWS::Serverless::SimpleTable": "TableName",

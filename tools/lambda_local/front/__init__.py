@@ -1,4 +1,4 @@
-"""What is in front of the functions in tools/up: asynchronous invocations, Function URLs and HTTP routes.
+"""What is in front of the functions in lambda_local up: asynchronous invocations, Function URLs and HTTP routes.
 
 `wire` and `http` are the connections, over the reader of `lambda_local.http1`; `server` and `client` are their two
 sides, `places` and `patience` say who may stay; `origins` says which requests are taken; `passing` asks the service for

@@ -21,7 +21,7 @@ import sys
 import tempfile
 
 from ..service import Fault, NoProgram
-from ..usage import called, parser_of
+from ..usage import parser_of
 from .again import rerun
 from .compare import pointer_of
 from .functions import Functions
@@ -43,7 +43,7 @@ def options_of() -> argparse.Namespace:
     parser.add_argument("--ready", metavar="SECONDS", type=float, default=60,
                         help="wait up to SECONDS for the functions (60)")
     parser.add_argument("--verbose", action="store_true",
-                        help=called("show the lines of lambda_local up and of the functions"))
+                        help="show the lines of lambda_local up and of the functions")
     parser.add_argument("--program", metavar="P",
                         help="the program (default: LAMBDA_LOCAL_PROGRAM, else the one that comes with the tools)")
     return parser.parse_args()

@@ -1,4 +1,4 @@
-"""The functions of an UP.json, started by what tools/up has, for as long as invocations are sent to them."""
+"""The functions of an UP.json, started by what lambda_local up has, for as long as invocations are sent to them."""
 import argparse
 import threading
 from typing import Callable, List, Optional, Tuple, TypeVar
@@ -16,7 +16,7 @@ FAILED_STARTS = 3  # of an environment, before it is given up
 
 
 class Silent(Log):
-    """Says nothing of what tools/up says."""
+    """Says nothing of what lambda_local up says."""
 
     def __init__(self) -> None:
         self.form = "text"
@@ -40,7 +40,7 @@ class Functions(Session):
         super().__init__(options, Log() if verbose else Silent())
 
     def late(self) -> Tuple[List[Environment], List[Environment]]:
-        """As tools/up has it; a command that ends each time is not waited for."""
+        """As lambda_local up has it; a command that ends each time is not waited for."""
         for environment in self.environments:
             if environment.restarts.early >= FAILED_STARTS:
                 raise Fault(2, f"{self.options.up}: not ready: {self.lateness(environment)}")

@@ -1,6 +1,6 @@
 """The Telemetry API and the Logs API of Lambda, in front of an environment's own port (docs/telemetry.md).
 
-    beside        what tools/up has beside each environment, and tells it
+    beside        what lambda_local up has beside each environment, and tells it
     proxy         the port of the processes: connections that pass
     conversation  one connection, read as it passes, without sockets
     ears          what its requests and answers say

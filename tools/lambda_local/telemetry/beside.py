@@ -1,4 +1,4 @@
-"""What tools/up has beside an environment: its proxy, if the function's extensions may subscribe to telemetry;
+"""What lambda_local up has beside an environment: its proxy, if the function's extensions may subscribe to telemetry;
 otherwise nothing, at no cost."""
 import json
 import uuid

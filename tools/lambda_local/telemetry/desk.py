@@ -1,5 +1,5 @@
 """The telemetry of one environment: its story, the subscriptions of its extensions, and what they have not got yet.
-What passes on the wire, what tools/up does and what processes print come from different threads."""
+What passes on the wire, what lambda_local up does and what processes print come from different threads."""
 import json
 import threading
 import time
@@ -48,7 +48,7 @@ class Receiver:
 
 
 class Desk:
-    """`tell` says a line of tools/up. Before the first generation, and after the last one, nothing is told."""
+    """`tell` says a line of lambda_local up. Before the first generation, and after the last one, nothing is told."""
 
     def __init__(self, about: About, tell: Tell, memory: Callable[[], Optional[int]] = lambda: None,
                  clock: Callable[[], Moment] = now):

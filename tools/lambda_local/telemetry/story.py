@@ -1,5 +1,5 @@
 """What happens in one environment, as events of the Telemetry API. What it is told comes from requests and answers that
-pass, and from what tools/up does with the processes; their meaning and order are those of docs/semantics.md."""
+pass, and from what lambda_local up does with the processes; their meaning and order are those of docs/semantics.md."""
 import math
 import time
 from typing import Any, Callable, Dict, List, NamedTuple, Optional, Tuple

@@ -24,7 +24,7 @@ import sys
 import time
 
 from ..service import Fault, program_path
-from ..usage import called, parser_of
+from ..usage import parser_of
 from .drawing import Drawing, svg
 from .live import serve
 from .page import html
@@ -71,7 +71,7 @@ def arguments():
                         help="show what goes on from this moment on")
     parser.add_argument("--to", metavar="MOMENT", type=moment, dest="end", help="show what goes on up to this moment")
     parser.add_argument("--all", action="store_true",
-                        help=called("show what lambda_local up itself does as well: the extension lambda_local.up"))
+                        help="show what lambda_local up itself does as well: the extension lambda_local.up")
     parser.add_argument("--live", metavar="URL",
                         help=f"show the last calls of the service at this address (--limit, else {MOST_LIVE})")
     parser.add_argument("--scale", choices=("entries", "time"), default="entries",

@@ -4,7 +4,7 @@ from .sink import Sink
 from .words import since_words
 from .world import FAILED, outcome
 
-OF_UP = "lambda_local.up"  # the extension as which tools/up registers in each environment
+OF_UP = "lambda_local.up"  # the extension as which lambda_local up registers in each environment
 
 
 class Moment:

@@ -38,7 +38,7 @@ from typing import List
 
 from ..outgoing import tell
 from ..service import Fault
-from ..usage import called, parser_of
+from ..usage import parser_of
 from .log import Log
 from .session import Session
 
@@ -113,9 +113,9 @@ def options_of(words: List[str]) -> argparse.Namespace:
             raise Fault(2, "write a command after --, or leave -- out")
     options, others = parser().parse_known_args(words)
     if others and not others[0].startswith("-"):
-        raise Fault(2, called(f"write -- before the command: lambda_local up {options.up} -- {' '.join(others)}"))
+        raise Fault(2, (f"write -- before the command: lambda_local up {options.up} -- {' '.join(others)}"))
     if others:
-        usage = called("lambda_local up --help")
+        usage = "lambda_local up --help"
         parser().error(f"there is no option {others[0]}: {usage} names them; a command follows --")
     options.command = command
     return options

@@ -1,6 +1,6 @@
 """The processes of one environment: one generation of them after the other, as the service says.
 
-tools/up is an extension of the environment, registered for SHUTDOWN alone: so it is notified of the end of a
+lambda_local up is an extension of the environment, registered for SHUTDOWN alone: so it is notified of the end of a
 generation, and can report the end of a process."""
 import contextlib
 import http.client
@@ -24,7 +24,7 @@ from .watch import Watch
 
 FAULT = "Extension.Fault"  # how a fault of this tool itself is reported
 SHUTDOWN_SECONDS = 2.0  # an environment's, for its extensions
-SPARE = 0.1  # of them, for tools/up itself
+SPARE = 0.1  # of them, for lambda_local up itself
 SOON = 1.0  # a runtime that ends within this many seconds of its start, without an invocation, ended early
 
 
@@ -39,7 +39,7 @@ class Environment(threading.Thread):
         self.runtime: Optional[Process] = None
         self.extensions: List[Tuple[str, Process]] = []  # each with the name by which it registers
         self.generation = 0
-        self.identifier: Optional[str] = None  # of tools/up in this generation
+        self.identifier: Optional[str] = None  # of lambda_local up in this generation
         self.restarts, self.hurry = restarts, threading.Event()
         self.reporting = threading.Lock()
         self.report: Optional[bytes] = None  # what callers hear in a pause
@@ -70,10 +70,11 @@ class Environment(threading.Thread):
         except (OSError, http.client.HTTPException):
             raise
         except Exception as fault:
-            self.say(f"tools/up could not go on with this generation: {told(fault)}", level="error", kind="fault")
+            self.say(f"lambda_local up could not go on with this generation: {told(fault)}", level="error",
+                     kind="fault")
             self.end(0)
             if self.identifier is not None:
-                ask(self.port, "POST", EXTENSION + "exit/error", self.remember("tools/up failed", FAULT),
+                ask(self.port, "POST", EXTENSION + "exit/error", self.remember("lambda_local up failed", FAULT),
                     {**self.me(), "Lambda-Extension-Function-Error-Type": FAULT})
             self.restarts.note(True)
             return True

@@ -30,8 +30,8 @@ class Figures(NamedTuple):
     identifier: str
     duration: float
     memory: int
-    peak: Optional[int]  # none if its processes are not of tools/up, or none was there to be measured
-    init: Optional[float]  # of the first invocation of an environment, if tools/up has started it
+    peak: Optional[int]  # none if its processes are not of lambda_local up, or none was there to be measured
+    init: Optional[float]  # of the first invocation of an environment, if lambda_local up has started it
     status: str  # "success", "error" or "timeout"
     error: str  # the type of an error that no handler has raised
 

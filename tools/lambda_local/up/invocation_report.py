@@ -84,7 +84,7 @@ class InvocationReport(threading.Thread):
 
     def tell(self, who: str, text: str, level: str = "info", kind: str = "up", always: bool = False,
              **members: object) -> None:
-        """A line of tools/up: one about an invocation comes after that."""
+        """A line of lambda_local up: one about an invocation comes after that."""
         held = next((held for held in self.held.values() if held.name == who), None)
         if kind != "invocation" or held is None:
             self.log(who, text, level, kind, always, **members)

@@ -83,7 +83,7 @@ class Lines:
             late[-1] += f" ({', '.join(others)} has registered)"
         if generation.poll is None:
             late.append("its runtime, which must ask for its next invocation")
-        return "which waited for " + (" and ".join(late) or "tools/up")
+        return "which waited for " + (" and ".join(late) or "lambda_local up")
 
     def tell_throttled(self, at_the_end: bool = False) -> None:
         """One line for each function that was throttled, a second after the first time that it sums."""

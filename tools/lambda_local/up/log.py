@@ -1,4 +1,4 @@
-"""The lines of tools/up on standard error: who says it and when, as text or as JSON.
+"""The lines of lambda_local up on standard error: who says it and when, as text or as JSON.
 
 What reads them may be slow, or may not read at all. Whoever has a line puts it into a queue, which is bounded, and a
 thread writes. Without room, a line is left out and counted, and the log says so once there is room."""

@@ -14,15 +14,14 @@ from ..json_reader import NotJson, read_json
 from ..outgoing import is_for_the_system, is_name_of_variable
 from ..paths import bundled
 from ..service import Fault
-from ..usage import called
 from ..variables import OF_FUNCTION as VARIABLES
 from ..variables import text_of
 from . import layers, programs, sources
 from .processes import program_of
 
-NAME = "lambda_local.up"  # under which tools/up registers
+NAME = "lambda_local.up"  # under which lambda_local up registers
 LONGEST = 16 << 20  # bytes of UP.json
-MOST_EXTENSIONS = 9  # the tenth is tools/up
+MOST_EXTENSIONS = 9  # the tenth is lambda_local up
 DEBUG_TIMEOUT = 900
 LONGEST_INIT = 900  # seconds
 IDLE_SECONDS = 60  # after which an environment beyond the least number ends
@@ -137,8 +136,8 @@ class Function:
         file = programs.FILES[programs.language_of(member["runtime"])]
         path, what = bundled(file), f'"runtime": "{member["runtime"]}"'
         if path is None:
-            raise Fault(4, f"{self.where}: {what} needs {file}, which is not in the examples that come with tools/up: "
-                           f"write a command")
+            raise Fault(4, f"{self.where}: {what} needs {file}, which is not in the examples that come with "
+                           "lambda_local up: write a command")
         program, note = programs.program_of_runtime(member["runtime"], member.get("python"), self.directory, self.where)
         self.notes += [note] if note else []
         if not shutil.which(program_of(program, self.directory)):
@@ -170,7 +169,7 @@ class Function:
     def _look(self) -> None:
         """Whether its extensions can be, and the programs of its commands are there."""
         if self.command and (NAME in self.extensions or len(self.extensions) > MOST_EXTENSIONS):
-            raise Fault(2, f"{self.where}: extensions: at most nine, none of them {NAME}: the tenth is tools/up")
+            raise Fault(2, f"{self.where}: extensions: at most nine, none of them {NAME}: the tenth is lambda_local up")
         for words in filter(None, [self.command, *self.extensions.values()]):
             for word in words:
                 if not is_for_the_system(word):
@@ -218,7 +217,7 @@ def read(path: str) -> Members:
         with open(path, "rb") as file:
             whole = read_json(file.read(LONGEST + 1), longest=LONGEST)
     except OSError as fault:
-        usage = called("lambda_local up --help")
+        usage = "lambda_local up --help"
         raise Fault(2, f"{path}: {fault.strerror}: name a file as `{usage}` describes it") from None
     except NotJson as fault:
         raise Fault(2, f"{path}: this is not JSON: {fault}") from None

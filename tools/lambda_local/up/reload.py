@@ -144,7 +144,8 @@ def is_output(seen: os.stat_result) -> bool:
 
 
 def note(seen: Times, path: str) -> None:
-    """Notes a file's time, but for the file that tools/up itself writes to: it would begin all anew by saying so."""
+    """Notes a file's time, but for the file that lambda_local up itself writes to: it would begin all anew by saying
+    so."""
     try:
         seen_now = os.stat(path)
     except OSError:

@@ -1,4 +1,5 @@
-"""One run of tools/up: all is started, the command is run or a signal waited for, and all is stopped in order."""
+"""One run of lambda_local up: all is started, the command is run or a signal waited for, and all is stopped in
+order."""
 import argparse
 import http.client
 import signal

@@ -136,4 +136,4 @@ def refuse_aws(path: str, queues: Dict[str, Queue], keeps_credentials: bool) -> 
         host = (urlsplit(queue.url).hostname or "").lower()
         if not keeps_credentials and OF_AWS.fullmatch(host):
             raise Fault(2, f"{path}: function {name}: queue: url: {host} is AWS itself, whose messages would be taken "
-                           "and deleted: name a local queue, or start tools/up with --keep-credentials")
+                           "and deleted: name a local queue, or start lambda_local up with --keep-credentials")

@@ -1,4 +1,4 @@
-"""The threads of tools/up: one that ends by an exception is reported, and ends the run."""
+"""The threads of lambda_local up: one that ends by an exception is reported, and ends the run."""
 import os
 import threading
 import traceback
@@ -35,6 +35,6 @@ class Supervisor:
     def broken(self, why: str) -> None:
         self.is_broken = True
         try:
-            self.log("up", f"tools/up ends, since {why}", level="error", kind="fault")
+            self.log("up", f"lambda_local up ends, since {why}", level="error", kind="fault")
         finally:
             self.when_broken()

@@ -1,4 +1,5 @@
-"""Follows the service's history while tools/up runs: for its lines, and for what environments ask about themselves."""
+"""Follows the service's history while lambda_local up runs: for its lines, and for what environments ask about
+themselves."""
 import contextlib
 import http.client
 import threading
