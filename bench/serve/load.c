@@ -7,6 +7,10 @@
             as many callers and runtimes as environments, each on a connection that it keeps; a caller invokes once a
             runtime has asked, and a throttled invocation is tried again and counted apart
             prints: rate, p50 and p99 in microseconds, throttles
+          load closed INVOKE_PORT ENVIRONMENTS PAUSE INVOCATIONS
+            the same with 100 B, but each caller invokes again at once, and each runtime waits PAUSE microseconds before
+            it asks again, so that an environment has often answered and not asked again
+            prints: rate, p50, p99 and p99.9 in microseconds, throttles
           load beside INVOKE_PORT LARGE LARGES SMALLS
             two environments: one caller of 100 B, SMALLS times, or until another has invoked LARGES times with LARGE
             bytes, where LARGES is not 0
@@ -42,7 +46,7 @@ static sem_t asked;
 static pthread_barrier_t warm, begin;
 static long next_turn, warm_ups, invocations, throttles;
 static double *took;
-static int large_is_done;
+static int large_is_done, is_closed, pause_micros;
 
 struct answer {
     int status;
@@ -175,6 +179,7 @@ static void *run_runtime(void *argument) {
     int s = dial(invoke_port + (int)(long)argument);
     char *buffer = room(), line[256];
     for (;;) {
+        if (pause_micros) usleep(pause_micros);
         ask(s, "GET /2018-06-01/runtime/invocation/next", "", 0);
         sem_post(&asked);
         struct answer a = hear(s, buffer);
@@ -188,7 +193,7 @@ static void *run_runtime(void *argument) {
 
 /* Invokes until it isn't throttled: how long the last try took. The output is to be the payload. */
 static double invoke(int s, char *buffer, const char *sent, size_t size, int whole) {
-    sem_wait(&asked);
+    if (!is_closed) sem_wait(&asked);
     for (;;) {
         double begun = now();
         ask(s, "POST /2015-03-31/functions/f/invocations", sent, size);
@@ -226,6 +231,10 @@ static int by_size(const void *a, const void *b) {
 
 static double micros(long count, int percent) {
     return took[count * percent / 100] * 1e6;
+}
+
+static double micros_of_most(long count) {
+    return took[count * 999 / 1000] * 1e6;
 }
 
 /* Waits for a line of the input, or for its end. */
@@ -275,7 +284,9 @@ static void round_trips(void) {
     for (int n = 0; n < environments; n++) pthread_join(callers[n], 0);
     double seconds = now() - begun;
     qsort(took, invocations, sizeof *took, by_size);
-    printf("%.1f %.1f %.1f %ld\n", invocations / seconds, micros(invocations, 50), micros(invocations, 99), throttles);
+    printf("%.1f %.1f %.1f ", invocations / seconds, micros(invocations, 50), micros(invocations, 99));
+    if (is_closed) printf("%.1f ", micros_of_most(invocations));
+    printf("%ld\n", throttles);
     ends();
 }
 
@@ -402,6 +413,13 @@ int main(int count, char **words) {
         largest = given[2];
         invocations = given[3];
         round_trips();
+    } else if (count == 6 && !strcmp(words[1], "closed") &&
+               is_between(1, given[1], MOST_ENVIRONMENTS) && is_between(0, given[2], 999999) && given[3] >= 1) {
+        largest = SMALL;
+        is_closed = 1;
+        pause_micros = given[2];
+        invocations = given[3];
+        round_trips();
     } else if (count == 6 && !strcmp(words[1], "beside") && given[1] >= SMALL && given[2] >= 0 && given[3] >= 1) {
         largest = given[1];
         beside(given[2], given[3]);
@@ -410,7 +428,8 @@ int main(int count, char **words) {
     } else if (count == 5 && !strcmp(words[1], "short") && is_between(1, given[2], MOST_CALLERS)) {
         short_connections(given[1], given[2]);
     }
-    fprintf(stderr, "usage: load round PORT ENVIRONMENTS SIZE INVOCATIONS | beside PORT LARGE LARGES SMALLS"
+    fprintf(stderr, "usage: load round PORT ENVIRONMENTS SIZE INVOCATIONS"
+                    " | closed PORT ENVIRONMENTS PAUSE INVOCATIONS | beside PORT LARGE LARGES SMALLS"
                     " | park PORT ENVIRONMENTS EXTENSIONS | short PORT COUNT CALLERS\n");
     return 2;
 }

@@ -9,6 +9,7 @@ from services import Client, Service, Trouble
 
 SIZES = {100: "100 B", 100_000: "100 KB", 5_000_000: "5 MB"}
 LARGE = 6_000_000
+PAUSES = 0, 100, 1_000    # microseconds until a runtime asks again
 PARKED = 252, 3    # environments, and extensions of each: with the runtime 1,008 connections
 # The aims: of plain C's rate by payload, of Go's at 100 B, of plain C's short connections, KiB of a parked connection.
 RATES, OF_GO, OF_SHORT, MOST_KIB = {100: 0.9, 100_000: 1.0, 5_000_000: 1.0}, 1.5, 0.5, 80
@@ -151,6 +152,35 @@ class Tables:
                             *(self.beside(samples, kind, base, "rate", aims.get(base)) for base in self.bases()),
                             self.beside(samples, kind, self.plain, "processor"),
                         ] if its else ["failed", *["-"] * (5 + len(self.bases()))]))
+
+    def closed_trip(self, kind, environments, pause, invocations, processors):
+        with Service(kind, environments, processors[0]) as service:
+            with Client(self.load, service, "closed", environments, pause, invocations,
+                        processors=processors[1]) as client:
+                used, switched = service.processor(), service.switches()
+                rate, half, most, nearly_all, throttles = map(float, client.go())
+                return {"rate": rate, "half": half, "most": most, "nearly all": nearly_all, "throttles": throttles,
+                        "processor": (service.processor() - used) / invocations * 1e6,
+                        "switches": (service.switches() - switched) / invocations}
+
+    def closed_trips(self):
+        self.head("processors", "environments", "a runtime's pause, µs", "closed callers, 100 B", "a second", "p50 µs",
+                  "p99 µs", "p99.9 µs", "throttles", "processor µs", "switches",
+                  *(f"rate / {base.name}" for base in self.bases()))
+        names = ("half", "most", "nearly all", "throttles", "processor", "switches")
+        for pause in PAUSES:
+            for environments in (1, 8, 64):
+                count = self.few(max(2_000, min(20_000, 20_000 * environments // (1 + pause // 10))))
+                for name, processors in self.placements.items():
+                    samples = self.interleaved(
+                        f"closed callers, environments {environments}, pause {pause}, processors {name}",
+                        lambda kind: self.closed_trip(kind, environments, pause, count, processors))
+                    for kind, its in samples.items():
+                        self.row(name, str(environments), str(pause), kind.name, *([
+                            spread([it["rate"] for it in its]),
+                            *(median([it[what] for it in its]) for what in names),
+                            *(self.beside(samples, kind, base, "rate") for base in self.bases()),
+                        ] if its else ["failed", *["-"] * (len(names) + len(self.bases()))]))
 
     def small_ones(self, kind, processors):
         found = {}
