@@ -16,7 +16,8 @@ REGISTRATION = {"name", "events", "asks_for_events", "identifier"}
 INVOCATIONS = {"asks_after_invoke", "invoke_in_time", "one_poll", "known_requests"}
 ALL = {*INVOCATIONS, "ends_at_spindown", "ends_at_timeout", "registers_anew", "ends_at_failure", "crash_noticed",
        "works_after_crash", "next_without_timeout", "exit_error", "header_names", "chunked_answers", "more_headers",
-       "slow_answers", "closing_answers", "connection_end", "telemetry", "without_telemetry", "many_events"}
+       "slow_answers", "closing_answers", "connection_end", "telemetry", "without_telemetry", "takes_telemetry",
+       "many_events"}
 
 
 # ---- registration ----------------------------------------------------------------------------------------------------

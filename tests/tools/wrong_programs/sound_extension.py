@@ -3,7 +3,9 @@
 one."""
 import json
 import os
+import socket
 import sys
+import threading
 
 from connection import Client
 
@@ -62,12 +64,29 @@ class Extension(Client):
 
     def subscribe(self):
         """To telemetry, if there is any."""
+        listener = socket.create_server(("127.0.0.1", 0))
+        threading.Thread(target=self.receive, args=(listener, ), daemon=True).start()
+        address = f"http://sandbox.localdomain:{listener.getsockname()[1]}"
         wanted = {"schemaVersion": "2022-12-13", "types": ["platform"],
-                  "destination": {"protocol": "HTTP", "URI": "http://sandbox.localdomain:4323"}}
+                  "destination": {"protocol": "HTTP", "URI": address}}
         self.subscribed(self.ask("PUT", "/2022-07-01/telemetry", wanted))
 
     def subscribed(self, answer):
         pass
+
+    def receive(self, listener):
+        """One batch after the other, each on a connection of its own."""
+        while True:
+            with listener.accept()[0] as peer, peer.makefile("rb") as came:
+                length = 0
+                for line in iter(came.readline, b"\r\n"):
+                    if line.lower().startswith(b"content-length:"):
+                        length = int(line.split(b":")[1])
+                peer.sendall(self.taken(json.loads(came.read(length))))
+
+    def taken(self, batch):
+        """What a batch is answered."""
+        return b"HTTP/1.1 200 OK\r\nContent-Length: 0\r\nConnection: close\r\n\r\n"
 
     def one_event(self):
         answer = self.next()

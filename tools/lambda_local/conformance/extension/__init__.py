@@ -17,10 +17,11 @@ from typing import List
 
 from ...service import Fault
 from ..run import check_arguments, listed, parser_of, play, seconds, split
-from . import another, load, reports, scenarios, telemetry
+from . import another, delivery, load, reports, scenarios, telemetry
 from .stage import ExtensionStage
 
-SCENARIOS = [scenario for module in (scenarios, telemetry, reports, another, load) for scenario in module.SCENARIOS]
+MODULES = (scenarios, telemetry, delivery, reports, another, load)
+SCENARIOS = [scenario for module in MODULES for scenario in module.SCENARIOS]
 
 EVENTS = ("INVOKE", "SHUTDOWN")
 
