@@ -4,8 +4,8 @@ some in the shapes of AWS's own clients; each wrong one is caught by the check n
 The program is LAMBDA_LOCAL_PROGRAM, else ./lambda_local.
 Ends with 'N passed, M failed'.
 
-Each wrong one is run with the scenarios of its own check, and one in ten of them with all, as all that are sound; with
---whole each of them, which takes a quarter of an hour.
+Each wrong one is run with the scenarios of its own check, and one in fifteen of them with all; of the further sound
+ones in Python one in three is run. With --whole all are, with all scenarios, which takes a quarter of an hour.
 
 usage: tests/tools/conformance.py [--whole] [NAME ..]   (a mistake, `sound` or `shipped`; default: everything)"""
 import concurrent.futures
@@ -39,7 +39,8 @@ from lambda_local.conformance import extension, runtime  # noqa: E402
 LENIENT = {"runtime": {"keep_alive", "continue_first", "header_spaces", "same_process", "error_header"},
            "extension": set()}
 AT_ONCE = max(2, len(os.sched_getaffinity(0)))  # runs of the kit, each of which waits half of its time
-EACH = 10  # wrong programs, of which one is run with all scenarios
+EACH = 15  # wrong programs, of which one is run with all scenarios
+THIRD = 3  # further programs in shapes, of which one is run
 WHOLE, CHOSEN = "--whole" in sys.argv, [word for word in sys.argv[1:] if word != "--whole"]
 PYTHON = [sys.executable, "-S"]  # (it starts in half the time)
 TOOL = [*PYTHON, os.path.join(ROOT, "tools"), "conformance"]
@@ -140,10 +141,14 @@ def in_shapes():
     if shutil.which("perl"):
         yield "a Perl client", ["perl", os.path.join(SHAPES, "perl_tiny.pl")]
         yield "a Node client by fetch", ["node", os.path.join(SHAPES, "fetch.mjs")]
-    for file, names in (("shapes.py", shapes.SHAPES), ("clients.py", clients.CLIENTS),
-                        ("libraries.py", libraries.LIBRARIES)):
+    for file, names in (("shapes.py", shapes.SHAPES), ("clients.py", some_of(clients.CLIENTS)),
+                        ("libraries.py", some_of(libraries.LIBRARIES))):
         for name in names:
             yield f"a client in the shape of {name}", [*PYTHON, os.path.join(SHAPES, file), name]
+
+
+def some_of(names):
+    return list(names)[::1 if WHOLE else THIRD]
 
 
 def extensions_in_shapes():
@@ -152,7 +157,7 @@ def extensions_in_shapes():
         yield "an extension by fetch", ["node", os.path.join(SHAPES, "extension_fetch.mjs")]
     if shutil.which("bash") and shutil.which("curl"):
         yield "an extension with curl", [os.path.join(SHAPES, "extension_curl.sh")]
-    for name in extensions.SHAPES:
+    for name in some_of(extensions.SHAPES):
         yield f"an extension that is {name}", [*PYTHON, os.path.join(SHAPES, "extensions.py"), name]
 
 
