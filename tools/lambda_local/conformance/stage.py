@@ -3,6 +3,7 @@ behind the proxy, and callers."""
 import argparse
 import concurrent.futures
 import http.client
+import itertools
 import json
 import math
 import os
@@ -27,6 +28,7 @@ BEHIND = 3  # lines of what the connections show
 SILENT = 12  # seconds of its own after which a process that has to answer, or to ask, does not do so any more
 MALFORMED = (400, 404, 405, 411, 414, 431, 501, 505)  # statuses of requests that are wrong in whatever state
 REFUSED = 3  # polls that are refused for what they are, after which it is not waited for another one
+STAGES = itertools.count()
 
 
 class Tools(NamedTuple):
@@ -93,7 +95,7 @@ class Stage:
         self.name = scenario.name
         function = {"name": self.name, "handler": handler, "timeout": timeout, "ports": [0] * environments,
                     "extensions": list(extensions)}
-        configuration = {"account": ACCOUNT, "region": REGION, "salt": int(time.time()), "functions": [function]}
+        configuration = {"account": ACCOUNT, "region": REGION, "salt": salt(), "functions": [function]}
         with tools.processes.opening():
             self.service = Service(configuration, tools.program)
         self.function = self.service.configuration["functions"][0]
@@ -281,6 +283,12 @@ class Stage:
             return self.service.history()
         except (OSError, http.client.HTTPException):
             return None
+
+
+def salt() -> int:
+    """One of its own for each stage, so that no other one has its identifiers. (Of its last 16 bits, four are not the
+    caller's.)"""
+    return (int(1000 * time.time()) << 16) + next(STAGES) % 4096
 
 
 def patient() -> None:
