@@ -6,8 +6,8 @@ import sys
 
 # ./probe NAME SETTINGS: notes answers and events, a line each, in NAME.jsonl. SETTINGS are in JSON: "path" and "body"
 # of its subscription (none: it does not subscribe), "protocol", "events" of its registration, and what its receiver
-# does: "refuses" so many batches with 500, "stalls" for these seconds once, after "after" batches, "hangs", or sends
-# "garbage"; "is_down" for these seconds. "wrong" are further subscriptions, [path, body, headers] each; a body
+# does: "refuses" so many batches with 500, "stalls" once until there is this file, after "after" batches, "hangs", or
+# sends "garbage"; "is_down" for these seconds. "wrong" are further subscriptions, [path, body, headers] each; a body
 # may be a length. "prints" is what it prints at each event.
 PROBE = f'''#!{sys.executable}
 import http.client, http.server, json, os, socket, sys, threading, time
@@ -20,8 +20,8 @@ def note(kind, value):
         FILE.flush()
 def stall():
     STATE["batches"] += 1
-    if SET.get("stalls") and STATE["batches"] == SET.get("after", 1):
-        time.sleep(SET["stalls"])
+    while SET.get("stalls") and STATE["batches"] == SET.get("after", 1) and not os.path.exists(SET["stalls"]):
+        time.sleep(0.05)
 class Receiver(http.server.BaseHTTPRequestHandler):
     protocol_version = "HTTP/1.1"
     def do_POST(self):

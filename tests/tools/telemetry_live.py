@@ -266,11 +266,12 @@ def summed(up, name):
 def stalls():
     """A load with receivers that stall: what came and what was dropped are all that was made."""
     invocations, lines = 30, 2000
-    settings = {"x": probe(stalls=6, after=3), "y": probe(protocol="TCP", stalls=6, after=4000), "z": probe()}
+    settings = {"x": probe(stalls="go", after=3), "y": probe(protocol="TCP", stalls="go", after=4000), "z": probe()}
     up = started(settings, timeout=30)
     begun = time.monotonic()
     check("a load of invocations", {up.invoke(count=lines)[0] for _ in range(invocations)}, {1})
     took = time.monotonic() - begun
+    up.write("go", "")
     made = MADE_IN_INIT + 2 * 2 + invocations * (MADE_BY_INVOCATION + lines)  # (two more extensions)
     for name in "xyz":
         until(lambda: sum(summed(up, name)[:2]) >= made, 60)
@@ -351,6 +352,19 @@ def passes_what_it_is():
     check("it ends", up.end(), (0, []))
 
 
+def example():
+    """The extension of examples/, as its own words and docs/telemetry.md say."""
+    path = os.path.join(ROOT, "examples", "telemetry.py")
+    with open(path) as file:
+        members = json.loads(re.search(r"^  (\{.*?\}\})\]\}$", file.read(), re.M | re.S)[1])
+    up = Up(functions=[{**members, "handler": "app.run", "extensions": {"telemetry.py": path}}], app=APP)
+    check("it is ready", up.until("[up] ready"), True)
+    check("an invocation", up.invoke("greet", lines=["hello"])[0], 1)
+    for text in ("[greet/1 telemetry.py] platform.initStart {", "platform.start {", 'function "hello"', "platform.report {"):
+        check(f"the example prints {text}", up.until(text, 20), True)
+    check("it ends", up.end(), (0, []))
+
+
 MISTAKES = {
     "telemetry that is a text": ({"telemetry": "yes", "extensions": {"x": "true"}, "command": "true"},
                                  'telemetry must be true or false, not "yes"'),
@@ -371,6 +385,6 @@ def mistakes():
 
 if __name__ == "__main__":
     PARTS = [as_in_history, ends, failed_init, logs_api, json_lines, lines_of_extensions, refusals, bad_receivers,
-             mending_receivers, flush, stalls, beside_nothing, many_connections, passes_what_it_is, mistakes]
+             mending_receivers, flush, stalls, beside_nothing, many_connections, passes_what_it_is, example, mistakes]
     NAMED = [part for part in PARTS if part.__name__ in sys.argv[1:]]
     sys.exit(counted.run(*(NAMED or PARTS)))
