@@ -356,7 +356,7 @@ def example():
     """The extension of examples/, as its own words and docs/telemetry.md say."""
     path = os.path.join(ROOT, "examples", "telemetry.py")
     with open(path) as file:
-        members = json.loads(re.search(r"^  (\{.*?\}\})\]\}$", file.read(), re.M | re.S)[1])
+        members = json.loads(re.search(r'\{"functions".*?\}\]\}', file.read(), re.S)[0])["functions"][0]
     up = Up(functions=[{**members, "handler": "app.run", "extensions": {"telemetry.py": path}}], app=APP)
     check("it is ready", up.until("[up] ready"), True)
     check("an invocation", up.invoke("greet", lines=["hello"])[0], 1)
