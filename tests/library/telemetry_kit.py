@@ -8,7 +8,7 @@ import sys
 # of its subscription (none: it does not subscribe), "protocol", "events" of its registration, and what its receiver
 # does: "refuses" so many batches with 500, "stalls" once until there is this file, after "after" batches, "hangs", or
 # sends "garbage"; "is_down" for these seconds. "wrong" are further subscriptions, [path, body, headers] each; a body
-# may be a length. "prints" is what it prints at each event.
+# may be a length. "prints" is what it prints at each event. One that "ignores" its shutdown lives on.
 PROBE = f'''#!{sys.executable}
 import http.client, http.server, json, os, socket, sys, threading, time
 NAME, SET = sys.argv[1], json.loads(sys.argv[2])
@@ -95,6 +95,7 @@ while True:
     if status != 200: sys.exit(1)
     for path, body, headers in SET.get("late", []):
         note("late", ask("PUT", path, body, dict(me, **headers))[::2])
+    if kind == "SHUTDOWN" and SET.get("ignores"): time.sleep(60)
     if kind == "SHUTDOWN":
         ask("GET", "/2020-01-01/extension/event/next", None, me)
         sys.exit(0)

@@ -255,6 +255,17 @@ def flush():
                 at for at, kind in enumerate(kinds) if kind == "event"), True)
 
 
+def ignored_shutdown():
+    """An extension that does not end, and a receiver that takes nothing: the end of tools/up is in order."""
+    up = started({"x": probe(ignores=True), "y": probe(hangs=1)})
+    check("an invocation", up.invoke(lines=["last"])[0], 1)
+    begun = time.monotonic()
+    status = up.end()
+    check("it ends, in time", (status, time.monotonic() - begun < 10), ((0, []), True))
+    check("and says nothing of its own faults", [line for line in up.lines if "front:" in line or "destroyed" in line],
+          [])
+
+
 def summed(up, name):
     """Events but for those that say what was dropped, and what these say."""
     found = events(up, name)
@@ -360,7 +371,8 @@ def example():
     up = Up(functions=[{**members, "handler": "app.run", "extensions": {"telemetry.py": path}}], app=APP)
     check("it is ready", up.until("[up] ready"), True)
     check("an invocation", up.invoke("greet", lines=["hello"])[0], 1)
-    for text in ("[greet/1 telemetry.py] platform.initStart {", "platform.start {", 'function "hello"', "platform.report {"):
+    for text in ("[greet/1 telemetry.py] platform.initStart {", "platform.start {", 'function "hello"',
+                 "platform.report {"):
         check(f"the example prints {text}", up.until(text, 20), True)
     check("it ends", up.end(), (0, []))
 
@@ -385,6 +397,7 @@ def mistakes():
 
 if __name__ == "__main__":
     PARTS = [as_in_history, ends, failed_init, logs_api, json_lines, lines_of_extensions, refusals, bad_receivers,
-             mending_receivers, flush, stalls, beside_nothing, many_connections, passes_what_it_is, example, mistakes]
+             mending_receivers, flush, ignored_shutdown, stalls, beside_nothing, many_connections, passes_what_it_is,
+             example, mistakes]
     NAMED = [part for part in PARTS if part.__name__ in sys.argv[1:]]
     sys.exit(counted.run(*(NAMED or PARTS)))

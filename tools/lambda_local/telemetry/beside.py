@@ -125,7 +125,7 @@ class Sidecars:
         desk = Desk(about(function), tell)
         ears = EnvironmentEars(desk, refusal_of, self.streams, function.has_telemetry)
         listener = listener_at(0, f"telemetry of {name}", self.path)
-        return WithTelemetry(desk, Proxy(listener, port, ears, tell), name, printed)
+        return WithTelemetry(desk, Proxy(listener, port, ears, tell, desk.ends), name, printed)
 
     def of(self, number: int, port: int) -> Beside:
         return self.found.get(number) or Beside(port)

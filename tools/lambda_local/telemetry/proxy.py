@@ -14,6 +14,7 @@ AT_ONCE = 16  # newcomers that are accepted before others have their turn
 WITHOUT_ROOM = (errno.EMFILE, errno.ENFILE, errno.ENOBUFS, errno.ENOMEM)
 PAUSE = 0.1  # seconds, after a newcomer for whom there is no descriptor
 HELD_SECONDS = 20.0  # for the rest of a request that is answered here, as the service has it for a head
+STEPS = 4  # of the loop, in which what is cancelled ends
 BY_RESET = struct.pack("ii", 1, 0)  # of SO_LINGER
 HERE = "127.0.0.1"
 OTHER_SIDE, CALLER = "the other side", "the caller of a stream"  # that takes no more just now
@@ -181,8 +182,10 @@ class Pair:
 class Proxy:
     """One environment's. `port` is that of the environment itself."""
 
-    def __init__(self, listener: socket.socket, port: int, ears: Ears, tell: Tell, most: int = MOST):
+    def __init__(self, listener: socket.socket, port: int, ears: Ears, tell: Tell,
+                 when_stopped: Callable[[], None] = lambda: None, most: int = MOST):
         self.listener, self.port, self.ears, self.tell, self.most = listener, port, ears, tell, most
+        self.when_stopped = when_stopped
         self.pairs: Dict[Pair, None] = {}  # in the order in which they came
         self.beginning: Set["asyncio.Task[None]"] = set()
         self.has_told = False
@@ -205,7 +208,9 @@ class Proxy:
             task.cancel()
         for pair in list(self.pairs):
             pair.abort()
-        await asyncio.sleep(0)
+        self.when_stopped()
+        for _ in range(STEPS):
+            await asyncio.sleep(0)
 
     def _accept(self) -> None:
         for _ in range(AT_ONCE):
