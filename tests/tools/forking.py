@@ -1,6 +1,7 @@
 #!/usr/bin/env python3
-"""Checks Python runtimes that lambda_local up forks from a process with their imports: each is what a fresh interpreter
-would be, ends as one would, is below the guard, and shares nothing with the others. Ends with 'N passed, M failed'."""
+"""Checks Python runtimes that ./lambda_local up forks from a process with their imports: each is what a fresh
+interpreter would be, ends as one would, is below the guard, and shares nothing with the others. Ends with 'N passed, M
+failed'."""
 import os
 import signal
 import sys

@@ -54,6 +54,12 @@ def shown():
         check("GetFunction", (whole["Configuration"], whole["Concurrency"]),
               (found, {"ReservedConcurrentExecutions": 1}))
         check("its code", whole["Code"]["Location"], "file://" + up.at)
+        status, headers, body = caller.ask("PUT", "/2017-10-31/functions/f/concurrency",
+                                           b'{"ReservedConcurrentExecutions":200}')
+        check("a reservation beyond the environments says how many there are", (
+            status, headers.get("x-amzn-errortype", "").partition(":")[0], json.loads(body)["message"]),
+            (400, "InvalidParameterValueException",
+             'Reservation is out of range: f has "environments": 1 in UP.json, and may reserve 0 to 1'))
         caller.ask("DELETE", "/2017-10-31/functions/f/concurrency")
         check("after its reservation is removed",
               "Concurrency" in json.loads(caller.ask("GET", FUNCTION + "f")[2]), False)

@@ -47,7 +47,8 @@ else:
 
 
 def python_with_moto():
-    folders = [os.path.dirname(sys.executable), *os.environ.get("PATH", "").split(os.pathsep), os.path.expanduser("~/.pyenv/shims")]
+    folders = [os.path.dirname(sys.executable), *os.environ.get("PATH", "").split(os.pathsep),
+               os.path.expanduser("~/.pyenv/shims")]
     for folder in dict.fromkeys(folders):
         program = os.path.join(folder, "python3")
         if os.access(program, os.X_OK) and subprocess.run(

@@ -124,7 +124,7 @@ def made_of(template, name):
             os.makedirs(os.path.dirname(os.path.join(at, path)), exist_ok=True)
             with open(os.path.join(at, path), "w") as file:
                 file.write(text)
-        done = subprocess.run([os.path.join(ROOT, "tools", "from_template"), name, "-o", "made.json"], cwd=at,
+        done = subprocess.run([os.path.join(ROOT, "lambda_local"), "from_template", name, "-o", "made.json"], cwd=at,
                               capture_output=True, text=True)
         said.append((done.returncode, done.stderr))
         with open(os.path.join(at, "made.json")) as file:

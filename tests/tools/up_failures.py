@@ -271,6 +271,18 @@ def reports():
     check("a report that is no JSON", str(Report(b"it broke", "/at")), "it broke")
 
 
+def told_once():
+    """The trace that the bundled runtime has printed of a failed Init is not told again."""
+    up = Up("--ready", "3", command=("--", "true"), app='def helper():\n    return {}["missing"]\nhelper()\n',
+            functions=[{"name": "f", "runtime": "python", "handler": "app.run"}])
+    up.until("not ready after")
+    up.end(None)
+    check("a failed Init is told in a line", up.count(r"Init failed KeyError: 'missing' \(app\.py:2\)$") > 0)
+    # (a trace that tools/up tells is indented by two more)
+    check("its trace is the runtime's", (up.count(r"\]     helper\(\)$") > 0, up.count(r"\]       helper\(\)$")),
+          (True, 0))
+
+
 if __name__ == "__main__":
-    sys.exit(
-        counted.run(pauses, reports, lines, as_json, quietly, colours, crashing_extension, extensions, init_failures))
+    sys.exit(counted.run(pauses, reports, lines, as_json, quietly, colours, crashing_extension, extensions,
+                         init_failures, told_once))

@@ -26,6 +26,7 @@ from .settings import Address, Settings
 from .wire import Gone
 
 MOST_ITEMS, DEFAULT_ITEMS = 10_000, 50  # of a page of ListFunctions
+OUT_OF_RANGE = b"Reservation is out of range"
 BY_SERVICE = ("Invoke", "GetFunctionConcurrency", "PutFunctionConcurrency", "DeleteFunctionConcurrency")
 
 
@@ -45,8 +46,21 @@ class Management:
         is_other = operation.name in BY_SERVICE if operation else not self.is_of_api(request)
         # (a request that may not be taken is refused there, by the service's own rule)
         if is_other or refusal_of(request.head, self.hosts):
-            return await self.port.handle(request)
+            reply = await self.port.handle(request)
+            return self.with_range(reply, operation.parameters[0]) if (
+                operation and operation.name == "PutFunctionConcurrency") else reply
         return await self.answer(request, operation)
+
+    def with_range(self, reply: Reply, name: str) -> Reply:
+        """The refusal of a reservation says how many there may be."""
+        function = function_of(target_of(name))
+        count = next((len(one["ports"]) for one in self.configuration["functions"] if one["name"] == function), None)
+        if reply.status != 400 or OUT_OF_RANGE not in reply.body or count is None:
+            return reply
+        more = (f'{OUT_OF_RANGE.decode()}: {function} has "environments": {count} in UP.json, and may reserve 0 to '
+                f"{count}")
+        headers = [(each, value) for each, value in reply.headers if each.lower() != "content-length"]
+        return reply._replace(headers=headers, body=json.dumps({"Type": "User", "message": more}).encode())
 
     @staticmethod
     def is_of_api(request: Request) -> bool:

@@ -1,12 +1,13 @@
 """A line for each invocation and each Init that failed, from what goes on in the account."""
 import time
 from collections import Counter
-from typing import Counter as Counts, Dict, Iterable, Tuple
+from typing import Counter as Counts, Dict, Iterable, List, Mapping, Optional, Tuple
 
 from ..history import EXPIRE
 from ..life import Closes, Ended, Environment, Event, Generation, Throttled
 from ..outgoing import Log
 from ..phases import FAILURES
+from .invocation_lines import Printed
 from .members import NAME, Function
 from .reports import Report, shortened
 
@@ -14,12 +15,15 @@ REASONS = {"ReservedFunctionConcurrentInvocationLimitExceeded": "reserved concur
            "ConcurrentInvocationLimitExceeded": "the account's concurrency",
            "LocalEnvironmentLimitExceeded": "no environment is free"}
 INIT_SECONDS = 10
+MOST_LOOKED_AT = 200  # of the lines that a runtime has printed
 SUMMED_SECONDS = 1.0  # of throttled invocations of a function in one line
 
 
 class Lines:
-    def __init__(self, log: Log, functions: Iterable[Function]) -> None:
+    def __init__(self, log: Log, functions: Iterable[Function],
+                 printed: Optional[Mapping[int, Printed]] = None) -> None:
         self.log = log
+        self.printed = printed or {}  # by the number of the environment
         self.functions = {function.name: function for function in functions}
         # By function: since when, and how often for which reason
         self.throttled: Dict[str, Tuple[float, Counts[str]]] = {}
@@ -68,8 +72,16 @@ class Lines:
             report = Report(event.generation.report or b"", function.directory)
             of = f"of the extension {event.extension.name} " if event.extension else ""
             self.say(environment.name, f"Init {of}failed {report}", "error", "init", {**report.members, **members})
-            for line in report.lines:
+            for line in [] if self._is_printed(environment.number, report.lines) else report.lines:
                 self.log(environment.name, f"  {shortened(line)}", level="error", kind="trace")
+
+    def _is_printed(self, number: int, trace: List[str]) -> bool:
+        """Whether the runtime has printed the end of its trace itself, as the bundled ones do."""
+        printed = self.printed.get(number)
+        if printed is None or not trace:
+            return False
+        printed.settle()
+        return any(line.text.strip() == trace[-1].strip() for line in list(printed.lines)[-MOST_LOOKED_AT:])
 
     @staticmethod
     def waited_for(environment: Environment, generation: Generation) -> str:

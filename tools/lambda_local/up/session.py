@@ -74,7 +74,9 @@ class Session:
         invocations = self.make_invocations()
         self.watch.followers.append(invocations.take)
         self.report = self.make_report(invocations) if options.report else None
-        self.watch.lines = Lines(self.report.tell, self.functions) if self.report else Lines(log, self.functions)
+        self.watch.lines = Lines(log, self.functions, self.printed)
+        if self.report:
+            self.watch.lines.log = self.report.tell
         self.front.serve(self.service, Tails(invocations, self.watch),
                          self.sidecars.serve(self.service.configuration, self.printed), self.sidecars.streams)
         self.environments = list(self.make_environments())
