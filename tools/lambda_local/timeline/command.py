@@ -17,29 +17,33 @@ Exit statuses: 0; 2 for a fault in the arguments or in the input; 3 if the answe
 4 if the program could not be run or the output not be written.
 """
 import argparse
+import io
 import os
 import re
 import shutil
 import sys
 import time
+from typing import BinaryIO, Callable, Iterable, Iterator, List, Optional, Sequence, Tuple
 
 from ..service import Fault, program_path
 from ..usage import parser_of
 from .drawing import Drawing, svg
 from .live import serve
 from .page import html
-from .read import Answers, Lines, history_entries, read_configuration, script_entries
+from .read import Answers, Entry, Lines, Readable, history_entries, read_configuration, script_entries
 from .replay import Replay, Spooled, difference, ready_program
+from .sink import Sink
 from .text import Text
 from .trace import Trace
 from .window import Moment, Window
 from .world import World
 
+Closing = List[Callable[[], object]]
 MOST_DRAWN, MOST_LIVE = 1000, 300  # calls in a drawing, and on a live page, if nothing else is asked
 DIFFERS = "differs"
 
 
-def moment(word):
+def moment(word: str) -> Moment:
     """A MOMENT of the command line."""
     found = re.fullmatch(r"(\+?)(\d+)(?:\.(\d{1,3}))?", word)
     if not found or (found[3] and not found[1]):
@@ -50,7 +54,7 @@ def moment(word):
     return Moment(int(found[2]), False)
 
 
-def arguments():
+def arguments() -> argparse.Namespace:
     parser = parser_of("timeline", __doc__)
     form = parser.add_mutually_exclusive_group()
     for name, words in (("text", "one line an event (the default)"),
@@ -89,7 +93,7 @@ def arguments():
     return chosen
 
 
-def refuse_beside_live(parser, chosen):
+def refuse_beside_live(parser: argparse.ArgumentParser, chosen: argparse.Namespace) -> None:
     """A live page takes --limit and --all alone."""
     given = {"-o": chosen.output, "--program": chosen.program, "--answers": chosen.answers, "--script": chosen.script,
              "--from": chosen.begin, "--to": chosen.end, "an input": chosen.input != "-",
@@ -99,16 +103,17 @@ def refuse_beside_live(parser, chosen):
             parser.error(f"--live shows what goes on: leave out {name}")
 
 
-def open_input(name):
+def open_input(name: str) -> BinaryIO:
     try:
         stream = sys.stdin.buffer if name == "-" else open(name, "rb")
-        stream.peek(1)
+        if isinstance(stream, io.BufferedReader):
+            stream.peek(1)  # (a folder is found to be none)
         return stream
     except OSError as fault:
         raise Fault(2, f"{name}: {fault.strerror}: name a file with a history or a script") from None
 
 
-def watched(entries):
+def watched(entries: Iterable[Entry]) -> Iterator[Entry]:
     """The entries; on a terminal, how many have been read where that takes longer than a second."""
     last, shows = time.monotonic(), sys.stderr.isatty()
     for n, entry in enumerate(entries):
@@ -121,46 +126,47 @@ def watched(entries):
 class Input:
     """What is read: its lines after the configuration, and a file with all of it if a replay needs one."""
 
-    def __init__(self, name):
+    def __init__(self, name: str) -> None:
         self.name = name
         self.stream = open_input(name)
-        self.spooled = None
-        if name == "-" or not os.path.isfile(name):
-            self.stream = self.spooled = Spooled(self.stream)
-        self.lines = Lines(self.stream)
+        self.spooled = Spooled(self.stream) if name == "-" or not os.path.isfile(name) else None
+        readable: Readable = self.spooled or self.stream
+        self.lines = Lines(readable)
         self.configuration, self.form_2 = read_configuration(self.lines)
 
-    def path(self):
+    def path(self) -> str:
         """A file with all that was read so far."""
         return self.spooled.path() if self.spooled else self.name
 
-    def read_from_a_file(self):
+    def read_from_a_file(self) -> None:
         """Takes all that comes into a file, and reads from there on."""
         if self.spooled:
             shutil.copyfileobj(self.spooled.stream, self.spooled.file)
             self.lines = Lines(open(self.path(), "rb"))
             read_configuration(self.lines)
 
-    def close(self):
+    def close(self) -> None:
         if self.spooled:
             self.spooled.file.close()
         if self.name != "-":
-            (self.spooled or self).stream.close()
+            self.stream.close()
 
 
-def scripted(chosen, given, world, closing):
+def scripted(chosen: argparse.Namespace, given: Input, world: World,
+             closing: Closing) -> Tuple[Iterator[Entry], Callable[[], None]]:
     """Returns the entries of a script, with the answers of the program or of a file; and what follows the last one."""
     if chosen.answers:
-        answers, finish = Answers(open_input(chosen.answers), chosen.answers), lambda: None
+        answers = Answers(open_input(chosen.answers), chosen.answers)
+        finish: Callable[[], None] = lambda: None
     else:
         given.read_from_a_file()
         replay = Replay(program_path(chosen.program), given.path())
         closing.append(replay.kill)
-        answers, finish = Answers(replay.process.stdout, "the replay"), replay.finish
+        answers, finish = Answers(replay.output, "the replay"), replay.finish
     return script_entries(given.lines, given.configuration, given.form_2, answers, world, finish), finish
 
 
-def compared(given, closing):
+def compared(given: Input, closing: Closing) -> Tuple[str, str]:
     """A class and a text: what a comparison of the history with its replay says."""
     if not given.lines.whole:
         return "", "Not compared with its replay, since its last line is cut off."
@@ -179,12 +185,14 @@ def compared(given, closing):
                      "Its own answers are shown; --script shows those of the replay.")
 
 
-def follow(chosen, given, sink, closing):
+def follow(chosen: argparse.Namespace, given: Input, sink: Window,
+           closing: Closing) -> Tuple[World, List[Tuple[str, str]]]:
     """Follows the input to its end. Gives the world, and what is to be said of it: pairs of a class and a text."""
     world = World(given.configuration, sink)
     is_history = given.configuration.is_of_a_history and not (chosen.program or chosen.answers or chosen.script)
     if is_history:
-        entries, finish = history_entries(given.lines, given.configuration, given.form_2), lambda: None
+        entries = history_entries(given.lines, given.configuration, given.form_2)
+        finish: Callable[[], None] = lambda: None
     else:
         entries, finish = scripted(chosen, given, world, closing)
     for call, moment, e, answers in watched(entries):
@@ -195,11 +203,14 @@ def follow(chosen, given, sink, closing):
     return world, notes + [("note", words) for words in [sink.left_out()] if words]
 
 
-def run(chosen, write, closing):
+def run(chosen: argparse.Namespace, write: Callable[[str], object], closing: Closing) -> None:
     given = Input(chosen.input)
     closing.append(given.close)
-    configuration, log, limit = given.configuration, [], chosen.limit
-    window = lambda **sinks: Window(chosen.begin, chosen.end, limit, chosen.all, **sinks)
+    configuration, limit = given.configuration, chosen.limit
+    log: List[str] = []
+
+    def window(events: Sequence[Sink] = (), spans: Sequence[Sink] = ()) -> Window:
+        return Window(chosen.begin, chosen.end, limit, chosen.all, events, spans)
     if chosen.form == "text":
         sink = window(events=[Text(configuration, write)])
     elif chosen.form == "trace":
@@ -221,9 +232,10 @@ def run(chosen, write, closing):
             print(f"timeline: {words}", file=sys.stderr)
 
 
-def main():
+def main() -> int:
     chosen = arguments()
-    closing, partial = [], None
+    closing: Closing = []
+    partial: Optional[str] = None
     try:
         if chosen.live:
             return serve(chosen.live, chosen.limit or MOST_LIVE, chosen.all)

@@ -1,26 +1,28 @@
 """The drawing: a row for each caller, environment, runtime and extension, as the elements of an SVG."""
 import bisect
+from typing import Dict, List, Optional, Tuple
 from xml.sax.saxutils import escape, quoteattr
 
 from .kept import Kept
-from .read import POLLS
+from .read import POLLS, Call, Lane
 from .style import COLOURS, DRAWING, LABELS, LANE, LETTER, width_of
 from .words import WALL_CLOCK, extension_words, length_words, payload_words, since_words, what, who
-from .world import FAILED, outcome
+from .world import FAILED, Work, outcome
 
 
 class Drawing(Kept):
     """Draws what is kept."""
 
+    name = "Timeline"
     links = False  # whether what failed has a name that a link can lead to
 
-    def moment(self, moment):
+    def moment(self, moment: int) -> str:
         return since_words(moment, self.zero)
 
-    def rows(self):
+    def rows(self) -> List[Tuple[int, str, str, Lane]]:
         """The rows from top to bottom: (height, label, class of the label, key)."""
         lanes = {call.lane for call in self.calls}
-        rows = [(18, "", "muted", ("axis",))]
+        rows: List[Tuple[int, str, str, Lane]] = [(18, "", "muted", ("axis",))]
         callers = sorted(lane for lane in lanes if lane[0] == "caller")
         rows += [(LANE, f"caller {lane[1]}", "", lane) for lane in callers]
         if ("account",) in lanes or self.refused:
@@ -39,10 +41,12 @@ class Drawing(Kept):
             rows += [(LANE, extension_words(name), "", ("extension", e, name)) for name in names]
         return rows
 
-    def draw(self):
+    def draw(self) -> None:
         """The labels and the chart, each as the elements of an SVG, and the height of both."""
-        self.labels, self.chart = [], []
-        self.tops, top = {}, 8
+        self.labels: List[str] = []
+        self.chart: List[str] = []
+        self.tops: Dict[Lane, int] = {}
+        top = 8
         rows = self.rows()
         for i, (height, label, kind, key) in enumerate(rows):
             if key[0] == "why":
@@ -62,14 +66,14 @@ class Drawing(Kept):
             top += height
         self.height = top + 26
         self.draw_axis(top)
-        taken = {}  # per lane, what is where: no label is written over it
+        taken: Dict[Lane, List[Tuple[float, float]]] = {}  # per lane, what is where: no label is written over it
         for e, phase, generation, reason, since, since_entry, moment, entry, deadline in self.bands:
             self.draw_band(e, phase, generation, reason, since, since_entry, moment, entry, deadline)
         for work, moment, entry in self.works:
             taken.setdefault(work.lane, []).append((self.x(work.entry), self.x(entry)))
         for call in self.calls:
             taken.setdefault(call.lane, []).append((self.x(call.entry), self.x(call.end_entry)))
-        self.taken = {lane: sorted(spans) for lane, spans in taken.items()}
+        self.occupied = {lane: sorted(spans) for lane, spans in taken.items()}
         self.draw_steps()
         for work, moment, entry in self.works:
             self.draw_work(work, moment, entry)
@@ -81,19 +85,19 @@ class Drawing(Kept):
             shape = self.cross(self.width - 24 if place is None else place, self.tops[("account",)])
             self.put("full refused", f"{words}\nrefused: the journal is full", shape, name=f"full-{i}")
 
-    def put(self, kind, title, *shapes, name=None):
+    def put(self, kind: str, title: str, *shapes: str, name: Optional[str] = None) -> None:
         named = f' id="{name}"' if name and self.links else ""
         self.chart.append(f'<g class={quoteattr(kind)}{named}><title>{escape(title)}</title>{"".join(shapes)}</g>')
 
-    def room(self, lane, x):
+    def room(self, lane: Lane, x: float) -> float:
         """How much room a lane has right of a place; none where something is drawn over it."""
-        spans = self.taken.get(lane, [])
+        spans = self.occupied.get(lane, [])
         i = bisect.bisect_right(spans, (x + 0.5, float("inf")))
         if any(right > x + 0.5 for _, right in spans[max(0, i - 8):i]):
             return 0
         return (spans[i][0] - 6 if i < len(spans) else self.width) - x
 
-    def beside(self, lane, x, *labels):
+    def beside(self, lane: Lane, x: float, *labels: str) -> str:
         """The first of some labels that has room right of a mark."""
         room = self.room(lane, x)
         for label in labels:
@@ -101,7 +105,7 @@ class Drawing(Kept):
                 return f'<text class="muted" x="{x + 9:.1f}" y="{self.tops[lane] + 15}">{escape(label)}</text>'
         return ""
 
-    def draw_axis(self, bottom):
+    def draw_axis(self, bottom: int) -> None:
         top, right = self.tops[("axis",)], -100.0
         clock = bool(self.moments) and self.zero in WALL_CLOCK
         self.labels.append(
@@ -111,7 +115,7 @@ class Drawing(Kept):
             if moment == last:
                 continue
             last = moment
-            words = f"{(moment - self.zero) / 1000:.3f}" if clock else str(moment)
+            words = f"{(moment - (self.zero or 0)) / 1000:.3f}" if clock else str(moment)
             half = width_of(words) / 2
             if x - half < right + 4 or x - half < 0 and right > 0:
                 continue
@@ -121,7 +125,8 @@ class Drawing(Kept):
                 self.chart.append(
                     f'<text class="muted" x="{max(x, half):.1f}" y="{y}" text-anchor="middle">{words}</text>')
 
-    def draw_band(self, e, phase, generation, reason, since, since_entry, moment, entry, deadline):
+    def draw_band(self, e: int, phase: str, generation: int, reason: Optional[str], since: int, since_entry: int,
+                  moment: int, entry: Optional[int], deadline: Optional[int]) -> None:
         key = ("environment", e)
         if key not in self.tops or since_entry == entry:
             return
@@ -142,7 +147,7 @@ class Drawing(Kept):
             shapes.append(self.deadline_shape(left, deadline, top + 21))
         self.put("phase", title, *shapes)
 
-    def deadline_shape(self, left, deadline, y):
+    def deadline_shape(self, left: float, deadline: int, y: int) -> str:
         x = self.x_of_moment(deadline)
         if x is None:
             right = self.width - 10
@@ -150,9 +155,9 @@ class Drawing(Kept):
         return (f'<path class="deadline" stroke-dasharray="2 3" d="M{left:.1f} {y}H{x:.1f}"/>'
                 f'<path class="deadline" d="M{x:.1f} {y - 4}v7"/>')
 
-    def draw_steps(self):
+    def draw_steps(self) -> None:
         """A function's reservation, from one change to the next."""
-        by_function = {}
+        by_function: Dict[int, List[Tuple[int, int, int, Optional[int]]]] = {}
         for step in self.steps:
             by_function.setdefault(step[2], []).append(step)
         for f, steps in by_function.items():
@@ -170,7 +175,7 @@ class Drawing(Kept):
                          f'<rect class="ended" x="{left:.1f}" y="{top + 4}" width="{right - left:.1f}" height="15" '
                          f'rx="3"/>', text)
 
-    def draw_work(self, work, moment, entry):
+    def draw_work(self, work: Work, moment: int, entry: Optional[int]) -> None:
         if work.lane not in self.tops:
             return
         left, right, top = self.x(work.entry), self.x(entry), self.tops[work.lane]
@@ -189,7 +194,7 @@ class Drawing(Kept):
         if shapes:
             self.put("works", title, *shapes)
 
-    def draw_call(self, call):
+    def draw_call(self, call: Call) -> None:
         kind = outcome(call)
         name = f"call-{call.ticket}" if kind in FAILED else None
         left, right = self.x(call.entry), self.x(call.end_entry)
@@ -206,7 +211,7 @@ class Drawing(Kept):
                      "ext-init-failure": "init failure"}
             label = short.get(call.kind, words if call.kind in ("reserve", "invoke") else call.kind)
             labels = [label]
-            if kind in ("refused", "throttled", "ended"):
+            if call.answer and kind in ("refused", "throttled", "ended"):
                 why = call.answer[1] if call.answer[0] == "refused" else call.answer[0]
                 labels = [f"{label}: {why}", why]
             text = self.beside(call.lane, left, *labels)
@@ -229,23 +234,24 @@ class Drawing(Kept):
             self.put(f"call {kind}", title, shape, text, name=name)
 
     @staticmethod
-    def cross(x, top):
+    def cross(x: float, top: int) -> str:
         return f'<path class="cross" d="M{x - 4:.1f} {top + 7}l8 8m0 -8l-8 8"/>'
 
-    def draw_resets(self):
+    def draw_resets(self) -> None:
         """A line through the environment's lanes where it closes, with the reason above."""
-        ends = {}
+        ends: Dict[int, Optional[Tuple[int, int]]] = {}
         for e in {reset[0] for reset in self.resets}:
             own = [top for key, top in self.tops.items() if key[0] in ("environment", "runtime", "extension")
                    and key[1] == e]
             ends[e] = (self.tops[("why", e)], max(own) + LANE - 2) if own else None
-        places = {}
+        places: Dict[int, List[float]] = {}
         for reset in self.resets:
             places.setdefault(reset[0], []).append(self.x(reset[2]))
         for e, moment, entry, reason, generation in self.resets:
-            if not ends[e]:
+            span = ends[e]
+            if span is None:
                 continue
-            (top, bottom), x = ends[e], self.x(entry)
+            (top, bottom), x = span, self.x(entry)
             cause = next((f"\nthe deadline of {phase} had come" for at, number, phase in self.expiries
                           if at == entry and number == e), "")
             title = (f"{self.configuration.place(e)} closes: {reason}{cause}\n"
@@ -257,7 +263,7 @@ class Drawing(Kept):
             self.put("resets", title, f'<path class="reset" d="M{x:.1f} {top + 4}V{bottom}"/>', text)
 
 
-def svg(drawing):
+def svg(drawing: Drawing) -> str:
     """The drawing alone, with its labels beside it."""
     drawing.draw()
     width, height = drawing.width + LABELS, drawing.height

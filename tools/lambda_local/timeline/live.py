@@ -5,6 +5,7 @@ import signal
 import sys
 import threading
 from datetime import datetime, timezone
+from typing import Optional, Tuple
 from urllib.parse import urlsplit
 
 from ..history import OPENING, Follower
@@ -19,7 +20,7 @@ AT_ONCE = 1000  # entries that are taken before a page may be made of them
 SILENCE = 30  # seconds after which a service that does not answer has gone
 
 
-def port_of(url):
+def port_of(url: str) -> int:
     """The port of a service's address."""
     try:
         parts = urlsplit(url)
@@ -31,7 +32,7 @@ def port_of(url):
     raise Fault(2, f"--live {url}: write the service's address on this machine, such as http://127.0.0.1:9000")
 
 
-def configuration_of(port):
+def configuration_of(port: int) -> Configuration:
     """The configuration of a service, which is the second line of its history."""
     connection = http.client.HTTPConnection("127.0.0.1", port, timeout=SILENCE)
     try:
@@ -49,10 +50,11 @@ def configuration_of(port):
 class Live:
     """What is known of the service, kept up to date by a thread. `lock` holds while that is read or changed."""
 
-    def __init__(self, url, limit, shows_all):
+    def __init__(self, url: str, limit: int, shows_all: bool) -> None:
         self.url, self.port, self.limit, self.shows_all = url, port_of(url), limit, shows_all
-        self.lock, self.ended, self.version, self.made = threading.Lock(), threading.Event(), 0, None
-        self.gone = None  # since when the service does not answer, in words
+        self.lock, self.ended, self.version = threading.Lock(), threading.Event(), 0
+        self.made: Optional[Tuple[int, str]] = None
+        self.gone: Optional[str] = None  # since when the service does not answer, in words
         try:
             self.begin()
         except Fault as fault:
@@ -61,7 +63,7 @@ class Live:
             raise Fault(2, f"--live {url}: no service answers there: {words_of(fault)}") from None
         self.thread = threading.Thread(target=self.follow, daemon=True)
 
-    def begin(self):
+    def begin(self) -> None:
         """Begins anew with the service that answers now."""
         configuration = configuration_of(self.port)
         self.follower = Follower(self.port, timeout=SILENCE)
@@ -69,7 +71,7 @@ class Live:
             self.recent = Recent(configuration, self.limit, self.shows_all)
             self.gone, self.version = None, self.version + 1
 
-    def follow(self):
+    def follow(self) -> None:
         while not self.ended.wait(PAUSE if self.gone is None else 4 * PAUSE):
             try:
                 if self.gone is not None:
@@ -81,7 +83,7 @@ class Live:
             except (Fault, ValueError) as fault:  # what answers there is none, or not any more
                 self.lose(str(fault))
 
-    def look(self):
+    def look(self) -> None:
         """Takes what has come since the last look."""
         stream = self.follower.stream()
         while entries := list(itertools.islice(stream, AT_ONCE)):
@@ -89,35 +91,35 @@ class Live:
                 self.recent.take(entries)
                 self.version += 1
 
-    def lose(self, why):
+    def lose(self, why: str) -> None:
         self.follower.close()
         if self.gone is None:
             with self.lock:
                 self.gone, self.version = f"{datetime.now(timezone.utc):%H:%M:%SZ}: {why}", self.version + 1
             say(f"the service {self.url} has gone at {self.gone}")
 
-    def drawn(self):
+    def drawn(self) -> Tuple[int, str]:
         """The version, and the page's part that belongs to it as HTML."""
         with self.lock:
             if self.made is None or self.made[0] != self.version:
                 self.made = self.version, fragment(self.recent.drawing(), self.recent.world, self.limit, self.gone)
             return self.made
 
-    def end(self):
+    def end(self) -> None:
         self.ended.set()
         self.thread.join(SILENCE)
         self.follower.close()
 
 
-def words_of(fault):
+def words_of(fault: BaseException) -> str:
     return getattr(fault, "strerror", None) or str(fault) or type(fault).__name__
 
 
-def say(words):
+def say(words: str) -> None:
     print(f"timeline: {words}", file=sys.stderr, flush=True)
 
 
-def serve(url, limit, shows_all):
+def serve(url: str, limit: int, shows_all: bool) -> int:
     """Shows the service until a signal ends it."""
     live = Live(url, limit, shows_all)
     server = Server(live)

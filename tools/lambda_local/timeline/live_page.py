@@ -1,7 +1,10 @@
 """The live page: its frame, what is drawn in it, and the script that asks for news."""
+from typing import Optional
 from xml.sax.saxutils import escape
 
+from .drawing import Drawing
 from .page import count_rows, document, failures, figure, legend, summary
+from .world import World
 
 SCRIPT = """"use strict";
 const drawn = document.querySelector("#drawn"), pause = document.querySelector("#pause");
@@ -49,7 +52,7 @@ header{display:flex;align-items:center;gap:1rem;flex-wrap:wrap}
 """
 
 
-def fragment(drawing, world, limit, gone):
+def fragment(drawing: Drawing, world: World, limit: int, gone: Optional[str]) -> str:
     """What changes: counts, failed calls and the drawing."""
     said = ""
     if gone:
@@ -60,7 +63,7 @@ def fragment(drawing, world, limit, gone):
             f"<h2>Counts</h2>\n{count_rows(world)}\n")
 
 
-def page(url, version, drawn):
+def page(url: str, version: int, drawn: str) -> str:
     """The whole page. Without scripts it shows what there is when it is loaded."""
     title = f"Live timeline of {url}"
     return document(title, (

@@ -1,9 +1,11 @@
 """The page: the drawing with its legend, its counts, and the same as text; one file that needs nothing else."""
+from typing import List, Tuple
 from xml.sax.saxutils import escape
 
+from .drawing import Drawing
 from .style import COLOURS, DRAWING, LABELS
 from .words import axis_words, length_words, moment_words, what
-from .world import FAILED, outcome
+from .world import FAILED, World, outcome
 
 LEGEND = (
     ("good", "answered: output, accepted, done"), ("error", "the function failed"), ("timeout", "timed out"),
@@ -37,7 +39,7 @@ summary{cursor:pointer;margin-top:1rem}
 """
 
 
-def sign(kind, inset=0):
+def sign(kind: str, inset: int = 0) -> str:
     """Returns the sign of an outcome in a list."""
     if kind == "refused":
         shape = '<path class="cross" d="M7 4l8 8m0 -8l-8 8"/>'
@@ -46,7 +48,7 @@ def sign(kind, inset=0):
     return f'<svg width="22" height="16" aria-hidden="true">{shape}</svg>'
 
 
-def legend():
+def legend() -> str:
     items = []
     for kind, words in LEGEND:
         items.append(f"<li>{sign(kind)}{words}</li>")
@@ -61,7 +63,7 @@ def legend():
     return '<ul class="legend">' + "".join(items) + "</ul>"
 
 
-def count_rows(world):
+def count_rows(world: World) -> str:
     """How many calls of each kind ended how."""
     counts = sorted(world.outcomes.items(), key=lambda item: (item[0][0] != "invoke", item[0]))
     rows = [(f"{kind}: {word}", count) for (kind, word), count in counts]
@@ -69,7 +71,7 @@ def count_rows(world):
     return "<ul>" + "".join(f"<li>{escape(words)} <b>{count:,}</b></li>" for words, count in rows if count) + "</ul>"
 
 
-def failures(drawing, newest_first=False):
+def failures(drawing: Drawing, newest_first: bool = False) -> str:
     """The failed calls that are drawn, each with a link to its place."""
     failed = [(call.end, f"call-{call.ticket}", outcome(call), what(drawing.configuration, call), call.said)
               for call in drawing.calls if outcome(call) in FAILED]
@@ -77,14 +79,14 @@ def failures(drawing, newest_first=False):
                for i, (moment, words) in enumerate(drawing.refused)]
     if not failed:
         return ""
-    items = "".join(f'<li>{sign(kind, 2)}<a href="#{place}">{axis_words(moment, drawing.zero)}: {escape(words)}: '
+    items = "".join(f'<li>{sign(kind, 2)}<a href="#{place}">{axis_words(moment, drawing.zero or 0)}: {escape(words)}: '
                     f'{escape(said)}</a></li>'
                     for moment, place, kind, words, said in sorted(failed, key=lambda each: each[0],
                                                                    reverse=newest_first))
     return f"<h2>Failed: {len(failed):,}</h2>\n<ul class=\"failed\">{items}</ul>\n"
 
 
-def figure(drawing):
+def figure(drawing: Drawing) -> str:
     """The drawing, with its labels in a column that stays while the rest is scrolled."""
     return (f'<figure><div class="scroll" tabindex="0">\n<svg class="names" xmlns="http://www.w3.org/2000/svg" '
             f'width="{LABELS}" height="{drawing.height:.0f}">\n' + "\n".join(drawing.labels)
@@ -93,7 +95,7 @@ def figure(drawing):
             + "\n".join(drawing.chart) + "\n</svg>\n</div></figure>\n")
 
 
-def summary(drawing, world):
+def summary(drawing: Drawing, world: World) -> str:
     """How much there is, and how much of it is drawn."""
     invokes = sum(count for (kind, _), count in world.outcomes.items() if kind == "invoke")
     invokes += sum(call.kind == "invoke" for call in world.open.values())
@@ -104,14 +106,14 @@ def summary(drawing, world):
     return words
 
 
-def scale_words(drawing):
+def scale_words(drawing: Drawing) -> str:
     if drawing.scale == "time":
         return "The axis is true to scale."
     return ("The axis is not to scale: each entry has a place of its own, and a longer wait is drawn wider, "
             "but not in proportion.")
 
 
-def document(title, body):
+def document(title: str, body: str) -> str:
     return ('<!DOCTYPE html>\n<html xmlns="http://www.w3.org/1999/xhtml" lang="en">\n<head>\n<meta charset="utf-8"/>\n'
             '<meta name="viewport" content="width=device-width, initial-scale=1"/>\n<meta name="color-scheme" '
             'content="light dark"/>\n'
@@ -119,7 +121,7 @@ def document(title, body):
             f"<body>\n{body}</body>\n</html>\n")
 
 
-def html(drawing, world, notes, log):
+def html(drawing: Drawing, world: World, notes: List[Tuple[str, str]], log: List[str]) -> str:
     """The page: `notes` are pairs of a class and a text, `log` the lines of the text."""
     drawing.links = True
     drawing.draw()

@@ -1,12 +1,20 @@
 """Reads histories and scripts: lines, the configuration, calls, and the answers that belong to them."""
 import re
 import sys
+from typing import TYPE_CHECKING, Any, Callable, Dict, Iterator, List, Optional, Protocol, Set, Tuple, Union
 from urllib.parse import unquote_to_bytes
 
-from ..configuration import is_list_of, is_text, is_whole
+from ..configuration import Members, is_list_of, is_text, is_whole
 from ..json_reader import NotJson, read_json
 from ..service import Fault
 
+if TYPE_CHECKING:
+    from .world import World
+
+# What makes a call, or has something: its kind, then the number of a caller or of an environment, then the name of an
+# extension
+Lane = Tuple[Any, ...]
+Given = Tuple[int, bytes]  # an answer: the ticket of its call, and its words
 LONGEST_LINE = 20_000_000
 SHOWN_OF_A_PAYLOAD = 160
 MOST_ENVIRONMENTS = 256
@@ -15,7 +23,7 @@ BAD_ESCAPE = re.compile(rb"%(?![0-9A-Fa-f]{2})")
 ANSWER = re.compile(rb"# ([0-9]{1,18}) ([0-9]{1,18}) (.+)", re.DOTALL)
 EXPIRY = re.compile(rb"## ([0-9]{1,18}) expire ([0-9]{1,18})")
 # The fields after a call's name: E an environment, F a function, N a number, = a text, and a set of words.
-FIELDS = {
+FIELDS: Dict[bytes, Tuple[Union[str, Set[bytes]], ...]] = {
     b"invoke": ("F", {b"q", b"-"}, "=-", "="),
     b"next": ("E",),
     b"response": ("E", "N", "="),
@@ -37,11 +45,11 @@ OF_EXTENSIONS = ("register", "ext-next", "ext-init-failure", "ext-exit-failure")
 WAITING = ("invoke",) + POLLS  # the calls that may wait for their answer
 
 
-def number(word, below=1 << 53):
+def number(word: bytes, below: int = 1 << 53) -> Optional[int]:
     return int(word) if NUMBER.fullmatch(word) and int(word) < below else None
 
 
-def shown(text):
+def shown(text: bytes) -> str:
     """A text of a script, decoded, for a person: what cannot be printed is a dot."""
     if len(text) <= SHOWN_OF_A_PAYLOAD and b"%" not in text and text.isascii():
         plain = text.decode()
@@ -54,9 +62,9 @@ def shown(text):
     return plain[:SHOWN_OF_A_PAYLOAD] + ("\u2026" if more else "")
 
 
-def functions_of(members):
+def functions_of(members: Members) -> List[Members]:
     """What a configuration says of its functions, if all of it has the types that the program gives it."""
-    functions = members["functions"]
+    functions: List[Members] = members["functions"]
     for function in functions:
         timeout, ports, extensions = function.get("timeout", 3), function["ports"], function.get("extensions", [])
         reserved = function.get("reserved", 0)
@@ -70,7 +78,7 @@ def functions_of(members):
 class Configuration:
     """What the drawing needs of the configuration; the program checks the rest."""
 
-    def __init__(self, line, form_2):
+    def __init__(self, line: bytes, form_2: bool) -> None:
         self.line = line
         try:
             members = read_json(line)
@@ -78,14 +86,17 @@ class Configuration:
             raise Fault(2, "configuration: NotJson: the first line of a script is its configuration, or 'form 2' with "
                            "the configuration in the second one; docs/formats.md has both") from None
         try:
+            if not isinstance(members, dict):
+                raise TypeError
             functions = functions_of(members)
-            self.names = [function["name"] for function in functions]
+            self.names: List[str] = [function["name"] for function in functions]
             self.numbers = {name.encode(): f for f, name in enumerate(self.names)}
             self.owners = [f for f, function in enumerate(functions) for _ in function["ports"]]
-            self.timeouts = [1000 * function.get("timeout", 3) for function in functions]
-            self.expected = [list(function.get("extensions", [])) for function in functions]
-            self.reserved = [function.get("reserved") for function in functions]
-            self.most, self.salt = members.get("maxEntries", 1_000_000), members.get("salt", 0)
+            self.timeouts: List[int] = [1000 * function.get("timeout", 3) for function in functions]
+            self.expected: List[List[str]] = [list(function.get("extensions", [])) for function in functions]
+            self.reserved: List[Optional[int]] = [function.get("reserved") for function in functions]
+            self.most: int = members.get("maxEntries", 1_000_000)
+            self.salt: int = members.get("salt", 0)
             if not (is_whole(self.most, 1 << 64) and is_whole(self.salt, 1 << 64)):
                 raise TypeError
         except (KeyError, TypeError, AttributeError, ValueError):
@@ -97,7 +108,7 @@ class Configuration:
             "account", "accountLimit", "functions", "invokePort", "leastRemainder", "maxEntries", "region", "salt"
         } and all(f.keys() >= {"extensions", "handler", "name", "ports", "timeout"} for f in functions)
 
-    def place(self, e):
+    def place(self, e: int) -> str:
         return f"environment {e} ({self.names[self.owners[e - 1]]})"
 
 
@@ -107,14 +118,21 @@ class Call:
     __slots__ = ("moment", "kind", "function", "environment", "count", "text", "size", "events", "ticket", "entry",
                  "end", "end_entry", "answer", "said", "lane", "drawn", "hidden")
 
-    def __init__(self, moment, kind):
+    def __init__(self, moment: int, kind: str) -> None:
         self.moment, self.kind = moment, kind
-        self.function = self.environment = self.count = self.text = self.ticket = self.entry = None
-        self.end = self.end_entry = self.answer = self.lane = None
+        self.function: Optional[int] = None
+        self.environment: Optional[int] = None
+        self.count: Optional[int] = None
+        self.text: Optional[str] = None
+        self.ticket = self.entry = -1  # before it is taken
+        self.end = moment  # with its answer
+        self.end_entry: Optional[int] = None
+        self.answer: Optional[List[str]] = None
+        self.lane: Lane = ("account",)
         self.size, self.events, self.said, self.drawn, self.hidden = 0, "", "", False, False
 
 
-def read_call(line, configuration, form_2):
+def read_call(line: bytes, configuration: Configuration, form_2: bool) -> Optional[Call]:
     """Returns the call of a line; None if it is not a call."""
     words = line.split(b" ")
     moment = number(words[0])
@@ -153,16 +171,27 @@ def read_call(line, configuration, form_2):
     return call
 
 
+class Readable(Protocol):
+    """What has lines."""
+
+    def readline(self, size: int) -> bytes:
+        ...
+
+
+# A call, or none for an expiry; its moment, its environment, and its answers
+Entry = Tuple[Optional[Call], int, Optional[int], List[Given]]
+
+
 class Lines:
     """The lines of a stream with their numbers, each without its end."""
 
-    def __init__(self, stream):
+    def __init__(self, stream: Readable) -> None:
         self.stream, self.at, self.whole = stream, 0, True
 
-    def __iter__(self):
+    def __iter__(self) -> "Lines":
         return self
 
-    def __next__(self):
+    def __next__(self) -> bytes:
         line = self.stream.readline(LONGEST_LINE + 2)
         if not line:
             raise StopIteration
@@ -175,24 +204,25 @@ class Lines:
         return line
 
 
-def read_configuration(lines):
+def read_configuration(lines: Lines) -> Tuple[Configuration, bool]:
     first = next(lines, b"")
     form_2 = first == b"form 2"
     return Configuration(next(lines, b"") if form_2 else first, form_2), form_2
 
 
-def unreadable(line, at, form_2):
+def unreadable(line: bytes, at: int, form_2: bool) -> Fault:
     word = line.split(b" ")[1:2]
     hint = " (only form 2 has 'reserve')" if word == [b"reserve"] and not form_2 else ""
     return Fault(2, f"script: line {at}: this is not a call of a script{hint}: {shown(line)[:60]!r}; "
                     "docs/formats.md lists the calls with their fields")
 
 
-def history_entries(lines, configuration, form_2):
+def history_entries(lines: Lines, configuration: Configuration, form_2: bool) -> Iterator[Entry]:
     """The entries of a history: (call or None for an expiry, moment, environment, answers)."""
-    entry, count = None, -1
+    entry: Optional[Entry] = None
+    count = -1
 
-    def lacks_answer(entry, at):
+    def lacks_answer(entry: Entry, at: int) -> None:
         call, answers = entry[0], entry[3]
         if call and call.kind not in WAITING and not any(ticket == count for ticket, _ in answers):
             raise Fault(2, f"line {at}: {call.kind} has no answer, though the file begins as a history; if it is a "
@@ -203,8 +233,9 @@ def history_entries(lines, configuration, form_2):
             print(f"timeline: line {lines.at} has no end, so it may be cut off; it is left out", file=sys.stderr)
             break
         if line.startswith(b"## ") and (found := EXPIRY.fullmatch(line)):
-            made = (None, int(found[1]), int(found[2]), [])
-            if not 0 < made[2] <= len(configuration.owners):
+            e = int(found[2])
+            made: Entry = (None, int(found[1]), e, [])
+            if not 0 < e <= len(configuration.owners):
                 raise Fault(2, f"line {lines.at}: there is no environment {made[2]}")
         elif line.startswith(b"#"):
             found = ANSWER.fullmatch(line)
@@ -232,41 +263,42 @@ def history_entries(lines, configuration, form_2):
 class Answers:
     """The answer lines of a replay, entry by entry."""
 
-    def __init__(self, stream, name):
-        self.lines, self.name, self.next = Lines(stream), name, None
+    def __init__(self, stream: Readable, name: str) -> None:
+        self.lines, self.name = Lines(stream), name
+        self.next: Optional[Tuple[int, int, bytes]] = None
+        self.says_full = False
         self.move()
 
-    def move(self):
+    def move(self) -> None:
         line = next(self.lines, None)
-        self.next = None
-        if line == b"refused JournalFull":
-            self.next = ("full",)
-        elif line is not None:
+        self.next, self.says_full = None, line == b"refused JournalFull"
+        if line is not None and not self.says_full:
             words = line.split(b" ", 2)
             if len(words) < 3 or number(words[0]) is None or number(words[1]) is None:
                 raise Fault(2, f"{self.name}: line {self.lines.at}: this is not an answer: {shown(line)[:60]!r}")
             self.next = (int(words[0]), int(words[1]), words[2])
 
-    def of(self, entry):
-        answers = []
+    def of(self, entry: int) -> List[Given]:
+        answers: List[Given] = []
         while self.next and self.next[0] == entry:
             answers.append(self.next[1:])
             self.move()
         return answers
 
-    def full(self):
-        if self.next == ("full",):
+    def full(self) -> bool:
+        if self.says_full:
             self.move()
             return True
         return False
 
-    def at_end(self, finish):
-        if self.next is not None:
+    def at_end(self, finish: Callable[[], None]) -> None:
+        if self.next is not None or self.says_full:
             finish()
             raise Fault(3, f"{self.name}: line {self.lines.at} is the answer of no call of this script")
 
 
-def script_entries(lines, configuration, form_2, answers, world, finish):
+def script_entries(lines: Lines, configuration: Configuration, form_2: bool, answers: Answers, world: "World",
+                   finish: Callable[[], None]) -> Iterator[Entry]:
     """The entries of a script with the answers of its replay; the expiries are those that the life cycle has."""
     count, last = 0, 0
     step = len(configuration.owners) + 1

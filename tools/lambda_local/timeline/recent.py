@@ -1,10 +1,11 @@
 """The last calls of a service that runs, and what goes on around them: of bounded size, however long it runs."""
 from collections import deque
+from typing import Deque, List
 
-from ..history import EXPIRE
+from ..history import EXPIRE, Entry
 from ..service import Fault
 from .drawing import Drawing
-from .read import read_call
+from .read import Configuration, read_call
 from .window import Window
 from .world import World
 
@@ -13,13 +14,13 @@ TAKEN_AT_ONCE = 1000  # entries, before those that are not shown any more are dr
 
 
 class Recent:
-    def __init__(self, configuration, limit, shows_all):
+    def __init__(self, configuration: Configuration, limit: int, shows_all: bool) -> None:
         self.configuration, self.limit, self.shows_all = configuration, limit, shows_all
         self.kept = Drawing(configuration)
         self.world = World(configuration, Window(shows_all=shows_all, spans=[self.kept]))
-        self.tickets = deque(maxlen=limit)
+        self.tickets: Deque[int] = deque(maxlen=limit)
 
-    def take(self, entries):
+    def take(self, entries: List[Entry]) -> None:
         """Follows what has come."""
         for n, entry in enumerate(entries, 1):
             self.take_one(entry)
@@ -27,7 +28,7 @@ class Recent:
                 self.forget()
         self.forget()
 
-    def take_one(self, entry):
+    def take_one(self, entry: Entry) -> None:
         answers = [(answer.ticket, " ".join([answer.kind, *answer.fields]).encode()) for answer in entry.answers]
         if entry.kind == EXPIRE:
             self.world.take(None, entry.moment, entry.environment, answers)
@@ -40,12 +41,12 @@ class Recent:
         if not call.hidden:
             self.tickets.append(call.ticket)
 
-    def forget(self):
+    def forget(self) -> None:
         """Drops what lies before the calls that are shown."""
         first = self.tickets[0] if self.tickets else self.world.entry
         self.kept.forget(max(first, self.world.entry - ENTRIES_OF_A_CALL * self.limit))
 
-    def drawing(self):
+    def drawing(self) -> Drawing:
         """What there is now, with what still goes on."""
         drawing = self.kept.copied(Drawing(self.configuration))
         drawing.links = True

@@ -1,41 +1,49 @@
 """What a `World` notifies its sink of, in the order in which it happens."""
+from typing import TYPE_CHECKING, List, Optional
+
+from .read import Call
+
+if TYPE_CHECKING:
+    from .world import Environment, Work, World
 
 
 class Sink:
     """Takes no notice of anything: the forms override what they show."""
+    draws_the_past = False  # whether it draws a reservation that was set before the window, from its left edge on
 
-    def begin(self, moment):
+    def begin(self, moment: int) -> None:
         """The first entry, before anything else."""
 
-    def reservation(self, moment, entry, f, count):
+    def reservation(self, moment: int, entry: int, f: int, count: Optional[int]) -> None:
         """From this entry on, a function has `count` environments reserved; None means no reservation."""
 
-    def full(self, moment, call):
+    def full(self, moment: int, call: Call) -> None:
         """A call that a full journal refused: it has no ticket and no entry."""
 
-    def expired(self, moment, entry, environment):
+    def expired(self, moment: int, entry: int, environment: "Environment") -> None:
         """The deadline of an environment's phase has come."""
 
-    def taken(self, call, own):
+    def taken(self, call: Call, own: Optional[List[str]]) -> None:
         """A call has its ticket; `own` is its answer if that came at once."""
 
-    def answered(self, call):
+    def answered(self, call: Call) -> None:
         """A call has its answer."""
 
-    def still_open(self, call, moment, entry):
+    def still_open(self, call: Call, moment: int, entry: int) -> None:
         """A call has no answer when the history ends."""
 
-    def turned(self, environment, moment, entry, phase, deadline, reason):
+    def turned(self, environment: "Environment", moment: int, entry: int, phase: str, deadline: Optional[int],
+               reason: Optional[str]) -> None:
         """An environment enters a phase. It still has that in which it was."""
 
-    def phase(self, environment, moment, entry):
+    def phase(self, environment: "Environment", moment: int, entry: Optional[int]) -> None:
         """The phase of an environment ends; with the history if `entry` is None."""
 
-    def worked(self, work, moment, entry):
+    def worked(self, work: "Work", moment: int, entry: Optional[int]) -> None:
         """A runtime or an extension has done what it was given; with the history if `entry` is None."""
 
-    def entered(self, entry, moment):
+    def entered(self, entry: int, moment: int) -> None:
         """Everything about an entry has been reported."""
 
-    def end(self, world):
+    def end(self, world: "World") -> None:
         """The history ends."""

@@ -34,5 +34,5 @@ svg path.mark.good{fill:var(--mark)}
 """
 
 
-def width_of(text):
+def width_of(text: str) -> float:
     return LETTER * len(text) + 6

@@ -1,40 +1,45 @@
 """The log: one line an event."""
+from typing import Callable, List, Optional
+
+from .read import Call, Configuration
 from .sink import Sink
 from .words import length_words, moment_words, payload_words, what, who
+from .world import Environment
 
 
 class Text(Sink):
     """One line an event, as it happens."""
 
-    def __init__(self, configuration, write):
+    def __init__(self, configuration: Configuration, write: Callable[[str], object]) -> None:
         self.configuration, self.write, self.now = configuration, write, 0
-        self.last, self.stamp = None, ""
+        self.last: Optional[int] = None
+        self.stamp = ""
 
-    def line(self, words):
+    def line(self, words: str) -> None:
         if self.now != self.last:
             self.last, self.stamp = self.now, f"{moment_words(self.now):>10}"
         self.write(f"{self.stamp}  {words}\n")
 
-    def begin(self, moment):
+    def begin(self, moment: int) -> None:
         self.now = moment
 
-    def full(self, moment, call):
+    def full(self, moment: int, call: Call) -> None:
         self.now = moment
         self.line(f"account: {what(self.configuration, call)}: refused JournalFull, so it has no number")
 
-    def expired(self, moment, entry, environment):
+    def expired(self, moment: int, entry: int, environment: Environment) -> None:
         self.now = moment
         self.line(f"{self.configuration.place(environment.number)}: the deadline of {environment.phase} has come "
                   f"(entry {entry})")
 
-    def taken(self, call, own):
+    def taken(self, call: Call, own: Optional[List[str]]) -> None:
         self.now = call.moment
         if own is None:
             payload = payload_words(call)
             self.line(f"{who(self.configuration, call)}: {what(self.configuration, call)}, call {call.ticket}"
                       + (f", {payload}" if payload else "") + ", waits")
 
-    def answered(self, call):
+    def answered(self, call: Call) -> None:
         what_words = what(self.configuration, call)
         if call.ticket == call.end_entry:
             payload = payload_words(call)
@@ -44,11 +49,12 @@ class Text(Sink):
             self.line(f"{who(self.configuration, call)}: {what_words}, call {call.ticket}, is answered after "
                       f"{length_words(call.end - call.moment)}: {call.said}")
 
-    def still_open(self, call, moment, entry):
+    def still_open(self, call: Call, moment: int, entry: int) -> None:
         self.line(
             f"{who(self.configuration, call)}: {what(self.configuration, call)}, call {call.ticket}, has no answer yet")
 
-    def turned(self, environment, moment, entry, phase, deadline, reason):
+    def turned(self, environment: Environment, moment: int, entry: int, phase: str, deadline: Optional[int],
+               reason: Optional[str]) -> None:
         place = self.configuration.place(environment.number)
         if phase == "Closing":
             self.line(f"{place}: reset, {reason}: Closing")

@@ -1,9 +1,11 @@
 """Trace events, for Perfetto and chrome://tracing."""
 import json
+from typing import Callable, Dict, Optional, Tuple
 
+from .read import Call, Configuration, Lane
 from .sink import Sink
 from .words import extension_words, payload_words, what
-from .world import outcome
+from .world import Environment, Work, World, outcome
 
 
 class Trace(Sink):
@@ -11,15 +13,17 @@ class Trace(Sink):
 
     draws_the_past = False
 
-    def __init__(self, configuration, write):
+    def __init__(self, configuration: Configuration, write: Callable[[str], object]) -> None:
         self.configuration, self.write = configuration, write
-        self.lanes, self.names, self.between = {}, {}, '{"displayTimeUnit":"ms","traceEvents":[\n'
+        self.lanes: Dict[Lane, Tuple[int, int]] = {}
+        self.names: Dict[int, Dict[int, str]] = {}
+        self.between = '{"displayTimeUnit":"ms","traceEvents":[\n'
 
-    def event(self, **members):
+    def event(self, **members: object) -> None:
         self.write(self.between + json.dumps(members, separators=(",", ":")))
         self.between = ",\n"
 
-    def name(self, process, thread, process_name, name):
+    def name(self, process: int, thread: int, process_name: str, name: str) -> None:
         if process not in self.names:
             self.names[process] = {}
             self.event(ph="M", pid=process, tid=0, name="process_name", args={"name": process_name})
@@ -27,7 +31,7 @@ class Trace(Sink):
         self.event(ph="M", pid=process, tid=thread, name="thread_name", args={"name": name})
         self.event(ph="M", pid=process, tid=thread, name="thread_sort_index", args={"sort_index": thread})
 
-    def place(self, lane):
+    def place(self, lane: Lane) -> Tuple[int, int]:
         """The numbers of a lane's process and thread."""
         if lane not in self.lanes:
             if lane[0] == "caller":
@@ -45,27 +49,27 @@ class Trace(Sink):
             self.lanes[lane] = place
         return self.lanes[lane]
 
-    def span(self, lane, category, name, begin, end, args):
+    def span(self, lane: Lane, category: str, name: str, begin: int, end: int, args: Dict[str, object]) -> None:
         process, thread = self.place(lane)
         self.event(ph="X", cat=category, pid=process, tid=thread, name=name, ts=1000 * begin, dur=1000 * (end - begin),
                    args=args)
 
-    def mark(self, lane, category, name, moment, args):
+    def mark(self, lane: Lane, category: str, name: str, moment: int, args: Dict[str, object]) -> None:
         process, thread = self.place(lane)
         self.event(ph="i", s="p", cat=category, pid=process, tid=thread, name=name, ts=1000 * moment, args=args)
 
-    def begin(self, moment):
+    def begin(self, moment: int) -> None:
         for e in range(1, len(self.configuration.owners) + 1):
             self.place(("environment", e))
 
-    def full(self, moment, call):
+    def full(self, moment: int, call: Call) -> None:
         self.mark(("account",), "full", f"{what(self.configuration, call)}: JournalFull", moment, {})
 
-    def expired(self, moment, entry, environment):
+    def expired(self, moment: int, entry: int, environment: Environment) -> None:
         self.mark(("environment", environment.number), "expiry", f"the deadline of {environment.phase} has come",
                   moment, {"entry": entry})
 
-    def call(self, call, end, colour):
+    def call(self, call: Call, end: int, colour: str) -> None:
         args = {"call": call.ticket, "outcome": outcome(call), "answer": call.said or "none yet"}
         if payload := payload_words(call):
             args["payload"] = payload
@@ -79,31 +83,33 @@ class Trace(Sink):
     COLOURS = {"good": "good", "handed": "thread_state_sleeping", "ending": "yellow", "error": "bad",
                "timeout": "terrible", "throttled": "olive", "ended": "grey", "refused": "black", "open": "white"}
 
-    def answered(self, call):
+    def answered(self, call: Call) -> None:
         self.call(call, call.end, self.COLOURS[outcome(call)])
 
-    def still_open(self, call, moment, entry):
+    def still_open(self, call: Call, moment: int, entry: int) -> None:
         self.call(call, moment, "white")
 
-    def phase(self, environment, moment, entry):
-        args = {"generation": environment.generation}
+    def phase(self, environment: Environment, moment: int, entry: Optional[int]) -> None:
+        args: Dict[str, object] = {"generation": environment.generation}
         if environment.deadline is not None:
             args["deadline"] = environment.deadline
         reset = f" ({environment.reason})" if environment.reason else ""
-        self.span(("environment", environment.number), "phase", environment.phase + reset, environment.since, moment,
+        begun = environment.since or 0
+        self.span(("environment", environment.number), "phase", environment.phase + reset, begun, moment,
                   args)
 
-    def turned(self, environment, moment, entry, phase, deadline, reason):
+    def turned(self, environment: Environment, moment: int, entry: int, phase: str, deadline: Optional[int],
+               reason: Optional[str]) -> None:
         if phase == "Closing":
             self.mark(("environment", environment.number), "reset", f"reset: {reason}", moment,
                       {"generation": environment.generation})
 
-    def worked(self, work, moment, entry):
+    def worked(self, work: Work, moment: int, entry: Optional[int]) -> None:
         self.span(work.lane, "work", f"works on {work.name}", work.moment, moment, {"deadline": work.until})
 
-    def reservation(self, moment, entry, f, count):
+    def reservation(self, moment: int, entry: int, f: int, count: Optional[int]) -> None:
         self.mark(("account",), "reservation", f"{self.configuration.names[f]}: "
                   + ("no reservation" if count is None else f"{count} reserved"), moment, {})
 
-    def end(self, world):
+    def end(self, world: World) -> None:
         self.write((self.between if self.between.startswith("{") else "\n") + "]}\n")

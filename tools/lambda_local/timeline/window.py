@@ -1,8 +1,11 @@
 """What is shown of a history: the calls of a window of time, up to a limit, and what goes on around them."""
+from typing import List, Optional, Sequence
+
 from ..service import Fault
+from .read import Call, Lane
 from .sink import Sink
 from .words import since_words
-from .world import FAILED, outcome
+from .world import FAILED, Environment, Work, World, outcome
 
 OF_UP = "lambda_local.up"  # the extension as which lambda_local up registers in each environment
 
@@ -10,14 +13,14 @@ OF_UP = "lambda_local.up"  # the extension as which lambda_local up registers in
 class Moment:
     """A moment of the command line: on the axis of the history, or in milliseconds after its first entry."""
 
-    def __init__(self, milliseconds, is_relative):
+    def __init__(self, milliseconds: int, is_relative: bool) -> None:
         self.milliseconds, self.is_relative = milliseconds, is_relative
 
-    def is_after(self, other):
+    def is_after(self, other: "Moment") -> bool:
         """Whether it is later than another one on the same axis."""
         return self.is_relative == other.is_relative and self.milliseconds > other.milliseconds
 
-    def after(self, first):
+    def after(self, first: int) -> int:
         return self.milliseconds + (first if self.is_relative else 0)
 
 
@@ -27,14 +30,17 @@ class Window(Sink):
     `events` are the sinks that show what happens at a moment: they are notified of what happens in the window. `spans`
     are those that show what lasts: they are notified of all of which a part lies in the window."""
 
-    def __init__(self, begin=None, end=None, limit=None, shows_all=False, events=(), spans=()):
+    def __init__(self, begin: Optional[Moment] = None, end: Optional[Moment] = None, limit: Optional[int] = None,
+                 shows_all: bool = False, events: Sequence[Sink] = (), spans: Sequence[Sink] = ()) -> None:
         self.given, self.limit, self.shows_all, self.events, self.spans = (begin, end), limit, shows_all, events, spans
         self.start, self.stop = 0, float("inf")
-        self.first = self.over = None  # the moment of the first entry; that from which on nothing more is shown
+        self.first: Optional[int] = None  # the moment of the first entry
+        self.over: Optional[int] = None  # that from which on nothing more is shown
         self.calls = self.before = self.after = self.hidden = 0
-        self.failed, self.first_failed = 0, None  # the failed calls that are left out, and the moment of the first
+        self.failed = 0  # calls that are left out
+        self.first_failed: Optional[int] = None  # the moment of the first of them
 
-    def begin(self, moment):
+    def begin(self, moment: int) -> None:
         self.first = moment
         begin, end = self.given
         if begin is not None:
@@ -47,16 +53,16 @@ class Window(Sink):
         for sink in (*self.events, *self.spans):
             sink.begin(moment)
 
-    def shows(self, moment):
+    def shows(self, moment: int) -> bool:
         return self.start <= moment <= self.stop and self.over is None
 
-    def is_past(self, moment):
+    def is_past(self, moment: int) -> bool:
         return moment > self.stop or (self.over is not None and moment >= self.over)
 
-    def is_hidden(self, lane):
+    def is_hidden(self, lane: Lane) -> bool:
         return not self.shows_all and lane[0] == "extension" and lane[2] == OF_UP
 
-    def reservation(self, moment, entry, f, count):
+    def reservation(self, moment: int, entry: int, f: int, count: Optional[int]) -> None:
         shown = self.shows(moment)
         for sink in self.events if shown else ():
             sink.reservation(moment, entry, f, count)
@@ -64,17 +70,17 @@ class Window(Sink):
             if shown or (sink.draws_the_past and not self.is_past(moment)):
                 sink.reservation(moment, entry, f, count)
 
-    def full(self, moment, call):
+    def full(self, moment: int, call: Call) -> None:
         if self.shows(moment):
             for sink in (*self.events, *self.spans):
                 sink.full(moment, call)
 
-    def expired(self, moment, entry, environment):
+    def expired(self, moment: int, entry: int, environment: Environment) -> None:
         if self.shows(moment):
             for sink in (*self.events, *self.spans):
                 sink.expired(moment, entry, environment)
 
-    def taken(self, call, own):
+    def taken(self, call: Call, own: Optional[List[str]]) -> None:
         call.hidden = self.is_hidden(call.lane)
         if call.hidden:
             self.hidden += 1
@@ -93,7 +99,7 @@ class Window(Sink):
             for sink in self.events:
                 sink.taken(call, own)
 
-    def answered(self, call):
+    def answered(self, call: Call) -> None:
         if call.hidden:
             return
         if call.drawn and call.end >= self.start:
@@ -107,7 +113,7 @@ class Window(Sink):
             for sink in self.events:
                 sink.answered(call)
 
-    def still_open(self, call, moment, entry):
+    def still_open(self, call: Call, moment: int, entry: int) -> None:
         if call.hidden:
             return
         if call.drawn:
@@ -118,40 +124,41 @@ class Window(Sink):
             for sink in self.events:
                 sink.still_open(call, moment, entry)
 
-    def turned(self, environment, moment, entry, phase, deadline, reason):
+    def turned(self, environment: Environment, moment: int, entry: int, phase: str, deadline: Optional[int],
+               reason: Optional[str]) -> None:
         if self.shows(moment):
             for sink in (*self.events, *self.spans):
                 sink.turned(environment, moment, entry, phase, deadline, reason)
 
-    def phase(self, environment, moment, entry):
-        if moment >= self.start and not self.is_past(environment.since):
+    def phase(self, environment: Environment, moment: int, entry: Optional[int]) -> None:
+        if moment >= self.start and not self.is_past(environment.since or 0):
             for sink in self.spans:
                 sink.phase(environment, moment, entry)
 
-    def worked(self, work, moment, entry):
+    def worked(self, work: Work, moment: int, entry: Optional[int]) -> None:
         if moment >= self.start and not self.is_past(work.moment) and not self.is_hidden(work.lane):
             for sink in self.spans:
                 sink.worked(work, moment, entry)
 
-    def entered(self, entry, moment):
+    def entered(self, entry: int, moment: int) -> None:
         if self.shows(moment):
             for sink in self.spans:
                 sink.entered(entry, moment)
 
-    def end(self, world):
+    def end(self, world: World) -> None:
         for sink in (*self.events, *self.spans):
             sink.end(world)
 
-    def left_out(self):
+    def left_out(self) -> str:
         """What is left out, in words; nothing if that is nothing."""
         words = []
         if self.before:
             words.append(f"{self.before:,} calls before {since_words(self.start, self.first)}")
         if self.after:
-            words.append(f"{self.after:,} calls from {since_words(self.over, self.first)} on")
+            words.append(f"{self.after:,} calls from {since_words(self.over or 0, self.first)} on")
         if not words:
             return ""
         failed = ""
         if self.failed:
-            failed = f" {self.failed:,} of them failed, the first at {since_words(self.first_failed, self.first)}."
+            failed = f" {self.failed:,} of them failed, the first at {since_words(self.first_failed or 0, self.first)}."
         return f"Left out: {' and '.join(words)}.{failed} --from, --to and --limit choose what is shown."

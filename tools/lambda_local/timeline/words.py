@@ -1,23 +1,26 @@
 """What all forms say of moments, lengths, calls and those who make them."""
 import functools
 from datetime import datetime, timezone
+from typing import Optional
+
+from .read import Call, Configuration
 
 # moments of the clock, to the year 9999; others are a script's
 WALL_CLOCK = range(100_000_000_000, 253_402_300_800_000)
 
 
-def moment_words(moment):
+def moment_words(moment: int) -> str:
     if moment not in WALL_CLOCK:
         return f"{moment} ms"
     return f"{second_words(moment // 1000)}.{moment % 1000:03}Z"
 
 
-def axis_words(moment, first):
+def axis_words(moment: int, first: int) -> str:
     """A moment as the axis has it, and --from takes it: in seconds after the first entry, or a script's own."""
     return f"+{(moment - first) / 1000:.3f} s" if moment in WALL_CLOCK else f"{moment:,} ms"
 
 
-def since_words(moment, first):
+def since_words(moment: int, first: Optional[int]) -> str:
     """A moment on both axes: on the clock, and in seconds after the first entry; a script's on its only one."""
     if first is None or moment not in WALL_CLOCK or moment < first:
         return f"{moment:,} ms"
@@ -25,11 +28,11 @@ def since_words(moment, first):
 
 
 @functools.lru_cache(maxsize=64)
-def second_words(second):
+def second_words(second: int) -> str:
     return datetime.fromtimestamp(second, timezone.utc).strftime("%Y-%m-%dT%H:%M:%S")
 
 
-def who(configuration, call):
+def who(configuration: Configuration, call: Call) -> str:
     lane = call.lane
     if lane[0] == "caller":
         return f"caller {lane[1]}"
@@ -40,11 +43,11 @@ def who(configuration, call):
         "runtime" if lane[0] == "runtime" else extension_words(lane[2]))
 
 
-def extension_words(name):
+def extension_words(name: Optional[str]) -> str:
     return "unknown extension" if name is None else f"extension {name}"
 
 
-def what(configuration, call):
+def what(configuration: Configuration, call: Call) -> str:
     """A call's name with what it names."""
     words = [call.kind]
     if call.function is not None:
@@ -61,11 +64,11 @@ def what(configuration, call):
     return " ".join(words)
 
 
-def length_words(milliseconds):
+def length_words(milliseconds: int) -> str:
     return f"{milliseconds:,} ms" if milliseconds < 10_000 else f"{milliseconds / 1000:,.1f} s"
 
 
-def payload_words(call):
+def payload_words(call: Call) -> str:
     if call.text is None or call.kind == "register":
         return ""
     return f"{call.size:,} byte{'' if call.size == 1 else 's'}: {call.text}" if call.size else "0 bytes"

@@ -1,11 +1,13 @@
 """Follows the entries of a history by the life cycle, and notifies a sink of each thing that begins or ends."""
 import heapq
+from typing import Dict, List, Optional, Sequence, Tuple, Union
 
 from .. import phases
 from ..history import EXPIRE, count_in
 from ..phases import reason_to_end
 from ..service import Fault
-from .read import OF_EXTENSIONS, POLLS, shown
+from .read import OF_EXTENSIONS, POLLS, Call, Configuration, Given, Lane, shown
+from .sink import Sink
 
 # the outcome of a call, by the first word of its answer
 OUTCOMES = {
@@ -18,7 +20,7 @@ OUTCOMES = {
 FAILED = ("error", "timeout", "throttled", "refused")  # the outcomes of a call that failed
 
 
-def outcome(call):
+def outcome(call: Call) -> str:
     if call.answer is None:
         return "open"
     if call.kind in POLLS and call.answer[0] == "refused" and call.answer[1] in ("Container", "Replaced"):
@@ -26,7 +28,17 @@ def outcome(call):
     return OUTCOMES[call.answer[0]]
 
 
-def read_answer(words):
+def number_of(call: Call) -> int:
+    """The number that a call names: of an extension or of a call."""
+    return -1 if call.count is None else call.count
+
+
+def environment_of(call: Call) -> int:
+    """The environment that a call of a runtime or an extension names."""
+    return call.environment or 0
+
+
+def read_answer(words: bytes) -> Tuple[List[str], str]:
     """An answer: its words, the text cut short, and the same for a person."""
     if len(words) > 400 or b"=" in words:
         head, mark, text = words.partition(b" =")
@@ -57,20 +69,25 @@ def read_answer(words):
 class Extension(phases.Extension):
     __slots__ = ("works", )
 
-    def __init__(self, name, events):
+    def __init__(self, name: str, events: str) -> None:
         super().__init__(name, events)
-        self.works = None
+        self.works: Optional[Work] = None
 
 
-class Environment(phases.Members):
+class Environment(phases.Members[Extension]):
     """An environment's phase, as in docs/semantics.md; the answers say everything that a call itself doesn't."""
 
-    def __init__(self, number, function):
+    def __init__(self, number: int, function: int) -> None:
         super().__init__()
         self.number, self.function = number, function
         self.generation = 1
-        self.phase, self.since, self.since_entry = "Starting", None, None
-        self.deadline = self.bound = self.reason = self.works = None
+        self.phase = self.was = "Starting"
+        self.since: Optional[int] = None
+        self.since_entry: Optional[int] = None
+        self.deadline: Optional[int] = None
+        self.bound: Optional[int] = None
+        self.reason: Optional[str] = None
+        self.works: Optional[Work] = None
 
 
 class Work:
@@ -79,39 +96,45 @@ class Work:
 
     __slots__ = ("lane", "name", "moment", "entry", "until", "request", "outcome")
 
-    def __init__(self, lane, name, moment, entry, until, request):
+    def __init__(self, lane: Lane, name: str, moment: int, entry: int, until: int, request: Optional[int]) -> None:
         self.lane, self.name, self.moment = lane, name, moment
         self.entry, self.until, self.request = entry, until, request
         self.outcome = "open"
 
 
+Actor = Union[Environment, Extension]  # an environment for its runtime
+Handed = Tuple[Environment, Actor, Call, List[str]]
+
+
 class World:
     """Follows the entries, and reports to a sink each thing that was begun, ended, or reset."""
 
-    def __init__(self, configuration, sink):
+    def __init__(self, configuration: Configuration, sink: Sink) -> None:
         self.configuration, self.sink = configuration, sink
         self.environments = [Environment(e + 1, f) for e, f in enumerate(configuration.owners)]
-        self.open, self.placed = {}, {}
+        self.open: Dict[int, Call] = {}
+        self.placed: Dict[int, Optional[Environment]] = {}
         self.stopped, self.entry, self.moment, self.calls, self.refused_full = False, -1, 0, 0, 0
-        self.free_callers, self.callers = [], 0
+        self.free_callers: List[int] = []
+        self.callers = 0
         self.reserved = list(configuration.reserved)
-        self.deadlines = []
-        self.outcomes = {}
+        self.deadlines: List[Tuple[int, int]] = []
+        self.outcomes: Dict[Tuple[str, str], int] = {}
 
-    def full(self, call):
+    def full(self, call: Call) -> None:
         """A call that a full journal refused: it has no entry and no ticket."""
         self.refused_full += 1
         self.sink.full(max(call.moment, self.moment), call)
 
-    def due(self, now):
-        found = []
+    def due(self, now: int) -> List[int]:
+        found: List[Tuple[int, int]] = []
         while self.deadlines and self.deadlines[0][0] <= now:
             deadline, e = heapq.heappop(self.deadlines)
             if self.environments[e - 1].deadline == deadline and (deadline, e) not in found:
                 found.append((deadline, e))
         return [e for _, e in found]
 
-    def take(self, call, moment, e, answers):
+    def take(self, call: Optional[Call], moment: int, e: Optional[int], answers: Sequence[Given]) -> None:
         """One entry."""
         self.entry += 1
         if moment < self.moment:
@@ -125,8 +148,8 @@ class World:
             for environment in self.environments:
                 environment.since, environment.since_entry = moment, 0
         self.moment = moment
-        answers = [(ticket, *read_answer(words)) for ticket, words in answers]
-        own = next((answer for ticket, answer, _ in answers if ticket == self.entry), None)
+        read = [(ticket, *read_answer(words)) for ticket, words in answers]
+        own = next((answer for ticket, answer, _ in read if ticket == self.entry), None)
         concerned = [self.environments[e - 1]] if e else []
         if call is None:
             self.sink.expired(moment, self.entry, concerned[0])
@@ -134,13 +157,13 @@ class World:
             concerned = self.begin(call, own, concerned)
         for environment in concerned:
             self.note_call(environment, call, own)
-        handed = []
-        for ticket, answer, told in answers:
+        handed: List[Handed] = []
+        for ticket, answer, told in read:
             if ticket == self.entry:
                 self.end(ticket, answer, told, handed)
         for environment in concerned:
             self.cell(environment, call, own, moment)
-        for ticket, answer, told in answers:
+        for ticket, answer, told in read:
             if ticket != self.entry:
                 self.end(ticket, answer, told, handed)
         for environment in concerned:
@@ -150,12 +173,13 @@ class World:
             self.works(environment, actor, answer)
         if call is not None and call.kind == "stop":
             self.stopped = True
-        if call is not None and call.kind == "reserve" and own and own[0] in ("reserved", "unreserved"):
+        if (call is not None and call.kind == "reserve" and call.function is not None
+                and own and own[0] in ("reserved", "unreserved")):
             self.reserved[call.function] = call.count
             self.sink.reservation(moment, self.entry, call.function, call.count)
         self.sink.entered(self.entry, moment)
 
-    def begin(self, call, own, concerned):
+    def begin(self, call: Call, own: Optional[List[str]], concerned: List[Environment]) -> List[Environment]:
         """A call is taken: it gets its ticket and its lane. Gives the environments that it concerns."""
         self.calls += 1
         call.ticket = call.entry = self.entry
@@ -175,15 +199,15 @@ class World:
             if call.kind == "register":
                 name = call.text
             else:
-                extension = environment.extensions.get(call.count)
+                extension = environment.extensions.get(number_of(call))
                 name = extension.name if extension else None
             call.lane = ("extension", environment.number, name)
         elif call.kind == "withdraw":
-            poll = self.open.get(call.count)
+            poll = self.open.get(number_of(call))
             poll = poll if poll and poll.kind in POLLS else None
             call.lane = poll.lane if poll else ("account",)
             if poll:
-                concerned = [self.environments[poll.environment - 1]]
+                concerned = [self.environments[environment_of(poll) - 1]]
         elif call.kind == "spindown":
             call.lane = ("environment", concerned[0].number)
         elif call.environment:
@@ -196,7 +220,7 @@ class World:
         self.sink.taken(call, own)
         return concerned
 
-    def place(self, f):
+    def place(self, f: Optional[int]) -> Optional[Environment]:
         """Where an admitted Invoke goes: an Idle environment, else one that starts, else one that closes."""
         for phase in ("Idle", "Starting", "Closing"):
             for environment in self.environments:
@@ -204,26 +228,30 @@ class World:
                     return environment
         return None
 
-    def note_call(self, environment, call, own):
+    def note_call(self, environment: Environment, call: Optional[Call], own: Optional[List[str]]) -> None:
         """Notes what a call says about who asks for the next event, and who is there."""
         if call is None:
             return
         if call.kind == "ext-next" and call.count in environment.extensions:
-            self.rests(environment, environment.extensions[call.count])
-        environment.note(call.kind, call.count, call.ticket, own and own[0],
-                         lambda: (count_in(own[1]), Extension(call.text, call.events)))
+            self.rests(environment, environment.extensions[number_of(call)])
+        registered = Extension(str(call.text), call.events)
+        environment.note(call.kind, call.count, call.ticket, own[0] if own else None,
+                         lambda: (count_in(own[1] if own else ""), registered))
 
-    def cell(self, environment, call, own, moment):
+    def cell(self, environment: Environment, call: Optional[Call], own: Optional[List[str]], moment: int) -> None:
         """What the call makes of the phase."""
         phase, kind = environment.phase, call.kind if call else EXPIRE
         environment.was = phase
         if kind == "stop" and phase == "Closing":
             environment.bound = None
         can_end = phase in ("Starting", "Busy") or phase == "Idle" and call is not None
-        reason = reason_to_end(kind, own and own[0]) if can_end and not (kind == "stop" and self.stopped) else None
+        is_begun = can_end and not (kind == "stop" and self.stopped)
+        reason = reason_to_end(kind, own[0] if own else None) if is_begun else None
         if reason:
             self.change(environment, "Closing", moment + 2000, reason)
             environment.bound = None
+        elif call is None:
+            return
         elif kind == "invoke":
             environment.bound = call.ticket
             if phase == "Idle":
@@ -236,11 +264,11 @@ class World:
         ):
             self.start_clock(environment, moment)
 
-    def start_clock(self, environment, moment):
+    def start_clock(self, environment: Environment, moment: int) -> None:
         if environment.deadline is None:
             self.set_deadline(environment, moment + 10_000)
 
-    def set_deadline(self, environment, deadline):
+    def set_deadline(self, environment: Environment, deadline: Optional[int]) -> None:
         environment.deadline = deadline
         if deadline is not None:
             heapq.heappush(self.deadlines, (deadline, environment.number))
@@ -248,7 +276,7 @@ class World:
                 self.deadlines = [(e.deadline, e.number) for e in self.environments if e.deadline is not None]
                 heapq.heapify(self.deadlines)
 
-    def settle(self, environment, call, moment):
+    def settle(self, environment: Environment, call: Optional[Call], moment: int) -> None:
         """A Closing that waits for no one ends; otherwise an environment becomes ready once all have asked."""
         if environment.phase == "Closing":
             if not environment.is_awaited() or (environment.was == "Closing" and call is None):
@@ -277,14 +305,15 @@ class World:
         elif not ready and environment.phase == "Idle":
             self.change(environment, "Starting", None)
 
-    def change(self, environment, phase, deadline, reason=None):
+    def change(self, environment: Environment, phase: str, deadline: Optional[int],
+               reason: Optional[str] = None) -> None:
         self.sink.phase(environment, self.moment, self.entry)
         self.sink.turned(environment, self.moment, self.entry, phase, deadline, reason)
         environment.phase, environment.reason = phase, reason
         environment.since, environment.since_entry = self.moment, self.entry
         self.set_deadline(environment, deadline)
 
-    def end(self, ticket, answer, told, handed):
+    def end(self, ticket: int, answer: List[str], told: str, handed: List[Handed]) -> None:
         """A call gets its answer."""
         call = self.open.pop(ticket, None)
         if call is None:
@@ -294,27 +323,31 @@ class World:
         word = answer[0]
         if call.kind == "invoke":
             heapq.heappush(self.free_callers, call.lane[1])
-            environment = self.placed.pop(ticket, None)
-            if environment and environment.works and environment.works.request == ticket:
-                environment.works.outcome = outcome(call)
-                self.rests(environment, environment)
+            placed = self.placed.pop(ticket, None)
+            if placed and placed.works and placed.works.request == ticket:
+                placed.works.outcome = outcome(call)
+                self.rests(placed, placed)
         elif call.kind in POLLS:
-            environment = self.environments[call.environment - 1]
-            actor = environment if call.kind == "next" else environment.extensions.get(call.count)
+            environment = self.environments[environment_of(call) - 1]
+            actor: Optional[Actor] = environment if call.kind == "next" else (
+                environment.extensions.get(number_of(call)))
             if word in ("deliver", "tell") and actor:
                 handed.append((environment, actor, call, answer))
             elif actor:
                 if actor.poll == ticket:
                     actor.poll = None
                 if word == "shutdown":
-                    actor.told = True
+                    if isinstance(actor, Extension):
+                        actor.told = True
                     self.works(environment, actor, answer)
         self.outcomes[call.kind, word] = self.outcomes.get((call.kind, word), 0) + 1
         self.sink.answered(call)
 
-    def works(self, environment, actor, answer):
+    def works(self, environment: Environment, actor: Actor, answer: List[str]) -> None:
         self.rests(environment, actor)
-        if actor is environment:
+        lane: Lane
+        request: Optional[int]
+        if isinstance(actor, Environment):
             lane, request, until = ("runtime", environment.number), environment.bound, int(answer[2])
             name = f"request {count_in(answer[1])}"
         else:
@@ -322,15 +355,16 @@ class World:
             name = answer[2] if answer[0] == "shutdown" else f"event {count_in(answer[1])}"
         actor.works = Work(lane, name, self.moment, self.entry, until, request)
 
-    def rests(self, environment, actor):
+    def rests(self, environment: Environment, actor: Actor) -> None:
         if actor.works:
             self.sink.worked(actor.works, self.moment, self.entry)
             actor.works = None
 
-    def finish(self, sink):
+    def finish(self, sink: Sink) -> None:
         """After the last entry: what is still open ends with the picture. Changes nothing here: more may follow."""
         for environment in self.environments:
-            for actor in [environment, *environment.extensions.values()]:
+            actors: List[Actor] = [environment, *environment.extensions.values()]
+            for actor in actors:
                 if actor.works:
                     sink.worked(actor.works, self.moment, None)
             if environment.since is not None:
