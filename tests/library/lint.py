@@ -90,12 +90,14 @@ def is_left_alone(root, finding):
 
 
 def checks_of_types(root):
-    """Whether the files of `typed.txt` are as `mypy --strict` has them, if it is here (Debian: mypy)."""
+    """Whether tools/ is as `mypy --strict` has it, if it is here (Debian: mypy). tools/proof_costs is left out: it is
+    for those who prove, and reads what the kit's checker writes."""
     mypy = shutil.which("mypy")
     if not mypy:
         return
-    with open(os.path.join(root, "tests", "library", "typed.txt"), encoding="utf-8") as file:
-        names = [f"lambda_local/{line.strip()}" for line in file if not line.startswith("#")]
+    names = ["lambda_local", "packages", "pytest_lambda_local.py", "__main__.py",
+             *sorted(os.path.join("library", name) for name in os.listdir(os.path.join(root, "tools", "library"))
+                     if name.endswith(".py"))]
     # (a cache of this checkout alone: what another one has at the same place is another file)
     cache = f"lambda_local.mypy.{zlib.crc32(os.path.realpath(root).encode()):08x}"
     ran = subprocess.run([mypy, "--strict", "--python-version", "3.9", "--follow-imports=silent", "--cache-dir",

@@ -17,6 +17,10 @@ import sys
 import time
 import types
 
+MYPY = False
+if MYPY:  # (a runtime imports no typing)
+    from typing import Any, Dict, Optional, Tuple
+
 if False:  # (for types alone)
     from typing import Any, Dict, Optional, Tuple
     Request = Dict[str, Any]
