@@ -179,7 +179,7 @@ class TakesWhatHasCome(Runtime):
 
 
 class WaitsOnADeadConnection(Runtime):
-    check = "lost_poll"
+    check, also = "lost_poll", {"connection_end"}
 
     def next(self):
         self.connection.request("GET", self.next_path)

@@ -18,7 +18,7 @@ FOLLOWS: Dict[str, Tuple[str, ...]] = {
     "ends_at_500_error": ("error_reported",), "long_refusal": ("late_response",),
     "chunked_answers": ("long_refusal",), "init_error": ("error_message", "error_type"),
     "closing_answers": ("connection_end", "header_names"), "slow_answers": ("long_text",),
-    "cut_event": ("slow_answers", "long_text"),
+    "cut_event": ("slow_answers", "long_text", "connection_end"), "lost_poll": ("connection_end",),
     "missing_handler": ("init_error",), "broken_handler": ("init_error",), "responds_once": ("error_reported",),
     "long_handler": ("late_response",),
     # of extensions
