@@ -23,7 +23,7 @@ LIES: Dict[str, Tuple[str, str, str, str]] = {
     "events_load": ("10", OF_TOOLS + "front/queue.py", "        lane.ready.appendleft(event)\n", "        pass\n"),
     "explained": ("", OF_TOOLS + "configuration.py", "256 is the most", "255 is the most"),
     "forking": ("", OF_TOOLS + "forking.py", "    sys.argv[:] = [path]\n", "    pass\n"),
-    "from_template": ("", OF_TOOLS + "from_template/values.py", "is not a condition", "is a condition"),
+    "from_template": ("", OF_TOOLS + "from_template/values.py", "is not a string", "is a string"),
     "fuzz": ("--hours 0.005", OF_TOOLS + "json_reader.py", "NotJson(", "KeyError("),
     "history": ("", OF_TOOLS + "history.py", "and len(word) <= MOST_DIGITS", ""),
     "http1": ("", OF_TOOLS + "http1/framing.py", "chunked", "chunket"),

@@ -192,7 +192,8 @@ FAULTS = {
 
 def faults():
     """The service gives each of these names to a configuration that has it, and each is explained."""
-    program = os.environ.get("LAMBDA_LOCAL_PROGRAM") or os.path.join(ROOT, "lambda_local")
+    # (the program itself: the launcher explains what it refuses)
+    program = subprocess.run([LAUNCHER, "path"], stdout=subprocess.PIPE, text=True, check=True).stdout.rstrip("\n")
     with tempfile.TemporaryDirectory() as folder:
         for name, (members, words) in FAULTS.items():
             whole = {"account": "123456789012", "region": "us-east-1", "functions": [{"name": "a", "ports": [1]}],
