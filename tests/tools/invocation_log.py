@@ -87,12 +87,13 @@ def tails():
     check("one that prints nothing", parts(tail_of(up, do="nothing"))[0], [])
     check("its memory is the most that it has used", int(parts(tail_of(up, do="memory"))[1][3]) > 85)
     check("also later", int(parts(tail_of(up, do="nothing"))[1][3]) > 85)
-    failures(up)
     log = tail_of(up, do="many", count=1000, name="\u00e9" * 7)
     whole = f"START RequestId: {re.search(END, log)[1]} Version: $LATEST\n{log}"
     check("the last 4 KB, from a whole character on", (len(log.encode()) in range(4094, 4097),
                                                        log[0] in "\u00e9 line0123456789\n", parts(whole)[0][-1]),
           (True, True, "\u00e9" * 7 + " line 999"))
+    failures(up)
+    until(lambda: up.count("imported") == 3, 20)  # (the one after the timeout)
     for kind in (None, "None"):
         check(f"no log is given with the log type {kind}", tail_of(up, kind=kind), None)
     check("a line that is not whole", parts(tail_of(up, do="part"))[0], ["begun"])
