@@ -7,3 +7,5 @@ pub mod Notices
 pub mod Exchanged
 pub mod Answered
 pub mod Attended
+pub mod Withdrawn
+pub mod Beats

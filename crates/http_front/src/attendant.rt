@@ -1,12 +1,15 @@
 //! The thread of a place, which serves one connection after the other.
 
-ghost use Rattle.std.specs.Prelude.{◌≡◌, IfOk};
+ghost use Rattle.std.specs.Prelude.{◌≡◌, IfErr, IfOk, OnOk};
 ghost use Rattle.std.specs.Arc.{arc_value};
+ghost use Rattle.account_lock.specs.Submits.{IsTurnedAway};
+ghost use Rattle.call_types.specs.declared.call.Call.TheVariants.{Withdraw};
 ghost use Rattle.http_connection.specs.Wires.{IsFresh, name_of};
 ghost use Rattle.http_connection.specs.Written.{Written, outcome_of};
 ghost use Rattle.http_front.specs.Attended.{IsAttended};
 ghost use Rattle.http_front.specs.Exchanged.{IsAnswer};
 ghost use Rattle.http_front.specs.Ports.{api_of};
+ghost use Rattle.http_front.specs.Withdrawn.{IsWithdrawn};
 ghost use Rattle.socket_loop.specs.Halves.{name_of_accepted};
 
 use crate::beat::Beat;
@@ -15,9 +18,10 @@ use crate::door::Door;
 use crate::front::Front;
 use crate::sides::Sides;
 use crate::{Rousing, Side};
+use account_book::Refusal;
 use account_lock::{Account, Identity};
 use bytes::Bytes;
-use call_model::Call;
+use call_model::{Call, Ticket};
 use connection_places::{Post, Worker};
 use connection_state::{PortKind, Pulse, Signals};
 use decisions::Decide;
@@ -185,7 +189,8 @@ impl<R: Machine, S: Identity + Drop, N: Clock + Drop, K: Keep> Attendant<R, S, N
         unreachable!()
     }
 
-    /// Serves a connection, and then withdraws its open Next (Runtime API, Next invocation).
+    /// Serves a connection, withdraws its open Next (Runtime API, Next invocation), and notes that the
+    /// last step of a connection was made.
     /// Returns its socket, and how it ended, if it ended by itself: each response that the socket took
     /// answers its request at the connection's own door.
     ///
@@ -198,7 +203,10 @@ impl<R: Machine, S: Identity + Drop, N: Clock + Drop, K: Keep> Attendant<R, S, N
     {
         let open = Arc::new(self.rt.alloc(), OpenPoll::new()).map_err(AllocError::from)?;
         let ended = self.serve(tools, visit, &open);
-        self.withdraw(&mut tools.token, &open);
+        if let Some(ticket) = open.ticket() {
+            let _ = self.withdraw(&mut tools.token, ticket);
+        }
+        self.common.beat.note_step();
         ended
     }
 
@@ -322,18 +330,22 @@ impl<
         Arc::new(alloc, connection).map_err(AllocError::from)
     }
 
-    /// Withdraws the Next whose ticket is noted as open, and notes that the last step of a connection
-    /// was made. If the Withdraw is refused, the Next stays pending.
-    fn withdraw(&self, token: &mut Token<S>, open: &OpenPoll) {
-        if let Some(ticket) = open.ticket() {
-            let now = moment(&*self.common.clock);
-            let mut tally = self.post.tally.lock(&self.rt);
-            let withdraw = Call::Withdraw { ticket };
-            let _ = self
-                .common
-                .account
-                .submit(&self.rt, &mut tally, token, now, withdraw, None);
+    /// Withdraws the Next with this ticket.
+    ///
+    /// # Errors
+    /// If that is refused. The Next then stays pending.
+    fn withdraw(&self, token: &mut Token<S>, ticket: Ticket) -> Result<(), Refusal>
+        ensures taken { OnOk result (IsWithdrawn S.config S.most token.old ticket token.new) }
+        ensures refused { IfErr result (λ refusal.
+            IsTurnedAway S.config S.most token.old (Withdraw ticket) refusal token.new) }
+    {
+        let now = moment(&*self.common.clock);
+        let mut tally = self.post.tally.lock(&self.rt);
+        let withdraw = Call::Withdraw { ticket };
+        let account = &*self.common.account;
+        match account.submit(&self.rt, &mut tally, token, now, withdraw, None) {
+            Ok(_) => Ok(()),
+            Err(refused) => Err(refused.refusal),
         }
-        self.common.beat.note_step();
     }
 }

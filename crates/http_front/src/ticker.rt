@@ -1,5 +1,8 @@
 //! The thread that lets time pass in the account.
 
+ghost use Rattle.std.specs.Prelude.{◌≡◌};
+ghost use Rattle.http_front.specs.Beats.{has_ended, refused_after, HasTickedAtMostOnce};
+
 use crate::beat::Beat;
 use crate::common::Common;
 use crate::rousing::MOST_LAG;
@@ -40,7 +43,9 @@ fn catch_up<S: Identity, N: Clock, K: Keep>(
     clock: &N,
     tally: &mut Tally<K, S>,
     token: &mut Token<S>,
-) {
+)
+    ensures { HasTickedAtMostOnce S.config S.most K.notes K.makes tally.old.held token.new tally.new.held }
+{
     let lag = clock.lag();
     if lag <= MOST_LAG {
         return;
@@ -58,7 +63,9 @@ fn tick<S: Identity, N: Clock, K: Keep>(
     clock: &N,
     tally: &mut Tally<K, S>,
     token: &mut Token<S>,
-) -> Option<Refusal> {
+) -> Option<Refusal>
+    ensures { HasTickedAtMostOnce S.config S.most K.notes K.makes tally.old.held token.new tally.new.held }
+{
     let now = moment(clock);
     if !account.due(rt, token, now) {
         return None;
@@ -71,7 +78,9 @@ fn tick<S: Identity, N: Clock, K: Keep>(
 
 /// Returns for how many beats in a row ticks were refused, after one more tick with this result. A
 /// full journal stays full, so a tick that it refuses counts as the most.
-fn refused_after(before: u32, refusal: Option<Refusal>) -> u32 {
+fn refused_after(before: u32, refusal: Option<Refusal>) -> u32
+    ensures { result ≡ refused_after before refusal }
+{
     match refusal {
         None => 0,
         Some(Refusal::OutOfMemory) => before.saturating_add(1),
@@ -81,7 +90,9 @@ fn refused_after(before: u32, refusal: Option<Refusal>) -> u32 {
 
 /// Returns whether the service is at its end: after a Stop, once every environment is off, or once
 /// ticks were refused for too long.
-fn has_ended(life: Life, refused: u32) -> bool {
+fn has_ended(life: Life, refused: u32) -> bool
+    ensures { result ≡ has_ended life refused }
+{
     match life {
         Life::Open => false,
         Life::Stopping => refused >= MOST_REFUSED,
