@@ -35,5 +35,6 @@ mod WholeText
 mod Rendered
 -- A reply that a history gives, each history that continues it gives too.
 mod RepliesStay
+mod Taken
 -- A reserved function gets the replies that it would get alone.
 pub mod Isolating

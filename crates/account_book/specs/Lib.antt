@@ -3,6 +3,7 @@
 -- A book as its callers see it, which histories it can have, and how far the shutdown of its service has come.
 pub mod Book
 pub mod Reached
+pub mod Requests
 pub mod Books
 -- Texts: the history's, the reply to each call, and what the replay of a script writes.
 pub mod HistoryText

@@ -1,8 +1,8 @@
 //! Laws of histories and their texts: functions with no work in them, whose contracts are proved.
 
-ghost use Rattle.std.specs.Prelude.{◌≡◌, ◌+◌, ◌<◌, ℕ, true, false, List, [], ◌++◌, length, reverse, slice_index_or};
+ghost use Rattle.std.specs.Prelude.{◌≡◌, ◌+◌, ◌<◌, ℕ, true, false, List, [], ◌∷◌, ◌++◌, length, reverse, slice_index_or};
 ghost use Rattle.std.specs.Prelude.{codes, None, Some};
-ghost use Rattle.std.specs.List.{flat_map};
+ghost use Rattle.std.specs.List.{AllZip, flat_map};
 ghost use Rattle.std.specs.Str.Lines.{lines};
 ghost use Rattle.arn_ids.specs.Environments.{count_from};
 ghost use Rattle.arn_ids.specs.declared.config.Config.{Config};
@@ -13,8 +13,9 @@ ghost use Rattle.call_model.specs.Next.{IsLegal, next};
 ghost use Rattle.lambda_wire.specs.declared.reply.Reply.{Reply};
 ghost use Rattle.script.specs.AnswerText.{entry_text};
 ghost use Rattle.account_book.specs.HistoryText.{answers_text, history_text, opening_text};
-ghost use Rattle.account_book.specs.Reached.{IsBooked, IsReached, IsTakenAfter};
+ghost use Rattle.account_book.specs.Reached.{AreTaken, IsBooked, IsReached, IsTakenAfter, led_to};
 ghost use Rattle.account_book.specs.ReplyText.{reply_text};
+ghost use Rattle.account_book.specs.Requests.{tickets_of};
 ghost use Rattle.account_book.specs.Run.{Taking, before, is_of_form_2, replay_from, run};
 
 /// The history of a new book is reached, each call that a book takes reaches the next history, and
@@ -37,6 +38,21 @@ pub fn replies_stay()
     ensures replies { (config : Config) (salt max_entries : ℕ) (h newer : List Entry) (ticket : ℕ) (reply : Reply)
         → IsReached config max_entries (newer ++ h) → reply_text config salt h ticket ≡ Some reply
         → reply_text config salt (newer ++ h) ticket ≡ Some reply }
+{}
+
+/// A list of requests has the replies of one history. Calls are listed the newest first, in the order in
+/// which they were taken. In the history that they lead to, each has its own ticket, greater than those
+/// before it; and the reply that a ticket has once, when its call was just taken or after later ones, is
+/// the reply that it has in the whole history, to the byte.
+pub fn requests()
+    ensures calls { (config : Config) (calls : List (ℕ × Call))
+        → AllZip (λ ticket c. call_of (led_to config calls) ticket ≡ c.1) (tickets_of config calls) calls }
+    ensures rising { (config : Config) (c : ℕ × Call) (calls : List (ℕ × Call))
+        → length (led_to config calls) < length (led_to config (c ∷ calls)) }
+    ensures replies { (config : Config) (salt max_entries : ℕ) (later earlier : List (ℕ × Call)) (ticket : ℕ)
+        (reply : Reply) → AreTaken config max_entries (later ++ earlier)
+        → reply_text config salt (led_to config earlier) ticket ≡ Some reply
+        → reply_text config salt (led_to config (later ++ earlier)) ticket ≡ Some reply }
 {}
 
 /// The text of a history is what its book gives part by part: the opening, and then the text of each

@@ -364,18 +364,22 @@ impl<S: Identity, B: Bell> Account<S, B> {
     }
 
     /// Adds up the shares of all tallies, and compares what they keep with the history. It needs the account
-    /// to itself.
+    /// to itself. What is settled comes with a token that has seen the whole history of its book.
     ///
     /// # Errors
     /// As `Desk::settle`; account and tallies are consumed. The fault comes with a token that has seen the
     /// whole history in which it is found. If no tally was missing, the tallies have counted what that
     /// history counts. If nothing is kept, and nothing has to be, a missing tally is the only fault.
-    pub fn settle<K: Keep>(self, tallies: Vec<Tally<K, S>>) -> Result<Settled<K, S>, Unsettled<S>>
-        ensures book { IfOk result (λ settled.
-            (settled.book.config ≡ S.config) × (settled.stats ≡ stats S.config settled.book.history)) }
-        ensures settled { IfOk result (λ settled. IsSettled K.ALL settled.book.history tallies.items) }
-        ensures tally { IfOk result (λ settled. (settled.tally.held.parts ≡ 2 ^ 32)
-            × (settled.tally.held.counts ≡ counts_of settled.book.history)) }
+    pub fn settle<K: Keep>(
+        self,
+        tallies: Vec<Tally<K, S>>,
+    ) -> Result<(Settled<K, S>, Token<S>), Unsettled<S>>
+        ensures book { IfOk result (λ done. (done.0.book.config ≡ S.config)
+            × (done.0.stats ≡ stats S.config done.0.book.history)) }
+        ensures settled { IfOk result (λ done. IsSettled K.ALL done.0.book.history tallies.items) }
+        ensures tally { IfOk result (λ done. (done.0.tally.held.parts ≡ 2 ^ 32)
+            × (done.0.tally.held.counts ≡ counts_of done.0.book.history)) }
+        ensures whole { IfOk result (λ done. (done.1 ≡ done.0.book.history) × Sees S.config S.most [] done.1) }
         ensures seen { IfErr result (λ back. Sees S.config S.most [] back.token) }
         ensures fault { IfErr result (λ back. IsFault K.ALL back.fault back.token tallies.items) }
         ensures counted { IfErr result
@@ -388,7 +392,7 @@ impl<S: Identity, B: Bell> Account<S, B> {
         desk.facts();
         let token = pen.token(&spine);
         match desk.settle(tallies) {
-            Ok(settled) => Ok(settled),
+            Ok(settled) => Ok((settled, token)),
             Err(fault) => Err(Unsettled { fault, token }),
         }
     }

@@ -49,8 +49,8 @@ pub fn of_account<S: Identity, B: Bell>(
     account.stats(rt, token)
 }
 
-/// Settles an account that threads no longer share: the headline holds of its history, and all tallies
-/// together have counted what that history counts.
+/// Settles an account that threads no longer share: the headline holds of its history, which the token that
+/// is returned has seen, and all tallies together have counted what that history counts.
 ///
 /// # Errors
 /// The first `SettleFault` that holds, in the order in which they are declared, with a token that has seen
@@ -60,12 +60,13 @@ pub fn of_account<S: Identity, B: Bell>(
 pub fn settle<S: Identity, B: Bell, K: Keep>(
     account: Account<S, B>,
     tallies: Vec<Tally<K, S>>,
-) -> Result<Settled<K, S>, Unsettled<S>>
-    ensures configured { IfOk result (λ settled. settled.book.config ≡ S.config) }
-    ensures headline { IfOk result (λ settled. Headline S.config settled.book.history settled.stats) }
-    ensures settled { IfOk result (λ settled. IsSettled K.ALL settled.book.history tallies.items) }
-    ensures tally { IfOk result (λ settled. (settled.tally.held.parts ≡ 2 ^ 32)
-        × (settled.tally.held.counts ≡ counts_of settled.book.history)) }
+) -> Result<(Settled<K, S>, Token<S>), Unsettled<S>>
+    ensures configured { IfOk result (λ done. done.0.book.config ≡ S.config) }
+    ensures headline { IfOk result (λ done. Headline S.config done.0.book.history done.0.stats) }
+    ensures settled { IfOk result (λ done. IsSettled K.ALL done.0.book.history tallies.items) }
+    ensures tally { IfOk result (λ done. (done.0.tally.held.parts ≡ 2 ^ 32)
+        × (done.0.tally.held.counts ≡ counts_of done.0.book.history)) }
+    ensures whole { IfOk result (λ done. (done.1 ≡ done.0.book.history) × Sees S.config S.most [] done.1) }
     ensures seen { IfErr result (λ back. Sees S.config S.most [] back.token) }
     ensures fault { IfErr result (λ back. IsFault K.ALL back.fault back.token tallies.items) }
     ensures counted { IfErr result
@@ -73,8 +74,8 @@ pub fn settle<S: Identity, B: Bell, K: Keep>(
     ensures nothing { IfErr result (λ back.
         K.ALL ≡ false → list_all keeps_nothing tallies.items ≡ true → back.fault ≡ TallyMissing) }
 {
-    let settled = account.settle(tallies)?;
-    settled.book.facts();
+    let done = account.settle(tallies)?;
+    done.0.book.facts();
     laws::headline();
-    Ok(settled)
+    Ok(done)
 }

@@ -57,7 +57,7 @@ fn settled<S: Identity>(hosted: Hosted<S, KeepNone>) -> Result<Counted<S>, Serve
         IsClosing S.config counted.line.counts (⟦<ClosingLine as Display>⟧.output counted.line) counted.tally) }
 {
     let Hosted { account, tallies } = hosted;
-    let Settled { stats, tally, .. } = headline::settle(account, tallies)?;
+    let (Settled { stats, tally, .. }, _token) = headline::settle(account, tallies)?;
     let line = ClosingLine { counts: stats };
     Ok(Counted { line, tally })
 }
