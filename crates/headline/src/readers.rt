@@ -62,10 +62,10 @@ pub fn settle<S: Identity, B: Bell, K: Keep>(
     tallies: Vec<Tally<K, S>>,
 ) -> Result<(Settled<K, S>, Token<S>), Unsettled<S>>
     ensures configured { IfOk result (λ done. done.0.book.config ≡ S.config) }
-    ensures headline { IfOk result (λ done. Headline S.config done.0.book.history done.0.stats) }
+    ensures headline { IfOk result (λ done. Headline S.config done.1 done.0.stats) }
     ensures settled { IfOk result (λ done. IsSettled K.ALL done.0.book.history tallies.items) }
     ensures tally { IfOk result (λ done. (done.0.tally.held.parts ≡ 2 ^ 32)
-        × (done.0.tally.held.counts ≡ counts_of done.0.book.history)) }
+        × (done.0.tally.held.counts ≡ counts_of done.1)) }
     ensures whole { IfOk result (λ done. (done.1 ≡ done.0.book.history) × Sees S.config S.most [] done.1) }
     ensures seen { IfErr result (λ back. Sees S.config S.most [] back.token) }
     ensures fault { IfErr result (λ back. IsFault K.ALL back.fault back.token tallies.items) }

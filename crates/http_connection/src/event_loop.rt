@@ -1,8 +1,8 @@
 //! The loop that serves connections on one thread, one after the other.
 
-ghost use Rattle.std.specs.Prelude.{◌≡◌, IfOk};
+ghost use Rattle.std.specs.Prelude.{◌≡◌, IfErr, IfOk};
 ghost use Rattle.hyper.specs.ServerDispatch.{GivesBodies};
-ghost use Rattle.socket_loop.specs.Halves.{name_of_accepted};
+ghost use Rattle.socket_loop.specs.Halves.{name_of_accepted, name_of_unused};
 ghost use Rattle.http_connection.specs.Wires.{IsFresh, name_of};
 ghost use Rattle.http_connection.specs.Written.{Gave, Written, outcome_of};
 
@@ -18,7 +18,7 @@ use http_body::Body;
 use hyper::body::Incoming;
 use hyper::server::conn::http1::Builder;
 use hyper::service::Service;
-use socket_loop::{Accepted, Interrupted, SocketLoop};
+use socket_loop::{Accepted, Interrupted, SocketLoop, Unused};
 use std::alloc::{AllocError, AllocGlobal};
 use std::hash::RandomState;
 use std::io;
@@ -70,15 +70,21 @@ impl EventLoop {
     /// Watches a socket that was accepted.
     ///
     /// # Errors
-    /// If the socket cannot be watched, or an allocation fails.
-    pub fn watch<R: AllocGlobal>(&mut self, rt: &R, accepted: Accepted) -> io::Result<Ends>
+    /// If the socket cannot be watched, or an allocation fails. The socket is then closed, and nothing
+    /// was written to it.
+    pub fn watch<R: AllocGlobal>(&mut self, rt: &R, accepted: Accepted) -> Result<Ends, Unused>
         ensures fresh { IfOk result (λ ends. IsFresh ends.wire) }
         ensures name { IfOk result (λ ends. name_of ends.wire ≡ name_of_accepted accepted) }
+        ensures unused { IfErr result (λ unused. name_of_unused unused ≡ name_of_accepted accepted) }
     {
-        let wire = Wire::watch(rt, &mut self.socket_loop, accepted)?;
-        let noting = wire.share()?;
-        let peer = wire.share()?;
-        Ok(Ends { wire, noting, peer })
+        let wire = match Wire::watch(rt, &mut self.socket_loop, accepted) {
+            Ok(wire) => wire,
+            Err(unused) => return Err(unused),
+        };
+        match (wire.share(), wire.share()) {
+            (Ok(noting), Ok(peer)) => Ok(Ends { wire, noting, peer }),
+            _ => Err(wire.give_up()),
+        }
     }
 
     /// Serves the requests of a connection at a port of this kind, one after the other, until the

@@ -1,13 +1,13 @@
 //! A connection's socket, shared by its holders.
 
-ghost use Rattle.std.specs.Prelude.{◌≡◌, IfOk};
+ghost use Rattle.std.specs.Prelude.{◌≡◌, IfErr, IfOk};
 ghost use Rattle.futures.specs.Poll.{OnPending};
 ghost use Rattle.futures.specs.Task.{IsArmed, Keeps};
 
 use crate::socket::Socket;
 use connection_state::Pulse;
 use futures::task::{Context, Poll};
-use socket_loop::{Accepted, Passed, Reader, SocketLoop, Writer};
+use socket_loop::{Accepted, Passed, Reader, SocketLoop, Unused, Writer};
 use std::alloc::{AllocError, AllocGlobal};
 use std::cell::RefCell;
 use std::rc::Rc;
@@ -31,7 +31,7 @@ pub struct Wire {
 }
 
 impl Wire {
-    ghost use Rattle.socket_loop.specs.Halves.{name_of_accepted};
+    ghost use Rattle.socket_loop.specs.Halves.{name_of_accepted, name_of_unused};
     ghost use Rattle.http_connection.specs.Wires.{IsFresh, name_of};
 
     /// Watches a socket by this loop.
@@ -42,18 +42,32 @@ impl Wire {
         rt: &R,
         socket_loop: &mut SocketLoop,
         accepted: Accepted,
-    ) -> io::Result<Wire>
+    ) -> Result<Wire, Unused>
         ensures fresh { IfOk result IsFresh }
         ensures name { IfOk result (λ wire. name_of wire ≡ name_of_accepted accepted) }
+        ensures unused { IfErr result (λ unused. name_of_unused unused ≡ name_of_accepted accepted) }
     {
-        let (reader, writer) = socket_loop.watch(rt, accepted)?;
+        let (reader, writer) = match socket_loop.watch(rt, accepted) {
+            Ok(halves) => halves,
+            Err(unused) => return Err(unused),
+        };
         let alloc = rt.alloc();
-        let socket = Rc::new(alloc, RefCell::new(Socket::new(alloc, reader)))?;
-        Ok(Wire {
-            holder: Holder { socket },
-            writer,
-            given: Passed::new(),
-        })
+        match Rc::new(alloc, RefCell::new(Socket::new(alloc, reader))) {
+            Ok(socket) => Ok(Wire {
+                holder: Holder { socket },
+                writer,
+                given: Passed::new(),
+            }),
+            Err(_refused) => Err(writer.give_up(AllocError.into())),
+        }
+    }
+
+    /// Gives the socket up because an allocation failed, before anything was written to it.
+    pub(crate) fn give_up(self) -> Unused
+        requires { IsFresh self }
+        ensures { name_of_unused result ≡ name_of self }
+    {
+        self.writer.give_up(AllocError.into())
     }
 
     /// Makes a holder of its half that reads.

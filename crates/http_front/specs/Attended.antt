@@ -1,5 +1,5 @@
 -- What was written to a connection that a thread attended.
-use Rattle.std.specs.Prelude.{◌≡◌, ℕ, List, Result, IfOk}
+use Rattle.std.specs.Prelude.{◌≡◌, ℕ, List, Result, Ok, Err}
 use Rattle.std.specs.Arc.{arc_value}
 use Rattle.account_lock.specs.declared.account.Account.{Account}
 use Rattle.futures.specs.Runs.{Runs}
@@ -16,6 +16,8 @@ use Rattle.http_routes.specs.Decisions.{Served}
 use Rattle.long_poll.specs.Outcomes.{ShowsFrom}
 use Rattle.long_poll.specs.declared.bell.OneShotBell.{OneShotBell}
 use Rattle.long_poll.specs.declared.history_body.HistoryBody.{HistoryBody}
+use Rattle.socket_loop.specs.Halves.{name_of_unused}
+use Rattle.socket_loop.specs.declared.unused.Unused.{Unused}
 
 -- The bodies of responses and those of requests yield frames, and the data of a frame has bytes.
 module _ {R S N K L B P X E : Type 0}
@@ -24,8 +26,9 @@ module _ {R S N K L B P X E : Type 0}
     (door : Served) (most name : ℕ) where
   -- A connection at this door, over the socket of this name, came to this. It is the same socket, and each response that
   -- it took answers its request: as this door does within this limit, with the account and the hosts that the threads
-  -- have in common.
-  abbrev pub IsAttended : {F : Type 0} → Result (Ended Wire) F → Type 0
-  IsAttended came = IfOk came (λ ended. (name_of ended.io ≡ name) × Written sends has
+  -- have in common. Or it was closed before anything was written to it.
+  abbrev pub IsAttended : Result (Ended Wire) Unused → Type 0
+  IsAttended (Ok ended) = (name_of ended.io ≡ name) × Written sends has
       (IsAnswerAt L (ShowsFrom (arc_value common.account)) door most yields has (arc_value common.hosts))
-      ended.io (outcome_of ended.outcome))
+      ended.io (outcome_of ended.outcome)
+  IsAttended (Err unused) = name_of_unused unused ≡ name

@@ -10,7 +10,7 @@ ghost use Rattle.http_front.specs.Attended.{IsAttended};
 ghost use Rattle.http_front.specs.Exchanged.{IsAnswer};
 ghost use Rattle.http_front.specs.Ports.{api_of};
 ghost use Rattle.http_front.specs.Withdrawn.{IsWithdrawn};
-ghost use Rattle.socket_loop.specs.Halves.{name_of_accepted};
+ghost use Rattle.socket_loop.specs.Halves.{name_of_accepted, name_of_unused};
 
 use crate::beat::Beat;
 use crate::common::Common;
@@ -30,7 +30,7 @@ use http_body_util::{Either, Full};
 use http_connection::{Ended, Ends, EventLoop, Machine, Park, Wire};
 use hyper::body::Incoming;
 use long_poll::{Clock, Connection, HistoryBody, OneShotBell, OpenPoll, Service, laws, moment};
-use socket_loop::Accepted;
+use socket_loop::{Accepted, Unused};
 use std::alloc::{AllocError, AllocGlobal};
 use std::sync::{Arc, Mutex, Wait};
 use std::{io, thread, time};
@@ -67,6 +67,16 @@ pub(crate) struct Newcomer {
 pub(crate) struct Visit<S: Identity> {
     pub(crate) newcomer: Newcomer,
     pub(crate) door: Door<S>,
+}
+
+impl<S: Identity + Drop> Visit<S> {
+    /// Closes the connection because an allocation failed, before anything was written to it.
+    fn close(self) -> Unused
+        ensures { name_of_unused result ≡ name_of_accepted self.newcomer.socket }
+    {
+        let Visit { newcomer, .. } = self;
+        newcomer.socket.close(AllocError.into())
+    }
 }
 
 /// What a thread needs to serve its connections: its event loop, the decider of the last one's
@@ -195,13 +205,15 @@ impl<R: Machine, S: Identity + Drop, N: Clock + Drop, K: Keep> Attendant<R, S, N
     /// answers its request at the connection's own door.
     ///
     /// # Errors
-    /// If the connection cannot be served.
-    fn attend(&self, tools: &mut Tools<S>, visit: Visit<S>) -> io::Result<Ended<Wire>>
+    /// If the connection cannot be served. Its socket is then closed, and nothing was written to it.
+    fn attend(&self, tools: &mut Tools<S>, visit: Visit<S>) -> Result<Ended<Wire>, Unused>
         ensures { IsAttended ⟦<Either<Full<Bytes>, HistoryBody<R, Account<S, OneShotBell>, K, S>> as Body>⟧.yields
             ⟦<Incoming<Wire> as Body>⟧.yields ⟦<Bytes as Into<Bytes>>⟧.converts
             self.now.common visit.door S.most (name_of_accepted visit.newcomer.socket) result }
     {
-        let open = Arc::new(self.rt.alloc(), OpenPoll::new()).map_err(AllocError::from)?;
+        let Ok(open) = Arc::new(self.rt.alloc(), OpenPoll::new()) else {
+            return Err(visit.close());
+        };
         let ended = self.serve(tools, visit, &open);
         if let Some(ticket) = open.ticket() {
             let _ = self.withdraw(&mut tools.token, ticket);
@@ -213,31 +225,36 @@ impl<R: Machine, S: Identity + Drop, N: Clock + Drop, K: Keep> Attendant<R, S, N
     /// Serves a connection. Returns its socket, and how it ended, if it ended by itself.
     ///
     /// # Errors
-    /// If the connection cannot be served.
+    /// If the connection cannot be served. Its socket is then closed, and nothing was written to it.
     fn serve(
         &self,
         tools: &mut Tools<S>,
         visit: Visit<S>,
         open: &Arc<OpenPoll>,
-    ) -> io::Result<Ended<Wire>>
+    ) -> Result<Ended<Wire>, Unused>
         ensures { IsAttended ⟦<Either<Full<Bytes>, HistoryBody<R, Account<S, OneShotBell>, K, S>> as Body>⟧.yields
             ⟦<Incoming<Wire> as Body>⟧.yields ⟦<Bytes as Into<Bytes>>⟧.converts
             self.now.common visit.door S.most (name_of_accepted visit.newcomer.socket) result }
     {
         let Visit { newcomer, door } = visit;
-        let kind = door.kind();
-        let token = self.common.account.again(&mut tools.token);
-        let front = self.front(&mut tools.sides, token, door, open)?;
-        let parked = OpenNext {
-            open: Arc::try_clone(open)?,
-            beat: Arc::try_clone(&self.common.beat)?,
-        };
         let Newcomer {
             socket,
             signals,
             pulse,
         } = newcomer;
-        let ends = tools.event_loop.watch(&self.rt, socket)?;
+        let kind = door.kind();
+        let Ok(parked) = self.parked(open) else {
+            return Err(socket.close(AllocError.into()));
+        };
+        let token = self.common.account.again(&mut tools.token);
+        let front = match self.front(&mut tools.sides, token, door, open) {
+            Ok(front) => front,
+            Err(refused) => return Err(socket.close(refused.into())),
+        };
+        let ends = match tools.event_loop.watch(&self.rt, socket) {
+            Ok(ends) => ends,
+            Err(unused) => return Err(unused),
+        };
         laws::replies(&*front.connection);
         Ok(serve_by(
             &mut tools.event_loop,
@@ -285,6 +302,14 @@ impl<
             Ok(connection) => Ok(Front::new(alloc, api, hosts, rousing, connection)),
             Err(refused) => Err(refused),
         }
+    }
+
+    /// Returns the note of a connection's open Next.
+    fn parked(&self, open: &Arc<OpenPoll>) -> Result<OpenNext, AllocError> {
+        Ok(OpenNext {
+            open: Arc::try_clone(open)?,
+            beat: Arc::try_clone(&self.common.beat)?,
+        })
     }
 
     /// Returns what the front of a connection does before each request.

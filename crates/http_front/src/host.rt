@@ -4,6 +4,7 @@ ghost use Rattle.std.specs.Prelude.{◌≡◌, ◌⊎◌, ◌+◌, ◌^◌, ◌�
 ghost use Rattle.std.specs.Arc.{arc_value};
 ghost use Rattle.arn_ids.specs.Environments.{owners};
 ghost use Rattle.arn_ids.specs.declared.faults.ConfigFault.TheVariants.{EntriesOutOfRange};
+ghost use Rattle.http_front.specs.Doors.{doors, doors_of};
 ghost use Rattle.http_front.specs.Hosts.{IsOfMachine};
 ghost use Rattle.http_front.specs.declared.host_fault.HostFault.TheVariants.{Config};
 
@@ -39,6 +40,7 @@ pub struct Host<R, S: Identity, N, K: Keep> {
     ticker: Ticker<R, S, N, K>,
     entrance: Entrance<S>,
     notices: Arc<Notices>,
+    ghost listens: { doors entrance.gates.items ≡ doors_of S.config S.salt },
 }
 
 /// What a host leaves: its account, and all the tallies in which its calls count.
@@ -137,7 +139,8 @@ impl<
         most: u32,
         patience: u32,
     ) -> Result<Host<R, S, N, K>, HostFault>
-        requires { 2 ≤ opened.1.held.parts }
+        requires parts { 2 ≤ opened.1.held.parts }
+        requires listens { doors entrance.gates.items ≡ doors_of S.config S.salt }
         ensures { IfErr result IsOfMachine }
     {
         let Ok(mut reception) = Reception::open(rt, opened, clock, hosts, most, patience) else {

@@ -7,11 +7,10 @@ use Rattle.usage_ledger.specs.Tallies.{Tallied}
 use Rattle.account_lock.specs.Counting.{counts_of}
 use Rattle.headline.specs.Headline.{Headline}
 
--- The counts are those of a history of the configuration, for which the headline holds. The tally has counted what that
--- history counts. It has all parts of the account's four ledgers, so no other tally has a share of what the threads
--- counted.
-pub record IsTallied (config : Config) (counts : Stats) (tally : Tallied) : Type 0 where
-  pub history : List Entry
+-- The counts are those of this history of the configuration, for which the headline holds. The tally has counted what
+-- that history counts. It has all parts of the account's four ledgers, so no other tally has a share of what the
+-- threads counted.
+pub record IsTallied (config : Config) (history : List Entry) (counts : Stats) (tally : Tallied) : Type 0 where
   pub headline : Headline config history counts
   pub parts : tally.held.parts ≡ 2 ^ 32
   pub counted : tally.held.counts ≡ counts_of history
@@ -22,6 +21,7 @@ closing_line counts =
     codes "admitted " ++ decimal counts.admitted ++ codes " throttled " ++ decimal counts.throttled ++ codes " failed "
     ++ decimal counts.failed
 
--- The counts are those of a settled end with this tally, and the text is their line.
-abbrev pub IsClosing : Config → Stats → Option (List ℕ) → Tallied → Type 0
-IsClosing config counts text tally = IsTallied config counts tally × (text ≡ Some (closing_line counts))
+-- The counts are those of a settled end with this history and this tally, and the text is their line.
+abbrev pub IsClosing : Config → List Entry → Stats → Option (List ℕ) → Tallied → Type 0
+IsClosing config history counts text tally =
+    IsTallied config history counts tally × (text ≡ Some (closing_line counts))

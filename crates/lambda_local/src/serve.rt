@@ -1,7 +1,10 @@
 //! Serving a configuration over HTTP.
 
-ghost use Rattle.std.specs.Prelude.{◌≡◌, IfOk};
+ghost use Rattle.std.specs.Prelude.{◌≡◌, List, [], IfOk};
 ghost use Rattle.std.specs.Arc.{arc_value};
+ghost use Rattle.account_book.specs.Reached.{IsReached};
+ghost use Rattle.account_lock.specs.Shown.{Sees};
+ghost use Rattle.call_types.specs.declared.call.Entry.{Entry};
 ghost use Rattle.usage_ledger.specs.Tallies.{Tallied};
 ghost use Rattle.lambda_local.specs.Ending.{IsClosing};
 
@@ -19,7 +22,7 @@ use std::fs;
 use std::io::{self, Read};
 use std::marker::Brand;
 use std::rt::Files;
-use usage_ledger::{Blanks, KeepNone, Ledgers, Tally};
+use usage_ledger::{Blanks, KeepNone, Ledgers, Tally, Token};
 
 /// The most bytes of a configuration that are read: one more than the longest configuration has.
 const MOST_READ: u64 = 20_000_001;
@@ -37,14 +40,16 @@ where
     Ok(Plan::check(rt.alloc(), setup)?)
 }
 
-/// What a service has counted: the line with the counts of its history, and the shares of all its
-/// threads in one tally.
+/// What a service has counted: the line with the counts of its history, the shares of all its
+/// threads in one tally, and a token that has seen the history.
 #[derive(Drop)]
 pub struct Counted<L: Ledgers> {
     /// The line.
     pub line: ClosingLine,
     /// The shares.
     pub tally: Tally<KeepNone, L>,
+    /// The token.
+    pub token: Token<L>,
 }
 
 /// Returns the line with the counts of an account that was served, with the shares of its threads,
@@ -53,18 +58,19 @@ pub struct Counted<L: Ledgers> {
 /// # Errors
 /// `Settlement` if they do not, otherwise `OutOfMemory`.
 fn settled<S: Identity>(hosted: Hosted<S, KeepNone>) -> Result<Counted<S>, ServeFault>
-    ensures { IfOk result (λ counted.
-        IsClosing S.config counted.line.counts (⟦<ClosingLine as Display>⟧.output counted.line) counted.tally) }
+    ensures closing { IfOk result (λ counted. IsClosing S.config counted.token counted.line.counts
+        (⟦<ClosingLine as Display>⟧.output counted.line) counted.tally) }
+    ensures seen { IfOk result (λ counted. Sees S.config S.most [] counted.token) }
 {
     let Hosted { account, tallies } = hosted;
-    let (Settled { stats, tally, .. }, _token) = headline::settle(account, tallies)?;
+    let (Settled { stats, tally, .. }, token) = headline::settle(account, tallies)?;
     let line = ClosingLine { counts: stats };
-    Ok(Counted { line, tally })
+    Ok(Counted { line, tally, token })
 }
 
-/// Serves a plan until it is stopped, settles, and returns the line with the account's counts and
-/// the shares of all its threads, which add up to them: no share of the account's ledgers is
-/// anywhere else. `S` names the configuration, the salt, the limit, the ledgers and the history of
+/// Serves a plan until it is stopped, settles, and returns the line with the account's counts, the
+/// shares of all its threads, which add up to them, and a token that has seen the account's history:
+/// no share of the account's ledgers is anywhere else. `S` names the configuration, the salt, the limit, the ledgers and the history of
 /// the account.
 fn serve_counted<R: Machine + Log, S: Identity + Drop + Send + Sync + 'static>(
     rt: R,
@@ -77,8 +83,9 @@ fn serve_counted<R: Machine + Log, S: Identity + Drop + Send + Sync + 'static>(
     requires salted { plan.salt ≡ S.salt }
     requires limited { plan.max_entries ≡ S.most }
     requires named { blanks ≡ S.names }
-    ensures { IfOk result (λ counted. IsClosing (arc_value plan.config) counted.line.counts
-        (⟦<ClosingLine as Display>⟧.output counted.line) counted.tally) }
+    ensures closing { IfOk result (λ counted. IsClosing (arc_value plan.config) counted.token
+        counted.line.counts (⟦<ClosingLine as Display>⟧.output counted.line) counted.tally) }
+    ensures seen { IfOk result (λ counted. Sees S.config S.most [] counted.token) }
 {
     let clock = UnixClock::new(rt);
     let places = plan.places();
@@ -104,8 +111,9 @@ fn serve_plan<R: Machine + Log, S: Identity + Drop + Send + Sync + 'static>(
     requires salted { plan.salt ≡ S.salt }
     requires limited { plan.max_entries ≡ S.most }
     requires named { blanks ≡ S.names }
-    ensures { IfOk result (λ line. (tally : Tallied)
-        × IsClosing (arc_value plan.config) line.counts (⟦<ClosingLine as Display>⟧.output line) tally) }
+    ensures { IfOk result (λ line. (history : List Entry) × (tally : Tallied)
+        × IsReached (arc_value plan.config) plan.max_entries history
+        × IsClosing (arc_value plan.config) history line.counts (⟦<ClosingLine as Display>⟧.output line) tally) }
 {
     match serve_counted::<R, S>(rt, plan, patience, hosts, blanks) {
         Ok(counted) => Ok(counted.line),
@@ -121,8 +129,9 @@ fn serve_by_brand<R: Machine + Log>(
     patience: u32,
     hosts: Hosts,
 ) -> Result<ClosingLine, ServeFault>
-    ensures { IfOk result (λ line. (tally : Tallied)
-        × IsClosing (arc_value plan.config) line.counts (⟦<ClosingLine as Display>⟧.output line) tally) }
+    ensures { IfOk result (λ line. (history : List Entry) × (tally : Tallied)
+        × IsReached (arc_value plan.config) plan.max_entries history
+        × IsClosing (arc_value plan.config) history line.counts (⟦<ClosingLine as Display>⟧.output line) tally) }
 {
     let blanks = Blanks::new(rt.alloc()).map_err(|_fault| ServeFault::OutOfMemory)?;
     serve_plan::<R, Brand>(rt, plan, patience, hosts, blanks)

@@ -4,6 +4,7 @@ use Rattle.std.proofs.Common.{refl, sym, ap, ◌∙◌, append_assoc, append-nil
 use Rattle.tokio.specs.Io.Moved.{Passes, PassesNothing, PassesInOrder}
 use Rattle.socket_loop.specs.declared.accepted.Accepted.{Accepted}
 use Rattle.socket_loop.specs.declared.reader.Reader.{Reader}
+use Rattle.socket_loop.specs.declared.unused.Unused.{Unused}
 use Rattle.socket_loop.specs.declared.writer.Writer.{Writer}
 
 -- What a read waits for that finds the socket not ready: its next event.
@@ -13,6 +14,10 @@ event_of reader = reader.event.id
 -- The name of a socket that was accepted.
 abbrev pub name_of_accepted : Accepted → ℕ
 name_of_accepted accepted = accepted.event.id
+
+-- The name of a socket that was closed before anything was written to it.
+abbrev pub name_of_unused : Unused → ℕ
+name_of_unused unused = unused.event.id
 
 -- The name of a writer's socket. It is what a write waits for that finds the socket not ready: its next event.
 abbrev pub name_of : Writer → ℕ

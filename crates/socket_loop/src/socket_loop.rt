@@ -7,9 +7,11 @@ use crate::accepted::Accepted;
 use crate::counter::open_counter;
 use crate::reader::Reader;
 use crate::ready::Ready;
+use crate::unused::Unused;
 use crate::writer::Writer;
 use futures::Future;
 use futures::task::{Doorbell, Poll, Solo};
+use mio::net::TcpStream;
 use mio::unix::SourceFd;
 use mio::{Events, Interest, Token};
 use std::alloc::AllocGlobal;
@@ -48,7 +50,7 @@ pub struct Interrupted<F> {
 }
 
 impl SocketLoop {
-    ghost use Rattle.socket_loop.specs.Halves.{name_of, name_of_accepted, taken_by};
+    ghost use Rattle.socket_loop.specs.Halves.{name_of, name_of_accepted, name_of_unused, taken_by};
 
     /// Opens a loop that watches no socket yet.
     ///
@@ -78,11 +80,24 @@ impl SocketLoop {
         &mut self,
         rt: &R,
         accepted: Accepted,
-    ) -> io::Result<(Reader, Writer)>
+    ) -> Result<(Reader, Writer), Unused>
         ensures nothing { IfOk result (λ halves. taken_by halves.1 ≡ []) }
         ensures name { IfOk result (λ halves. name_of halves.1 ≡ name_of_accepted accepted) }
+        ensures unused { IfErr result (λ unused. name_of_unused unused ≡ name_of_accepted accepted) }
     {
-        let Accepted { mut socket, event } = accepted;
+        let Accepted { socket, event } = accepted;
+        match self.register(rt, socket) {
+            Ok((reader, socket, ready)) => Ok((reader, Writer::new(socket, ready, event))),
+            Err(fault) => Err(Unused { fault, event }),
+        }
+    }
+
+    /// Watches this stream in place of the one before, and makes the half that reads.
+    fn register<R: AllocGlobal>(
+        &mut self,
+        rt: &R,
+        mut socket: TcpStream,
+    ) -> io::Result<(Reader, Rc<TcpStream>, Rc<Ready>)> {
         socket.set_nodelay(true)?;
         let both = Interest::READABLE | Interest::WRITABLE;
         self.poll.registry().register(&mut socket, OF_SOCKET, both)?;
@@ -90,7 +105,7 @@ impl SocketLoop {
         let ready = Rc::new(rt.alloc(), Ready::new())?;
         self.ready = ready.clone()?;
         let reader = Reader::new(socket.clone()?, ready.clone()?);
-        Ok((reader, Writer::new(socket, ready, event)))
+        Ok((reader, socket, ready))
     }
 
     /// Polls a future until it is ready, and returns what it gives.

@@ -6,6 +6,7 @@ ghost use Rattle.tokio.specs.Io.Moved.{count_moved};
 
 use crate::passed::Passed;
 use crate::ready::Ready;
+use crate::unused::Unused;
 use futures::task::{Context, Poll, Source, Waker};
 use mio::net::TcpStream;
 use std::io;
@@ -29,7 +30,7 @@ pub struct Writer {
 }
 
 impl Writer {
-    ghost use Rattle.socket_loop.specs.Halves.{name_of, taken_by};
+    ghost use Rattle.socket_loop.specs.Halves.{name_of, name_of_unused, taken_by};
 
     /// Makes the half of a socket that does not block and is watched. `event` is what its writes
     /// wait for.
@@ -44,6 +45,15 @@ impl Writer {
             waker: None,
             taken: Passed::new(),
         }
+    }
+
+    /// Gives the half up, for this reason, before it has written anything.
+    pub fn give_up(self, fault: io::Error) -> Unused
+        requires { taken_by self ≡ [] }
+        ensures { name_of_unused result ≡ name_of self }
+    {
+        let Writer { event, .. } = self;
+        Unused { fault, event }
     }
 
     /// Waits for the socket's next event.
