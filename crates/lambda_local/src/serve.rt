@@ -1,9 +1,8 @@
 //! Serving a configuration over HTTP.
 
-ghost use Rattle.std.specs.Prelude.{◌≡◌, List, [], IfOk};
+ghost use Rattle.std.specs.Prelude.{◌≡◌, List, IfOk};
 ghost use Rattle.std.specs.Arc.{arc_value};
 ghost use Rattle.account_book.specs.Reached.{IsReached};
-ghost use Rattle.account_lock.specs.Shown.{Sees};
 ghost use Rattle.call_types.specs.declared.call.Entry.{Entry};
 ghost use Rattle.usage_ledger.specs.Tallies.{Tallied};
 ghost use Rattle.lambda_local.specs.Ending.{IsClosing};
@@ -60,7 +59,7 @@ pub struct Counted<L: Ledgers> {
 fn settled<S: Identity>(hosted: Hosted<S, KeepNone>) -> Result<Counted<S>, ServeFault>
     ensures closing { IfOk result (λ counted. IsClosing S.config counted.token counted.line.counts
         (⟦<ClosingLine as Display>⟧.output counted.line) counted.tally) }
-    ensures seen { IfOk result (λ counted. Sees S.config S.most [] counted.token) }
+    ensures reached { IfOk result (λ counted. IsReached S.config S.most counted.token) }
 {
     let Hosted { account, tallies } = hosted;
     let (Settled { stats, tally, .. }, token) = headline::settle(account, tallies)?;
@@ -85,7 +84,8 @@ fn serve_counted<R: Machine + Log, S: Identity + Drop + Send + Sync + 'static>(
     requires named { blanks ≡ S.names }
     ensures closing { IfOk result (λ counted. IsClosing (arc_value plan.config) counted.token
         counted.line.counts (⟦<ClosingLine as Display>⟧.output counted.line) counted.tally) }
-    ensures seen { IfOk result (λ counted. Sees S.config S.most [] counted.token) }
+    ensures reached { IfOk result (λ counted.
+        IsReached (arc_value plan.config) plan.max_entries counted.token) }
 {
     let clock = UnixClock::new(rt);
     let places = plan.places();
