@@ -62,15 +62,16 @@ fn settled<S: Identity>(hosted: Hosted<S, KeepNone>) -> Result<Counted<S>, Serve
     ensures reached { IfOk result (λ counted. IsReached S.config S.most counted.token) }
 {
     let Hosted { account, tallies } = hosted;
-    let (Settled { stats, tally, .. }, token) = headline::settle(account, tallies)?;
+    let (settled, token) = headline::settle(account, tallies)?;
+    let Settled { stats, tally, .. } = settled;
     let line = ClosingLine { counts: stats };
     Ok(Counted { line, tally, token })
 }
 
 /// Serves a plan until it is stopped, settles, and returns the line with the account's counts, the
-/// shares of all its threads, which add up to them, and a token that has seen the account's history:
-/// no share of the account's ledgers is anywhere else. `S` names the configuration, the salt, the limit, the ledgers and the history of
-/// the account.
+/// shares of all its threads, which add up to them, and a token that has seen the account's whole
+/// history: no share of the account's ledgers is anywhere else. `S` names the configuration, the
+/// salt, the limit, the ledgers and the history of the account.
 fn serve_counted<R: Machine + Log, S: Identity + Drop + Send + Sync + 'static>(
     rt: R,
     plan: Plan,
