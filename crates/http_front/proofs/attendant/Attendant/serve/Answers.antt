@@ -10,12 +10,12 @@ use Rattle.http_front.proofs.attendant.Attendant.serve.Goals as goal
 
 pub returns : goal.returns
 returns g c =
-    let front = c.in_ok-front.front in
+    let front = c.in-Ok-front.front in
     let door = c.args.visit.door in
     let configured : g.S.Identity.config ≡ door.config = search rules in
     let salted : g.S.Identity.salt ≡ door.salt = search rules in
     let decider : arc_value (arc_value front.connection).decider ≡ door = search rules in (
-      c.serve_by.ensures.same ∙ c.in_ok-ends.ensures.name,
+      c.serve_by.ensures.same ∙ c.in-Ok-watch.ensures.name,
       weakened _ _ _ _
           (λ head response x. at_door _ _ _ front door g.S.Identity.most
           (λ call reply token r. subst (λ s. IsReplyAt door.config g.S.Identity.most s call reply token) salted
