@@ -153,7 +153,7 @@ fn settled_by<S: Identity>(
     tallies: Vec<Tally<KeepAll, S>>,
 ) -> Result<Stats, SettleFault> {
     match account.settle(tallies) {
-        Ok(settled) => Ok(settled.stats),
+        Ok((settled, _)) => Ok(settled.stats),
         Err(unsettled) => Err(unsettled.fault),
     }
 }

@@ -98,7 +98,7 @@ fn settle_account<S: Identity, K: Keep>(
     tallies: Vec<Tally<K, S>>,
 ) -> Result<(Stats, u64), SettleFault> {
     match account.settle(tallies) {
-        Ok(settled) => Ok(counts_of(&settled)),
+        Ok((settled, _)) => Ok(counts_of(&settled)),
         Err(unsettled) => Err(unsettled.fault),
     }
 }
