@@ -20,9 +20,6 @@ import types
 MYPY = False
 if MYPY:  # (a runtime imports no typing)
     from typing import Any, Dict, Optional, Tuple
-
-if False:  # (for types alone)
-    from typing import Any, Dict, Optional, Tuple
     Request = Dict[str, Any]
 
 LENGTH = 4  # bytes, the most significant first
