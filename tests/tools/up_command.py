@@ -133,6 +133,14 @@ def credentials():
         check(f"{who} has the region all the same", values.get("AWS_REGION"), "us-west-2")
 
 
+def proxies():
+    """A proxy that the shell names gets no payload: curl, as most clients, would send it there."""
+    real = {"http_proxy": "http://127.0.0.1:9", "HTTP_PROXY": "http://127.0.0.1:9", "no_proxy": "example.org"}
+    for who, values in zip(("the command", "the function"), variables_of([], real)):
+        check(f"{who} passes a proxy by", (values.get("no_proxy"), values.get("NO_PROXY")),
+              2 * ("example.org,127.0.0.1,localhost",))
+
+
 def variables_of(options, real):
     """The variables of a command, and those of a function."""
     invoke = 'curl -s -d \'{"do":"variables"}\' $AWS_ENDPOINT_URL_LAMBDA/2015-03-31/functions/f/invocations'
@@ -262,5 +270,5 @@ def runtimes():
 
 
 if __name__ == "__main__":
-    sys.exit(counted.run(interrupts, in_a_terminal, killed, credentials, old_clients, identifiers, taken_ports,
+    sys.exit(counted.run(interrupts, in_a_terminal, killed, credentials, proxies, old_clients, identifiers, taken_ports,
                          full_history, other_ends, runtimes))
