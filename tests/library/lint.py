@@ -90,17 +90,19 @@ def is_left_alone(root, finding):
 
 
 def checks_of_types(root):
-    """Whether tools/ is as `mypy --strict` has it, if it is here (Debian: mypy). tools/proof_costs is left out: it is
-    for those who prove, and reads what the kit's checker writes."""
+    """Whether tools/ is as `mypy --strict` has it, if it is here (Debian: mypy): its packages, modules and Python
+    programs, which have names without an ending."""
     mypy = shutil.which("mypy")
     if not mypy:
         return
-    names = ["lambda_local", "packages", "pytest_lambda_local.py", "__main__.py",
-             *sorted(os.path.join("library", name) for name in os.listdir(os.path.join(root, "tools", "library"))
-                     if name.endswith(".py"))]
+    tools = os.path.join(root, "tools")
+    names = [name for name in sorted(os.listdir(tools)) if os.path.exists(os.path.join(tools, name, "__init__.py"))
+             or os.path.isfile(os.path.join(tools, name)) and kind_of(os.path.join(tools, name), name) == "python"]
+    names += [os.path.join("library", name) for name in sorted(os.listdir(os.path.join(tools, "library")))
+              if kind_of(os.path.join(tools, "library", name), name) == "python"]
     # (a cache of this checkout alone: what another one has at the same place is another file)
     cache = f"lambda_local.mypy.{zlib.crc32(os.path.realpath(root).encode()):08x}"
-    ran = subprocess.run([mypy, "--strict", "--python-version", "3.9", "--follow-imports=silent", "--cache-dir",
-                          os.path.join(tempfile.gettempdir(), cache), *names],
-                         cwd=os.path.join(root, "tools"), stdout=subprocess.PIPE, stderr=subprocess.STDOUT, text=True)
+    ran = subprocess.run([mypy, "--strict", "--python-version", "3.9", "--follow-imports=silent",
+                          "--scripts-are-modules", "--cache-dir", os.path.join(tempfile.gettempdir(), cache), *names],
+                         cwd=tools, stdout=subprocess.PIPE, stderr=subprocess.STDOUT, text=True)
     yield "mypy --strict", ran.stdout.splitlines() if ran.returncode else []
