@@ -7,6 +7,7 @@ import glob
 import http.server
 import json
 import os
+import resource
 import socket
 import subprocess
 import sys
@@ -19,7 +20,7 @@ ROOT = os.path.dirname(os.path.dirname(os.path.dirname(os.path.realpath(__file__
 sys.path[:0] = [os.path.join(ROOT, "tools"), os.path.join(ROOT, "tests", "library")]
 import counted  # noqa: E402
 from counted import check  # noqa: E402
-from lambda_local.rerun import compare, play, record, report  # noqa: E402
+from lambda_local.rerun import command, compare, play, record, report  # noqa: E402
 from lambda_local.service import Fault, Service, ask  # noqa: E402
 
 TOOL = [os.path.join(ROOT, "lambda_local"), "rerun"]
@@ -313,6 +314,38 @@ def reruns():
         check("nothing is left running", left_running(folder), [])
 
 
+def updates():
+    """`--update` writes the new history whole, as private as the old one was, or leaves that as it is."""
+    with tempfile.TemporaryDirectory() as folder:
+        history, old = os.path.join(folder, "history.txt"), up_json(folder, "old")
+        with open(history, "w") as file:
+            file.write(recorded_history())
+        words = ("--ignore", "/parts/*/id", "--update", history, old)
+        for mode in (0o600, 0o644):
+            os.chmod(history, mode)
+            with open(history) as file:
+                before = file.read()
+            check(f"--update of a file of mode {mode:o}", run(*words), (0, ["3 invocations: 3 equal"], ""))
+            with open(history) as file:
+                check("writes a new history", (file.read(7), before == file.read()), ("form 2\n", False))
+            check("and keeps its mode", f"{os.stat(history).st_mode & 0o777:o}", f"{mode:o}")
+        with open(history) as file:
+            before = file.read()
+        names = sorted(os.listdir(folder))
+        # (no file may be larger: what writes it is refused, as by a disk that is full)
+        limits = resource.getrlimit(resource.RLIMIT_FSIZE)
+        resource.setrlimit(resource.RLIMIT_FSIZE, (len(before) // 2, limits[1]))
+        try:
+            said = fault_of(command.write, history, before + before)
+        finally:
+            resource.setrlimit(resource.RLIMIT_FSIZE, limits)
+        check("a disk that refuses the new one is told", said, f"2: --update: {history}: File too large")
+        with open(history) as file:
+            check("the old one is whole", file.read() == before, True)
+        check("of its mode", f"{os.stat(history).st_mode & 0o777:o}", "644")
+        check("and nothing is beside it", sorted(os.listdir(folder)), names)
+
+
 def faults():
     taken = socket.socket()
     taken.bind(("127.0.0.1", 0))
@@ -410,5 +443,5 @@ def marker():
 
 
 if __name__ == "__main__":
-    parts = (records, compares, errors, reports, plays, reruns, marker, faults)
+    parts = (records, compares, errors, reports, plays, reruns, updates, marker, faults)
     sys.exit(counted.run(*[part for part in parts if len(sys.argv) == 1 or part.__name__ in sys.argv[1:]]))

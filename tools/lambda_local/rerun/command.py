@@ -53,10 +53,15 @@ def write(path: str, text: str) -> None:
     """Writes a file whole or not at all; it stays as private as the one in whose place it comes."""
     try:
         mode = stat.S_IMODE(os.stat(path).st_mode)
-        with tempfile.NamedTemporaryFile("w", dir=os.path.dirname(os.path.abspath(path)), delete=False) as file:
-            file.write(text)
-        os.chmod(file.name, mode)
-        os.replace(file.name, path)
+        number, beside = tempfile.mkstemp(dir=os.path.dirname(os.path.abspath(path)))
+        try:
+            with open(number, "w") as file:
+                file.write(text)
+            os.chmod(beside, mode)
+            os.replace(beside, path)
+        except BaseException:
+            os.unlink(beside)
+            raise
     except OSError as fault:
         raise Fault(2, f"--update: {path}: {fault.strerror}") from None
 
