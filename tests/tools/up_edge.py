@@ -26,6 +26,7 @@ from lambda_local.service import Fault, Service, ask  # noqa: E402
 from lambda_local.up.log import Log  # noqa: E402
 from lambda_local.up.output import LONGEST_LINE, read_lines  # noqa: E402
 from lambda_local.up.reports import Report, kind_in  # noqa: E402
+from lambda_local.up.watch import Watch  # noqa: E402
 from ports import free_range  # noqa: E402
 from up_kit import LAUNCHER, RUNTIME, Up, children, command_of, lives, until  # noqa: E402
 
@@ -409,6 +410,51 @@ def out_of_memory():
           (True, True, []))
 
 
+def out_of_descriptors():
+    """lambda_local up without descriptors goes on once there are some, also with limits that it reads from files."""
+    up = Up(functions=[{"name": "f", "command": ["./slow"], "timeout": 60}],
+            files={"slow": "#!/bin/sh\nexec " + " ".join(RUNTIME) + "\n"})
+    up.until("[up] ready")
+    up.invoke()
+    pid = up.process.pid
+    resource.prlimit(pid, resource.RLIMIT_AS, (address_space(pid) + (1 << 30), -1))
+    limits = resource.prlimit(pid, resource.RLIMIT_NOFILE)
+    resource.prlimit(pid, resource.RLIMIT_NOFILE, (3, limits[1]))
+    time.sleep(3)
+    resource.prlimit(pid, resource.RLIMIT_NOFILE, limits)
+    answer, _ = up.invoke(patience=60.0)
+    check("once there are descriptors again it serves", type(answer), int)
+    check("and tells of it", until(lambda: up.count(" ok ") == 2, 60), True)
+    check("its threads go on", up.has("cannot go on"), False)
+    check("and it ends as always", up.end(), (0, []))
+
+
+def out_of_descriptors_at_the_history():
+    """The thread that reads the history needs a descriptor if its connection has ended."""
+    service = Service({"account": "123456789012", "region": "us-east-1", "functions": [{"name": "f", "ports": [0]}]})
+    log, stream = pipe_log()
+    watch = Watch(service, log, threading.Event())
+    watch.refresh()
+    ask(service.port, "PUT", "/2017-10-31/functions/f/concurrency", '{"ReservedConcurrentExecutions":0}')
+    watch.follower._connection.close()
+    limits = resource.getrlimit(resource.RLIMIT_NOFILE)
+    resource.setrlimit(resource.RLIMIT_NOFILE, (3, limits[1]))
+    try:
+        for _ in range(3):
+            watch.refresh()
+    finally:
+        resource.setrlimit(resource.RLIMIT_NOFILE, limits)
+    check("without a descriptor it takes nothing", watch.follower.next, 0)
+    watch.refresh()
+    check("with one it takes what has come", watch.follower.next, 1)
+    log.close()
+    log.writer.join(10)
+    log.stream.close()
+    lines = stream.read().decode().splitlines()
+    check("what it lacks is told once", [line.count("no descriptor to read the history by") for line in lines], [1])
+    service.stop()
+
+
 def address_space(pid):
     with open(f"/proc/{pid}/statm") as file:
         return resource.getpagesize() * int(file.read().split()[0])
@@ -433,4 +479,4 @@ if __name__ == "__main__":
     sys.exit(counted.run(reports, jsons, escapes, split_characters, long_lines, dropped_lines, slow_reader,
                          hostile_reports, foreign_names, forged_lines, unread_log,
                          of_sessions_of_their_own, killed, killed_with_a_command, private_files, few_ports,
-                         out_of_memory))
+                         out_of_memory, out_of_descriptors, out_of_descriptors_at_the_history))

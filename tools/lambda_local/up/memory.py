@@ -45,15 +45,26 @@ def use_of_service(process: int) -> Optional[Use]:
     return Use(used, limit, "the service's memory (LAMBDA_LOCAL_MEMORY), beyond which it answers 500 `Out of memory`")
 
 
+def use_of_address_space() -> Optional[Use]:
+    """The address space of this process, if that is limited; none if there is no descriptor to read it by."""
+    limit = resource.getrlimit(resource.RLIMIT_AS)[0]
+    if limit == resource.RLIM_INFINITY:
+        return None
+    try:
+        with open("/proc/self/statm") as file:
+            return Use(PAGE * int(file.read().split()[0]), limit, "its address space (ulimit -v)")
+    except OSError:
+        return None
+
+
 def uses(service: int) -> Iterator[Use]:
     """Each limit that there is."""
     of_service = use_of_service(service)
     if of_service is not None:
         yield of_service
-    limit = resource.getrlimit(resource.RLIMIT_AS)[0]
-    if limit != resource.RLIM_INFINITY:
-        with open("/proc/self/statm") as file:
-            yield Use(PAGE * int(file.read().split()[0]), limit, "its address space (ulimit -v)")
+    space = use_of_address_space()
+    if space is not None:
+        yield space
     folder = folder_of_cgroup()
     while folder is not None and folder.startswith(CGROUP):
         allowed, used = number_in(f"{folder}/memory.max"), number_in(f"{folder}/memory.current")

@@ -67,8 +67,11 @@ class Clients(threading.Thread):
         if self.stopping.is_set():
             return None
         command, pipe = GUARD.announcing(words)
-        child = subprocess.Popen(command, stdin=pipe, stdout=subprocess.PIPE, stderr=subprocess.STDOUT, text=True,
-                                 errors="replace", start_new_session=True)
+        try:
+            child = subprocess.Popen(command, stdin=pipe, stdout=subprocess.PIPE, stderr=subprocess.STDOUT, text=True,
+                                     errors="replace", start_new_session=True)
+        except OSError:  # (nothing else needs this: it waits for no descriptor or process)
+            return None
         printed, end = None, time.monotonic() + LONGEST_SECONDS
         while printed is None:
             try:

@@ -1,6 +1,7 @@
 """Follows the service's history while lambda_local up runs: for its lines, and for what environments ask about
 themselves."""
 import contextlib
+import errno
 import http.client
 import threading
 import time
@@ -17,6 +18,7 @@ from .log import Log
 from .supervised import told
 
 NEARLY_FULL = 0.9
+NO_DESCRIPTOR = (errno.EMFILE, errno.ENFILE)
 
 
 def what(event: Event) -> str:
@@ -75,7 +77,10 @@ class Watch(threading.Thread):
             self._look_at_memory()  # (first: a service without memory may not give its history)
             try:
                 entries = self.follower.read()
-            except (OSError, http.client.HTTPException):
+            except (OSError, http.client.HTTPException) as fault:
+                if isinstance(fault, OSError) and fault.errno in NO_DESCRIPTOR:
+                    self._warn("descriptors", "there is no descriptor to read the history by (ulimit -n): what happens "
+                                              "is told once there is one", "error")
                 return
             except MemoryError as fault:  # (what has come may be shorter the next time)
                 return self._warn("memory", f"there is no memory for what the history has now: {told(fault)}", "error")
