@@ -312,9 +312,32 @@ def waits():
     check("and is in the trace", [event["name"] for event in events(trace, "call")].count("next: deliver") == 1)
     check("as is the phase", [event["name"] for event in events(trace, "phase")] == ["Idle"],
           str(events(trace, "phase")))
+    cut_by_the_end()
     text = run("--from", "60", script=script)[1]
     check("the text has what happens in the window", "is answered after 60 ms: deliver" in text and "tick" not in text,
           text)
+
+
+def cut_by_the_end():
+    """A call whose answer comes after what is shown does not look finished."""
+    script = ONE + "\n0 next 1\n10 invoke f - - =1\n20 tick\n2000 response 1 1 =2\n2100 next 1\n"
+    for window, where in ((("--to", "1000"), "1000"), (("--from", "15", "--to", "1000"), "1000"),
+                          (("--limit", "3"), "2000")):
+        name, last = " ".join(window), run(*window, script=script)[1].splitlines()[-1].strip()
+        check(f"{name}: the text ends with the call that waits", last == f"{where} ms  caller 1: invoke f, call 1, "
+              "still waits, and is answered at 2000 ms, after what is shown", last)
+        for form in ("svg", "html"):
+            page = run(f"--{form}", *window, script=script)[1]
+            seen = [kind for kind, title in re.findall(r'<g class="call (\w+)"[^>]*><title>([^<]*)', page)
+                    if "invoke f" in title]
+            check(f"{name}: it is drawn as open, {form}", seen == ["open"], seen)
+            check(f"{name}: no label has its answer, {form}", ">invoke f: output<" not in page)
+    whole = run("--to", "2000", script=script)[1]
+    check("a call that is answered at the last moment is whole",
+          "still waits" not in whole and "is answered after 1,990 ms: output 2" in whole, whole)
+    late = run("--to", "1000", script=ONE + "\n0 next 1\n10 invoke f - - =1\n2000 tick\n")[1]
+    check("one that is never answered only waits",
+          late.splitlines()[-1].strip() == "1000 ms  caller 1: invoke f, call 1, still waits", late)
 
 
 if __name__ == "__main__":

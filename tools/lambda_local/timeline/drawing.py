@@ -197,6 +197,8 @@ class Drawing(Kept):
     def draw_call(self, call: Call) -> None:
         kind = outcome(call)
         name = f"call-{call.ticket}" if kind in FAILED else None
+        is_cut = self.is_after(call.end_entry)
+        kind = "open" if is_cut else kind
         left, right = self.x(call.entry), self.x(call.end_entry)
         words = what(self.configuration, call)
         title = f"{who(self.configuration, call)}: {words}\ncall {call.ticket}, {self.moment(call.moment)}"
@@ -224,7 +226,7 @@ class Drawing(Kept):
             shape = f'<rect class="{kind}" x="{left:.1f}" y="{top + 8}" width="{right - left:.1f}" height="6" rx="3"/>'
             self.put(f"call {kind}", title, shape, name=name)
         else:
-            answer = call.answer[0] if call.answer else "no answer yet"
+            answer = "is answered later" if is_cut else call.answer[0] if call.answer else "no answer yet"
             text = ""
             for label in (f"{words}: {answer}", answer, words):
                 if width_of(label) + 2 <= right - left:

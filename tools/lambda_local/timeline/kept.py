@@ -145,6 +145,10 @@ class Kept(Sink):
             return self.width - 24
         return self.places[entry - self.first] if entry >= self.first else 4
 
+    def is_after(self, entry: Optional[int]) -> bool:
+        """Whether an entry is after the last one that is drawn."""
+        return entry is not None and self.first is not None and entry - self.first >= len(self.places)
+
     def x_of_moment(self, moment: int) -> Optional[float]:
         """Returns a deadline's position, between the entries around it; None if it is after them all."""
         i = bisect.bisect_left(self.moments, moment)

@@ -32,6 +32,9 @@ class Sink:
     def still_open(self, call: Call, moment: int, entry: int) -> None:
         """A call has no answer when the history ends."""
 
+    def cut(self, call: Call, moment: int) -> None:
+        """A call waits at this moment, after which nothing is shown; its answer may have come later."""
+
     def turned(self, environment: "Environment", moment: int, entry: int, phase: str, deadline: Optional[int],
                reason: Optional[str]) -> None:
         """An environment enters a phase. It still has that in which it was."""

@@ -53,6 +53,11 @@ class Text(Sink):
         self.line(
             f"{who(self.configuration, call)}: {what(self.configuration, call)}, call {call.ticket}, has no answer yet")
 
+    def cut(self, call: Call, moment: int) -> None:
+        self.now = moment
+        words = f"{who(self.configuration, call)}: {what(self.configuration, call)}, call {call.ticket}, still waits"
+        self.line(words + (f", and is answered at {moment_words(call.end)}, after what is shown" if call.answer else ""))
+
     def turned(self, environment: Environment, moment: int, entry: int, phase: str, deadline: Optional[int],
                reason: Optional[str]) -> None:
         place = self.configuration.place(environment.number)

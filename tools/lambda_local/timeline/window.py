@@ -1,5 +1,5 @@
 """What is shown of a history: the calls of a window of time, up to a limit, and what goes on around them."""
-from typing import List, Optional, Sequence
+from typing import Dict, List, Optional, Sequence
 
 from ..service import Fault
 from .read import Call, Lane
@@ -39,6 +39,7 @@ class Window(Sink):
         self.calls = self.before = self.after = self.hidden = 0
         self.failed = 0  # calls that are left out
         self.first_failed: Optional[int] = None  # the moment of the first of them
+        self.waiting: Dict[int, Call] = {}  # by ticket, the calls that wait for their answer where the window is
 
     def begin(self, moment: int) -> None:
         self.first = moment
@@ -95,6 +96,8 @@ class Window(Sink):
         else:
             self.calls += 1
             call.drawn = True
+        if own is None and not self.is_past(call.moment):
+            self.waiting[call.ticket] = call
         if self.shows(call.moment):
             for sink in self.events:
                 sink.taken(call, own)
@@ -102,6 +105,8 @@ class Window(Sink):
     def answered(self, call: Call) -> None:
         if call.hidden:
             return
+        if not self.is_past(call.end):
+            self.waiting.pop(call.ticket, None)
         if call.drawn and call.end >= self.start:
             self.before -= call.moment < self.start
             for sink in self.spans:
@@ -116,6 +121,8 @@ class Window(Sink):
     def still_open(self, call: Call, moment: int, entry: int) -> None:
         if call.hidden:
             return
+        if not self.is_past(moment):
+            self.waiting.pop(call.ticket, None)
         if call.drawn:
             self.before -= call.moment < self.start
             for sink in self.spans:
@@ -146,6 +153,10 @@ class Window(Sink):
                 sink.entered(entry, moment)
 
     def end(self, world: World) -> None:
+        for call in self.waiting.values():
+            moment = self.stop if self.over is None else min(self.stop, self.over)
+            for event in self.events:
+                event.cut(call, int(moment))
         for sink in (*self.events, *self.spans):
             sink.end(world)
 
