@@ -7,6 +7,7 @@ import glob
 import http.server
 import json
 import os
+import re
 import resource
 import socket
 import subprocess
@@ -309,6 +310,9 @@ def reruns():
         cases = list(ElementTree.parse(report_file).iter("testcase"))
         check("the report for CI", [(each.get("classname"), each.find("failure") is not None) for each in cases],
               [("f", True)] * 3)
+        check("a case has its event in its name, and below its failure",
+              (re.sub(r"\d+", "N", cases[0].get("name"), count=1), cases[0].find("failure").text.splitlines()[-1]),
+              ('call N: {"n": 0, "fails": "never"}', 'its event: {"n": 0, "fails": "never"}'))
         seen = run("--one-by-one", "--ignore", "/parts", history, up_json(folder, "new"))
         check("the new history", seen, (0, ["3 invocations: 3 equal"], ""))
         check("nothing is left running", left_running(folder), [])

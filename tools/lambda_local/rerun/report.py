@@ -10,6 +10,7 @@ EQUAL, CHANGED, FAILED_NOW, FAILED_THEN = "equal", "changed", "failed now", "fai
 
 
 EVENT = 80  # letters of an event
+EVENT_OF_A_NAME = 40  # letters of it in the name of a case
 
 
 class Result(NamedTuple):
@@ -68,6 +69,7 @@ def write_junit(path: str, results: Sequence[Result]) -> None:
     suite = Suite("rerun")
     for result in results:
         failure = None if result.verdict == EQUAL else f"{result.verdict}: {result.lines[0]}"
-        suite.case(result.invocation.function, f"call {result.invocation.ticket}", result.seconds, failure,
-                   "\n".join(result.lines))
+        name = f"call {result.invocation.ticket}: {shown(result.invocation.payload, EVENT_OF_A_NAME)}"
+        lines = result.lines + [f"its event: {shown(result.invocation.payload, EVENT)}"]
+        suite.case(result.invocation.function, name, result.seconds, failure, "\n".join(lines))
     suite.write(path)
