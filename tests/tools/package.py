@@ -84,6 +84,9 @@ def made():
                if bytes_of(path) != bytes_of(os.path.join(again, os.path.basename(path)))], [])
         check("nothing else is left there", sorted(os.listdir(again)), sorted(map(os.path.basename, paths)))
         check("an archive is the default", package(root)[1], os.path.join(root, os.path.basename(paths[0])) + "\n")
+        package(root, "--wheel", "--deb")
+        seen = run(["git", "-C", root, "status", "--porcelain", "--", "*.tar.gz", "*.whl", "*.deb", ":!again"])
+        check("git ignores the packages in a checkout's own folder", seen, (0, "", ""))
 
 
 def refusals():
@@ -121,7 +124,24 @@ def refusals():
     with tempfile.TemporaryDirectory() as folder:
         root = copy_tree(os.path.join(folder, "tree"), program())
         status, output, said = package(root)
-        check("a tree that is no checkout", (status, output, "clone the repository first" in said), (2, "", True))
+        check("a tree that is no checkout",
+              (status, output, said.count("\n"), "clone the repository first" in said), (2, "", 1, True))
+
+
+def of_another_user():
+    """git refuses the checkout of another user; once its reader has allowed it, there is a package."""
+    if os.getuid():
+        return print("skip only root can be another user")
+    with copied() as root, tempfile.TemporaryDirectory() as home:
+        os.chmod(home, 0o777)
+        words = [sys.executable, os.path.join(root, "tools", "package"), home]
+        status, output, said = run(words, user=65534, HOME=home)
+        seen = (status, output, said.count("\n"), "of another user" in said, "safe.directory" in said)
+        check("another user's checkout: one line", seen, (4, "", 1, True, True))
+        allows = said.rpartition("allow it: ")[2].strip()
+        run(["sh", "-c", allows], user=65534, HOME=home)
+        status, output, said = run(words, user=65534, HOME=home)
+        check("what the line says makes it work", (status, os.path.isfile(output.strip())), (0, True))
 
 
 def given():
@@ -340,4 +360,4 @@ def end():
 
 
 if __name__ == "__main__":
-    sys.exit(counted.run(made, refusals, given, archive, wheel, plugin, deb, jobs, end))
+    sys.exit(counted.run(made, refusals, of_another_user, given, archive, wheel, plugin, deb, jobs, end))

@@ -3,6 +3,7 @@ import hashlib
 import io
 import os
 import platform
+import shlex
 import shutil
 import subprocess
 import tarfile
@@ -29,7 +30,11 @@ class Fault(Exception):
 
 def git(*words: str, **more: Any) -> bytes:
     """What git says of the checkout."""
-    done = subprocess.run(["git", "-C", ROOT, *words], stdout=subprocess.PIPE, env={**os.environ, "TZ": "UTC"}, **more)
+    done = subprocess.run(["git", "-C", ROOT, *words], stdout=subprocess.PIPE, stderr=subprocess.PIPE,
+                          env={**os.environ, "TZ": "UTC"}, **more)
+    if b"safe.directory" in done.stderr:  # (git runs nothing that another user has configured)
+        raise Fault(4, f"git reads no checkout of another user, and {ROOT} is one: make a clone of your own, or allow "
+                       f"it: git config --global --add safe.directory {shlex.quote(ROOT)}")
     if done.returncode:
         raise Fault(2, f"git {words[0]} ended with status {done.returncode} in {ROOT}: clone the repository first")
     said: bytes = done.stdout
