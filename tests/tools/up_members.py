@@ -34,6 +34,10 @@ OF_FUNCTION = {
                                               "queue, reserved, runtime, schedule, telemetry, timeout, url, variables, "
                                               "watch"),
     "what others call it": ({"environment": {"A": "x"}}, "unknown member environment, did you mean variables?"),
+    "a number by another name": ({"environment": 2}, "unknown member environment, did you mean environments?"),
+    "what a template has": ({"events": []}, "unknown member events; there are command, directory, environments, "
+                                            "extensions, handler, init, layers, memory, name, ports, python, queue, "
+                                            "reserved, runtime, schedule, telemetry, timeout, url, variables, watch"),
     "a text for a number": ({"timeout": "5"}, 'timeout must be a whole number of seconds, from 1 to 900, not "5"'),
     "a broken number": ({"memory": 1.5}, "memory must be a whole number of MB, not 1.5"),
     "true for a number": ({"reserved": True}, "reserved must be a whole number, not true"),

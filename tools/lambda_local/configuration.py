@@ -49,6 +49,15 @@ REQUIRED_OF_FUNCTION = ("name", "ports")
 MEANT = {"environment": "variables", "env": "variables", "envVars": "variables", "code": "directory",
          "codeUri": "directory", "layer": "layers", "memorySize": "memory", "concurrency": "reserved",
          "reservedConcurrency": "reserved"}
+UNLIKE = ("events",)  # which are near to what is not meant
+
+
+def nearest(name: str, value: object, kinds: Mapping[str, Kind]) -> List[str]:
+    """The member that is meant by one that there is not; none if that cannot be said."""
+    meant = "environments" if name == "environment" and is_whole(value, 1 << 32) else MEANT.get(name)
+    if meant is not None and meant in kinds:
+        return [meant]
+    return [] if name in UNLIKE else difflib.get_close_matches(name, kinds, 1, 0.6)
 
 
 def shown(value: object) -> str:
@@ -67,7 +76,7 @@ def mistakes_of(members: Mapping[str, object], kinds: Mapping[str, Kind], where:
     """What is wrong with the members of an object, one sentence each."""
     for name, value in members.items():
         if name not in kinds:
-            near = [MEANT[name]] if MEANT.get(name) in kinds else difflib.get_close_matches(name, kinds, 1, 0.6)
+            near = nearest(name, value, kinds)
             yield f"{where}unknown member {named(name)}" + (
                 f", did you mean {near[0]}?" if near else f"; there are {', '.join(sorted(kinds))}")
         elif not kinds[name].accepts(value):
