@@ -313,6 +313,7 @@ def deb():
         listed = re.findall(r"^ +lambda_local (?:\[?(\w+)\]?)", run([command, "--help"])[1], re.M)
         check("the man page has each command of --help",
               [it for it in listed if not re.search(rf'^\.BI? "?{it}\b', page, re.M)], [])
+        tested_by(os.path.join(folder, "usr", "lib", "lambda_local", "tools"))
         control = run(["dpkg-deb", "-f", packages["deb"], "Version", "Architecture", "Depends"])[1]
         seen = (bool(VERSION.search(control)), "Architecture: amd64" in control, "libc6 (>= 2.34)" in control)
         check("its control file", seen, (True, True, True))
@@ -321,6 +322,20 @@ def deb():
         check("lintian finds no error", said[0] == 0, shown=said[1])
     else:
         print("     (lintian is not installed)")
+
+
+def tested_by(tools):
+    """The plugin of a package that pytest does not find by itself, started as docs/pytest.md says."""
+    python = python_with_pytest()
+    if python is None:
+        return print("skip no Python here has pytest")
+    told = re.search(r"`PYTHONPATH=/usr/lib/lambda_local/tools python3 (-m pytest[^`]*)`",
+                     text_of(ROOT, "docs", "pytest.md"))
+    with tempfile.TemporaryDirectory() as work:
+        write(os.path.join(work, "test_greet.py"), TEST.encode())
+        status, output, said = run([python, *told[1].split(), "-q", "-p", "no:cacheprovider"], cwd=work,
+                                   PYTHONPATH=tools)
+        check("pytest has the plugin as docs/pytest.md says", (status, "1 passed" in output), (0, True))
 
 
 def jobs():
