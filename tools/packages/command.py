@@ -13,8 +13,8 @@ its sha256 stands there, and that it was given, not proved here. The paths of th
 output. The same commit and program give the same bytes. Files that the checkout has beside the commit do not matter,
 unless they lie where packaged files or sources do.
 
-Exit statuses: 2 for a fault in the arguments or in the checkout; 4 if there is no program, the checkout is another user's,
-or a file cannot be written."""
+Exit statuses: 2 for a fault in the arguments or in the checkout; 4 if there is no program, the checkout is another
+user's, or a file cannot be written."""
 import argparse
 import os
 import sys

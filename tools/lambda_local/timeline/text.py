@@ -56,7 +56,9 @@ class Text(Sink):
     def cut(self, call: Call, moment: int) -> None:
         self.now = moment
         words = f"{who(self.configuration, call)}: {what(self.configuration, call)}, call {call.ticket}, still waits"
-        self.line(words + (f", and is answered at {moment_words(call.end)}, after what is shown" if call.answer else ""))
+        if call.answer:
+            words += f", and is answered at {moment_words(call.end)}, after what is shown"
+        self.line(words)
 
     def turned(self, environment: Environment, moment: int, entry: int, phase: str, deadline: Optional[int],
                reason: Optional[str]) -> None:
