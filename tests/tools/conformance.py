@@ -31,13 +31,17 @@ import counted  # noqa: E402
 import extensions  # noqa: E402
 import libraries  # noqa: E402
 import shapes  # noqa: E402
+import subscribers  # noqa: E402
 import wrong_extensions  # noqa: E402
 import wrong_runtimes  # noqa: E402
 from counted import check  # noqa: E402
 from lambda_local.conformance import extension, runtime  # noqa: E402
 
 LENIENT = {"runtime": {"keep_alive", "continue_first", "header_spaces", "same_process", "error_header"},
-           "extension": set()}
+           "extension": {"takes_empty_batch", "takes_in_shutdown"}}
+OF_TELEMETRY = [check.name for part in (extension.telemetry, extension.delivery, extension.batches,
+                                        extension.last_batches) for scenario in part.SCENARIOS
+                for check in scenario.checks]
 AT_ONCE = max(2, len(os.sched_getaffinity(0)))  # runs of the kit, each of which waits half of its time
 EACH = 15  # wrong programs, of which one is run with all scenarios
 THIRD = 3  # further programs in shapes, of which one is run
@@ -161,6 +165,12 @@ def extensions_in_shapes():
         yield f"an extension that is {name}", [*PYTHON, os.path.join(SHAPES, "extensions.py"), name]
 
 
+def subscriber(name):
+    """One that takes telemetry, run with the checks of that alone."""
+    return Run("extension", "--name", "sound", *(word for check in OF_TELEMETRY for word in ("--only", check)), "--",
+               *PYTHON, os.path.join(SHAPES, "subscribers.py"), name)
+
+
 def in_java(kind):
     """A client in the shape of Java's, with one of its two libraries for HTTP, and a heap as it is by default."""
     with tempfile.TemporaryDirectory() as folder:
@@ -242,7 +252,9 @@ def jobs():
     for name, command in extensions_in_shapes():
         yield Job("sound", other_extension, command, passes, (name,))
     yield Job("sound", sound_runtime, (), passes, ("the sound runtime", {"numbers", *LEAKS}))
-    yield Job("sound", sound_extension, (), passes, ("the sound extension", set()))
+    yield Job("sound", sound_extension, (), passes, ("the sound extension", {"takes_logs", "takes_in_shutdown"}))
+    for name, shape in subscribers.SHAPES.items():
+        yield Job("sound", subscriber, (name,), passes, (f"an extension that {name}", shape.leaves_open))
     mistakes = [(kind, mistake, WHOLE or place % EACH == 0)
                 for kind in KINDS for place, mistake in enumerate(kind.mistakes.values())]
     for kind, mistake, is_whole in sorted(mistakes, key=lambda each: (not hasattr(each[1], "settings"), not each[2])):

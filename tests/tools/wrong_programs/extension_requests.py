@@ -17,6 +17,7 @@ INVOCATIONS = {"asks_after_invoke", "invoke_in_time", "one_poll", "known_request
 ALL = {*INVOCATIONS, "ends_at_spindown", "ends_at_timeout", "registers_anew", "ends_at_failure", "crash_noticed",
        "works_after_crash", "next_without_timeout", "exit_error", "header_names", "chunked_answers", "more_headers",
        "slow_answers", "closing_answers", "connection_end", "telemetry", "without_telemetry", "takes_telemetry",
+       "takes_again", "takes_empty_batch", "takes_dropped", "takes_logs", "takes_until_shutdown", "takes_in_shutdown",
        "many_events"}
 
 

@@ -18,7 +18,7 @@ class Failed(Exception):
 
 
 class Extension(Client):
-    next_path = PATH + "event/next"
+    next_path, telemetry_path, schema = PATH + "event/next", "/2022-07-01/telemetry", "2022-12-13"
 
     def __init__(self):
         super().__init__()
@@ -67,9 +67,9 @@ class Extension(Client):
         listener = socket.create_server(("127.0.0.1", 0))
         threading.Thread(target=self.receive, args=(listener, ), daemon=True).start()
         address = f"http://sandbox.localdomain:{listener.getsockname()[1]}"
-        wanted = {"schemaVersion": "2022-12-13", "types": ["platform"],
+        wanted = {"schemaVersion": self.schema, "types": ["platform"],
                   "destination": {"protocol": "HTTP", "URI": address}}
-        self.subscribed(self.ask("PUT", "/2022-07-01/telemetry", wanted))
+        self.subscribed(self.ask("PUT", self.telemetry_path, wanted))
 
     def subscribed(self, answer):
         pass

@@ -25,6 +25,7 @@ _custom = _guide("Building a custom runtime for AWS Lambda", "runtimes-custom")
 _life = _guide("Understanding the Lambda execution environment lifecycle", "lambda-runtime-environment")
 _quotas = _guide("Lambda quotas", "gettingstarted-limits")
 _extensions = _guide("Using the Lambda Extensions API to create extensions", "runtimes-extensions-api")
+_logs = _guide("Using the Lambda Logs API", "runtimes-logs-api")
 _telemetry = _guide("Accessing real-time telemetry data for extensions using the Telemetry API", "telemetry-api")
 
 
@@ -54,6 +55,7 @@ EXTENSION_INVOKE = _extensions("Invoke phase")
 EXTENSION_SHUTDOWN = _extensions("Shutdown phase")
 EXTENSION_INIT = _extensions("Init phase")
 TELEMETRY = _telemetry("Creating extensions using the Telemetry API")
+LOGS = _logs("Log messages")
 
 JSON_GRAMMAR = _rfc(8259, "2", "JSON Grammar")
 JSON_NUMBERS = _rfc(8259, "6", "Numbers")

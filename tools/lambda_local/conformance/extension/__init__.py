@@ -17,10 +17,10 @@ from typing import List
 
 from ...service import Fault
 from ..run import check_arguments, listed, parser_of, play, seconds, split
-from . import another, delivery, load, reports, scenarios, telemetry
+from . import another, batches, delivery, last_batches, load, reports, scenarios, telemetry
 from .stage import ExtensionStage
 
-MODULES = (scenarios, telemetry, delivery, reports, another, load)
+MODULES = (scenarios, telemetry, delivery, batches, last_batches, reports, another, load)
 SCENARIOS = [scenario for module in MODULES for scenario in module.SCENARIOS]
 
 EVENTS = ("INVOKE", "SHUTDOWN")

@@ -3,10 +3,10 @@ import http.client
 import json
 import socket
 import urllib.parse
-from typing import TYPE_CHECKING, Any, Dict, List, Optional
+from typing import TYPE_CHECKING, Any, Dict, List, NamedTuple, Optional
 
 from .. import pages
-from ..kit import Scenario, scenarios_of
+from ..kit import NOTE, Scenario, scenarios_of
 
 if TYPE_CHECKING:
     from .stage import ExtensionStage
@@ -22,8 +22,6 @@ BATCHES: Dict[str, List[Dict[str, Any]]] = {
     "a batch": [START, {"time": AT, "type": "function", "record": "a line"},
                 {"time": AT, "type": "extension", "record": "\u00e9\u4e2d\ud83d\ude00"}],
     "a batch with an event that it does not know": [{"time": AT, "type": "platform.unheardOf", "record": {"a": [1]}}],
-    "a batch that says what was dropped": [{"time": AT, "type": "platform.logsDropped", "record": {
-        "reason": "why", "droppedRecords": 123, "droppedBytes": 12_345}}],
     "a thousand events": [START] * 1000,
 }
 
@@ -66,6 +64,62 @@ def fault_over_tcp(port: int, batch: List[Dict[str, Any]]) -> Optional[str]:
     return None
 
 
+class Receiver(NamedTuple):
+    """Where an extension says that it takes telemetry."""
+    destination: Dict[str, Any]
+    is_of_logs: bool  # subscribed at the Logs API, whose schema is an older one
+
+    @property
+    def is_over_tcp(self) -> bool:
+        return bool(self.destination["protocol"] == "TCP")
+
+    def fault_first(self, batch: List[Dict[str, Any]]) -> Optional[str]:
+        """What is wrong with the answer to a batch, in words; NothingListens if nobody takes it."""
+        return (fault_over_tcp(self.destination["port"], batch) if self.is_over_tcp
+                else fault_over_http(self.destination["URI"], batch))
+
+    def fault_later(self, batch: List[Dict[str, Any]]) -> Optional[str]:
+        """So, of one that has listened before."""
+        try:
+            return self.fault_first(batch)
+        except NothingListens as port:
+            return f"is not taken: nothing listens at 127.0.0.1:{port} any more"
+
+
+def subscribed(stage: "ExtensionStage") -> Optional[Receiver]:
+    """Where the extension, which has begun, says that it takes telemetry; None if it asks for none."""
+    asked = [one for one in stage.environment.proxy.of("telemetry") if one.status == 200]
+    return Receiver(asked[-1].json()["destination"], asked[-1].path == "/2020-08-15/logs") if asked else None
+
+
+def listening(stage: "ExtensionStage") -> Optional[Receiver]:
+    """Begins, and sends a batch of one line: where that is taken. If it is not, which `takes_telemetry` is about, the
+    scenario's checks are a NOTE, and it is None."""
+    stage.begin()
+    stage.idle()
+    found = subscribed(stage)
+    if not found:
+        stage.jury.rest(NOTE, "it asks for none")
+        return None
+    try:
+        fault = found.fault_first([{"time": AT, "type": "function", "record": "the first line"}])
+    except NothingListens as port:
+        stage.jury.rest(NOTE, f"nothing listens at 127.0.0.1:{port}, where it says")
+        return None
+    if fault:
+        stage.jury.rest(NOTE, f"not judged: a batch of one line {fault}")
+        return None
+    return found
+
+
+def goes_on(stage: "ExtensionStage") -> bool:
+    """Whether it still runs, and takes an event."""
+    if not stage.environment.process.ended and stage.registered_for("INVOKE"):
+        stage.invoke(b"1")
+        stage.idle()
+    return not stage.environment.process.ended
+
+
 @scenario(
     ("takes_telemetry", pages.TELEMETRY,
      "if it subscribes to telemetry, it takes what comes: over HTTP it answers each batch with 200, also one with "
@@ -73,20 +127,14 @@ def fault_over_tcp(port: int, batch: List[Dict[str, Any]]) -> Optional[str]:
 def batches(stage: "ExtensionStage") -> None:
     stage.begin()
     stage.idle()
-    asked = [one.json() for one in stage.environment.proxy.of("telemetry") if one.status == 200]
-    if not asked:
+    found = subscribed(stage)
+    if not found:
         return stage.note("takes_telemetry", "it asks for none")
-    destination = asked[-1]["destination"]
     try:
         for name, batch in BATCHES.items():
-            fault = (fault_over_tcp(destination["port"], batch) if destination["protocol"] == "TCP"
-                     else fault_over_http(destination["URI"], batch))
+            fault = found.fault_first(batch)
             if fault:
                 return stage.check("takes_telemetry", False, f"{name} {fault}")
     except NothingListens as port:
         return stage.note("takes_telemetry", f"nothing listens at 127.0.0.1:{port}, where it says")
-    if stage.registered_for("INVOKE"):
-        stage.invoke(b"1")
-        stage.idle()
-    return stage.check("takes_telemetry", not stage.environment.process.ended, "it has ended after that",
-                       f"{len(BATCHES)} batches")
+    return stage.check("takes_telemetry", goes_on(stage), "it has ended after that", f"{len(BATCHES)} batches")
