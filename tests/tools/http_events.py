@@ -313,7 +313,8 @@ def malformed():
                  b"POST / HTTP/1.1\r\nHost: a\r\nContent-Length: 1\r\nTransfer-Encoding: chunked\r\n\r\n", b"400"),
                 ("another coding", b"POST / HTTP/1.1\r\nHost: a\r\nTransfer-Encoding: gzip, chunked\r\n\r\n", b"501"),
                 ("a wrong chunk", b"POST / HTTP/1.1\r\nHost: a\r\nTransfer-Encoding: chunked\r\n\r\nxy\r\n", b"400"),
-                ("a host that is not local", b"GET / HTTP/1.1\r\nHost: evil.example\r\nConnection: close\r\n\r\n", b"403"),
+                ("a host that is not local",
+                 b"GET / HTTP/1.1\r\nHost: evil.example\r\nConnection: close\r\n\r\n", b"403"),
                 ("another version", b"GET / HTTP/2.0\r\nHost: a\r\n\r\n", b"400"),
                 ("a head that is too long", b"GET / HTTP/1.1\r\nHost: a\r\nX: " + b"x" * 70000, b"431"),
                 ("HTTP/1.0", b"GET / HTTP/1.0\r\n\r\n", b"200")):
