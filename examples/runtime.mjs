@@ -121,6 +121,13 @@ function patchConsole() {
   }
 }
 
+// Begins the lines of an invocation: for `./lambda_local up`, by what nothing else prints (in LAMBDA_LOCAL_MARK, which
+// the handler does not see).
+const MARK = process.env.LAMBDA_LOCAL_MARK;
+delete process.env.LAMBDA_LOCAL_MARK;
+const print = process.stdout.write.bind(process.stdout);
+const begin = (id) => { if (MARK) print(`\0${MARK}${id}\n`); };
+
 // What this program says itself.
 function tell(text) {
   process.stderr.write(`${text}\n`);
@@ -402,6 +409,7 @@ async function serve(handler) {
       return;
     } else {
       delete process.env._X_AMZN_TRACE_ID;
+      begin(headers["lambda-runtime-aws-request-id"]);
       if (headers["lambda-runtime-trace-id"]) process.env._X_AMZN_TRACE_ID = headers["lambda-runtime-trace-id"];
       await (handler[STREAMS] ? invokeStreaming : invoke)(handler, text, headers);
     }

@@ -17,6 +17,7 @@ import json
 import logging
 import os
 import re
+import select
 import sys
 import time
 import traceback
@@ -154,6 +155,27 @@ def set_up_logging(request):
         logger.setLevel(log_level())
 
 
+def marks_invocations():
+    """A function that begins the lines of an invocation: for `./lambda_local up`, by what nothing else prints (in
+    LAMBDA_LOCAL_MARK, which the handler does not see); else it does nothing."""
+    mark = os.environ.pop("LAMBDA_LOCAL_MARK", None)
+    if not mark:
+        return lambda request: None
+    output = os.dup(1)  # (whatever the handler does to its own)
+
+    def begin(request):
+        while True:
+            try:
+                os.write(output, f"\0{mark}{request}\n".encode())
+            except BlockingIOError:  # (a child has made it so, and it is full)
+                select.select([], [output], [])
+                continue
+            except OSError:  # (nobody reads it any more)
+                pass
+            return
+    return begin
+
+
 # ---- the handler -----------------------------------------------------------------------------------------------------
 
 def greet(event, context):
@@ -261,8 +283,8 @@ def outcome(handler, payload, headers):
         return "error", json.dumps(report), type_header(report)
 
 
-def serve(environment, handler):
-    """Handles invocations until the environment shuts down."""
+def serve(environment, handler, begin):
+    """Handles invocations until the environment shuts down. `begin` is called before each."""
     while True:
         status, headers, payload = environment.ask("GET", "invocation/next")
         if status == 403:  # an earlier process took the invocation that is still open here
@@ -275,6 +297,7 @@ def serve(environment, handler):
         if trace:
             os.environ["_X_AMZN_TRACE_ID"] = trace
         environment.request = request
+        begin(request)
         kind, body, headers = outcome(handler, payload, headers)
         status, _, refusal = environment.ask("POST", f"invocation/{request}/{kind}", body, headers)
         if status == 500:  # the container error, as for a Next
@@ -307,12 +330,12 @@ def main():
         print(__doc__)
         return 0 if len(words) == 1 else 2
     address = (addresses or [os.environ.get("AWS_LAMBDA_RUNTIME_API") or "127.0.0.1:9001"])[0]
-    environment = Environment(address)
+    environment, begin = Environment(address), marks_invocations()
     try:
         handler = init(environment, (names or [os.environ.get("_HANDLER")])[0])
         if handler is None:
             return 1
-        serve(environment, handler)
+        serve(environment, handler, begin)
     except (OSError, http.client.HTTPException) as fault:
         if not environment.has_answered:
             print(f"runtime.py: no Runtime API at {address}: {fault}: start the service first, and name its "

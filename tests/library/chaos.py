@@ -146,7 +146,7 @@ class Chaos:
 
 def left_out_of(lines):
     return sum(int(found[1].replace(",", "")) for line in lines
-               if (found := re.search(r"([\d,]+) lines \([\d,]+ bytes\) are left out here", line)))
+               if (found := re.search(r"([\d,]+) lines? \([\d,]+ bytes?\) (?:is|are) left out here", line)))
 
 
 def chaos(seconds, seed=None):

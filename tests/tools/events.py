@@ -161,7 +161,7 @@ def ends():
     with running(timeout=10) as (up, caller):
         for number in range(4):
             caller.event("f", {"do": "sleep", "seconds": 0.4, "number": number})
-        check("a stop waits for the events", (up.end(), up.count(r"\[f\] event \S+ ok"), up.has("events are left")),
+        check("a stop waits for the events", (up.end(), up.count(r"\[f\] event \S+ ok"), up.has(" left: waits up to")),
               ((0, []), 4, True))
     with running(timeout=10) as (up, caller):
         for number in range(3):

@@ -58,8 +58,29 @@ def replays(folder):
                     status, output == own[1], said[0] if said else None, len(said),
                     told in (said[-1] if said else "")), (2, True, line, 2, True))
             piped = subprocess.run(words, input=text.encode(), capture_output=True, env=environ())
-            check(f"{launcher}: {name}, through a pipe: as the program says it",
-                  (piped.returncode, piped.stdout, piped.stderr.decode().splitlines()), own)
+            said = piped.stderr.decode().splitlines()
+            check(f"{launcher}: {name}, through a pipe", (piped.returncode, piped.stdout == own[1], said[:-1],
+                                                          told in (said[-1] if said else "")), (2, True, own[2], True))
+    long_pipes(opening)
+
+
+def long_pipes(opening):
+    """A fault far behind what is kept of the beginning, and a script without one."""
+    ticks = "".join(f"{moment} tick\n" for moment in range(1_200_000))
+    opening = json.dumps({**json.loads(opening), "maxEntries": 10_000_000})
+    for launcher, words in LAUNCHERS.items():
+        done = subprocess.run(words, input=f"{opening}\n{ticks}hello\n{ticks}".encode(), stdout=subprocess.DEVNULL,
+                              stderr=subprocess.PIPE, env=environ())
+        said = done.stderr.decode().splitlines()
+        check(f"{launcher}: a line far behind", (done.returncode, said[0], "line 1200002 is not a call: `hello`"
+                                                 in said[-1]), (2, "script: line 1200002", True))
+        child = subprocess.Popen(words, stdin=subprocess.PIPE, stdout=subprocess.PIPE, stderr=subprocess.PIPE,
+                                 env=environ())
+        child.stdin.write(f"{opening}\n0 next 1\n5 invoke f - - =1\n".encode())
+        child.stdin.flush()
+        child.stdin.close()
+        check(f"{launcher}: what a pipe gives is answered", b"deliver" in child.stdout.readline())
+        check(f"{launcher}: and its end is the end", (child.wait(20), child.stderr.read()), (0, b""))
 
 
 def right_ones(folder):
@@ -120,6 +141,16 @@ def signals(folder):
         check(f"{launcher} serve: SIGTERM", child.wait(10), -signal.SIGTERM)
         child.stderr.close()
         for number in (signal.SIGTERM, signal.SIGINT, signal.SIGHUP):
+            waiting, kept = os.pipe()  # (nothing comes through it)
+            child = subprocess.Popen(words, stdin=waiting, stdout=subprocess.DEVNULL, stderr=subprocess.PIPE,
+                                     env=environ())
+            until(lambda: any(command_of(pid).startswith(PROGRAM) for pid in children(child.pid)), 20)
+            time.sleep(0.1)
+            child.send_signal(number)
+            check(f"{launcher} replay of a pipe: {number.name}", (child.wait(10), child.stderr.read()), (-number, b""))
+            child.stderr.close()
+            os.close(waiting)
+            os.close(kept)
             with open(long) as file:
                 child = subprocess.Popen(words, stdin=file, stdout=subprocess.DEVNULL, stderr=subprocess.PIPE,
                                          env=environ())

@@ -19,7 +19,12 @@ import colorsys
 def run(event, context):
     do = event.get("do")
     if do == "crash": os._exit(7)
-    if do == "exit": sys.exit(5)
+    if do == "exit":
+        import atexit, threading
+        atexit.register(print, "at the end")
+        threading.Timer(0.2, print, ["a thread that is waited for"]).start()
+        sys.stdout.write("what was not written yet ")
+        sys.exit(5)
     if do == "signal": os.kill(os.getpid(), 11)
     if do == "later": import threading; threading.Timer(0.2, os._exit, [9]).start()
     if do == "child":
@@ -97,7 +102,7 @@ def same_as_fresh():
     fresh, other = seen["0"], seen["1"]
     # (UP.json's folder and the service's ports are those of another run)
     for place in (fresh, other):
-        for name in ("LAMBDA_LOCAL_FORK", "LAMBDA_TASK_ROOT", "PWD"):
+        for name in ("LAMBDA_LOCAL_FORK", "LAMBDA_LOCAL_PROCESS", "LAMBDA_TASK_ROOT", "PWD"):
             place["values"].pop(name, None)
         place["values"] = {name: value for name, value in place["values"].items() if "127.0.0.1" not in value}
         place["path"], place["directory"] = place["path"][1:], place["path"][0] == place["directory"]
@@ -129,6 +134,8 @@ def ends():
                      ("later", "exit status 9")):
         up.invoke(patience=20, do=do)
         check(f"{do}: its end is told", up.until(said, 20))
+    check("an exit ends as an interpreter's does", [up.has(text) for text in (
+        "a thread that is waited for", "at the end", "what was not written yet")], [True, True, True])
     child = up.invoke(patience=20, do="child")[0]
     pid = up.invoke(patience=20)[0]
     check("it is below the guard", parent_of(parent_of(pid)), up.process.pid)

@@ -97,7 +97,7 @@ def tails():
     for kind in (None, "None"):
         check(f"no log is given with the log type {kind}", tail_of(up, kind=kind), None)
     check("a line that is not whole", parts(tail_of(up, do="part"))[0], ["begun"])
-    check("it is whole in the next one", parts(tail_of(up))[0], ["begunto standard output", "to standard error"])
+    check("its rest is the next one's", parts(tail_of(up))[0], ["to standard output", "to standard error"])
     check("nothing is left", up.end(), (0, []))
 
 
@@ -135,6 +135,88 @@ def together():
     check("each of 60 tails has its own five lines", [(number, lines) for number, lines in seen if lines != [
         f"caller {number} line {line}" for line in range(5)]], [])
     up.end()
+
+
+class Load:
+    """Processes that need all processors, while it lasts."""
+
+    def __enter__(self):
+        self.spinning = [subprocess.Popen([sys.executable, "-S", "-c", "while True: pass"]) for _ in range(8)]
+
+    def __exit__(self, *_):
+        for process in self.spinning:
+            process.kill()
+            process.wait()
+
+
+SPEAKS = r"""import http.client, json, os, sys
+connection = http.client.HTTPConnection(os.environ["AWS_LAMBDA_RUNTIME_API"])
+def ask(method, path, body=None):
+    connection.request(method, "/2018-06-01/runtime/invocation/" + path, body)
+    reply = connection.getresponse()
+    return reply.status, reply.headers, reply.read()
+while True:
+    status, headers, body = ask("GET", "next")
+    if status != 200: break
+    event = json.loads(body)
+    for number in range(event["count"]): print(f"{event['name']} line {number}", flush=True)
+    sys.stdout.write(f"{event['name']} ends"); sys.stdout.flush()
+    ask("POST", headers["Lambda-Runtime-Aws-Request-Id"] + "/response", "1")
+"""
+OF_NODE = """export const run = async (event) => {
+  for (let number = 0; number < event.count; number += 1) process.stdout.write(`${event.name} line ${number}\n`);
+  process.stdout.write(`${event.name} ends`);
+};
+"""
+AT_ONCE = """import sys
+def run(event, context):
+    for number in range(event["count"]): print(f"{event['name']} line {number}")
+    sys.stdout.write(f"{event['name']} ends"); sys.stdout.flush()
+"""
+SPEAKING_EXTENSION = r"""import json, os, urllib.request
+base = f"http://{os.environ['AWS_LAMBDA_RUNTIME_API']}/2020-01-01/extension/"
+def ask(path, body, headers):
+    return urllib.request.urlopen(urllib.request.Request(base + path, body, headers))
+me = {"Lambda-Extension-Identifier": ask("register", b'{"events":["INVOKE"]}', {"Lambda-Extension-Name": "x"})
+      .headers["Lambda-Extension-Identifier"]}
+while True:
+    event = json.loads(ask("event/next", None, me).read())
+    print(f"extension {event['requestId']}", flush=True)
+"""
+
+
+def under_load(what, function, *files):
+    """However late its lines are read, an invocation has its own and no other: each caller's next one follows at once,
+    and there is no room on the processors."""
+    up = Up(app=AT_ONCE, files=dict(files), functions=[{"name": "f", "environments": 3, "timeout": 60, **function}])
+    check(f"{what} is ready", up.until("ready", 120))
+
+    def call(number):
+        while True:
+            try:
+                return number, tail_of(up, count=5, name=f"caller {number}")
+            except urllib.error.HTTPError as fault:
+                fault.close()
+                time.sleep(0.005)
+    with Load(), concurrent.futures.ThreadPoolExecutor(60) as pool:
+        seen = list(pool.map(call, range(180)))
+    wrong = []
+    for number, log in seen:
+        lines, identifier = parts(log)[0] or [], (re.match(START, log) or [0, 0])[1]
+        own = [line for line in lines if line != f"extension {identifier}"]
+        if own != [*(f"caller {number} line {line}" for line in range(5)), f"caller {number} ends"]:
+            wrong.append((number, lines))
+    check(f"{what}: each of 180 tails has its own six lines", wrong, [])
+    check("nothing is left", up.end(), (0, []))
+
+
+def loaded():
+    command = [sys.executable, "speaks.py"]
+    under_load("the runtime of Python", {"runtime": "python", "handler": "app.run"})
+    under_load("the runtime of Node", {"runtime": "node", "handler": "index.run"}, ("index.mjs", OF_NODE))
+    under_load("another runtime", {"command": command}, ("speaks.py", SPEAKS))
+    under_load("an extension", {"runtime": "python", "handler": "app.run",
+                                "extensions": {"x": [sys.executable, "x.py"]}}, ("x.py", SPEAKING_EXTENSION))
 
 
 def clients():
@@ -221,9 +303,6 @@ def parts_alone():
         printed.take("f/1", f"line {number}")
     check("whoever follows gets each line", [(line.source, line.text) for line in seen],
           [("f/1", "line 0"), ("f/1", "line 1"), ("f/1", "line 2")])
-    check("the lines between two moments: the first is in it, the last is not",
-          [line.text for line in printed.between(seen[1].moment, seen[2].moment + 0.001)][-2:],
-          [line.text for line in seen if seen[1].moment <= line.moment <= seen[2].moment][-2:])
     for _ in range(3 * MOST_KEPT // 1000):
         printed.take("f/1", "x" * 1000)
     check("it keeps no more than it may", printed.size <= MOST_KEPT and len(printed.lines) > 500)
@@ -239,4 +318,4 @@ def parts_alone():
 
 
 if __name__ == "__main__":
-    sys.exit(counted.run(parts_alone, tails, together, clients, own_runtime, reports, reports_as_json))
+    sys.exit(counted.run(parts_alone, tails, together, loaded, clients, own_runtime, reports, reports_as_json))

@@ -199,8 +199,8 @@ def hidden():
                 {"Lambda-Extension-Name": "lambda_local.up"})
         drawn = other.until(lambda drawn: "lambda_local.up" in drawn)
         check("--all shows what lambda_local up does", "lambda_local.up" in drawn)
-        drawn = page.until(lambda drawn: "1 calls" in drawn)
-        check("else it is hidden", "1 calls" in drawn and "lambda_local.up" not in drawn, drawn[:300])
+        drawn = page.until(lambda drawn: "1 call," in drawn)
+        check("else it is hidden", "1 call," in drawn and "lambda_local.up" not in drawn, drawn[:300])
 
 
 def gone():

@@ -177,8 +177,8 @@ def dropped_lines():
     log.writer.join(10)
     log.stream.close()
     reader.join(10)
-    notes = [line for line in lines if "are left out here" in line]
-    left_out = sum(int(re.search(r"([\d,]+) lines", line)[1].replace(",", "")) for line in notes)
+    notes = [line for line in lines if " left out here" in line]
+    left_out = sum(int(re.search(r"([\d,]+) lines?", line)[1].replace(",", "")) for line in notes)
     written = [int(line.split()[3]) for line in lines if " line " in line and line not in notes]
     check("each line is written or counted", (len(written) + left_out, left_out > 0), (100_000, True))
     check("the first ones in their order, then the count, then the last one",
@@ -276,6 +276,7 @@ def run(event):
     if event.get("do") == "hang":
         subprocess.Popen(["sleep", "994"], start_new_session=True, env={})
         time.sleep(600)
+    if event.get("do") == "crash": os._exit(7)
     return os.getpid()
 """
 
@@ -309,6 +310,32 @@ def of_sessions_of_their_own():
     check("what it had below it is gone, whatever session that is in",
           until(lambda: not [pid for pid in with_word("994") if up.is_here(pid)], 5), True)
     check("after TERM nothing is left", up.end(), (0, []))
+
+
+def left_by_a_crash():
+    """What a runtime that has crashed has left in sessions of its own ends with it, and what the other environment has
+    goes on; a fresh one, and one that was forked."""
+    up = Up(functions=[{"name": name, "runtime": "python", "handler": "app.run", "timeout": 5} for name in "fg"],
+            app=LEAVING)
+    up.until("[up] ready")
+    of_g = {int(up.invoke("g")[0])}
+    for what in ("fresh", "forked"):
+        words = ("991", "992", "993")
+        until(lambda: len([pid for word in words for pid in with_word(word) if up.is_here(pid)]) == 6, 20)
+        before = {pid for word in words for pid in with_word(word) if up.is_here(pid)}
+        mine = {pid for pid in before if value_of(pid, "AWS_LAMBDA_FUNCTION_NAME") == "f"}
+        check(f"{what}: a module has left three processes of each function", (len(before), len(mine)), (6, 3))
+        check(f"{what}: a crash", up.invoke(do="crash", patience=10)[0], "Runtime.ExitError")
+        check(f"{what}: what it has left is gone", until(lambda: not any(map(lives, mine)), 10), True)
+        check(f"{what}: what another has left is not", [pid for pid in before - mine if not lives(pid)], [])
+    check("the other one goes on", {int(up.invoke("g")[0])}, of_g)
+    check("after TERM nothing is left", up.end(), (0, []))
+
+
+def value_of(pid, name):
+    """A variable of a process."""
+    with open(f"/proc/{pid}/environ") as file:
+        return dict(part.split("=", 1) for part in file.read().split("\0") if "=" in part).get(name)
 
 
 def killed():
@@ -478,5 +505,6 @@ def end_by(up, pid):
 if __name__ == "__main__":
     sys.exit(counted.run(reports, jsons, escapes, split_characters, long_lines, dropped_lines, slow_reader,
                          hostile_reports, foreign_names, forged_lines, unread_log,
-                         of_sessions_of_their_own, killed, killed_with_a_command, private_files, few_ports,
+                         of_sessions_of_their_own, left_by_a_crash, killed, killed_with_a_command, private_files,
+                         few_ports,
                          out_of_memory, out_of_descriptors, out_of_descriptors_at_the_history))

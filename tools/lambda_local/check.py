@@ -13,7 +13,7 @@ import subprocess
 import sys
 from typing import List, Optional, Tuple
 
-from .reasons import sentence
+from .reasons import among, sentence
 from .service import Fault, program_path
 from .usage import parser_of
 
@@ -43,7 +43,7 @@ def replay(program: str, lines: List[bytes], path: str) -> List[bytes]:
     if done.returncode:
         said = done.stderr.decode(errors="replace").strip().split("\n")[-1] or "nothing was said"
         if done.returncode == 2:
-            raise Fault(2, f"{path}: {sentence(said, lines)}")
+            raise Fault(2, f"{path}: {sentence(said, among(lines))}")
         raise Fault(4, f"{path}: the replay ended with status {done.returncode}: {said}")
     return done.stdout.split(b"\n")[:-1]
 

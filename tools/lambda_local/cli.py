@@ -31,7 +31,7 @@ def start(program: str, words: List[str]) -> int:
     os.environ.pop("LAMBDA_LOCAL_PROGRAM", None)
     if words[:1] == ["serve"]:
         explain.before_serving(program, words[1])
-    elif explain.is_file(0):
+    elif explain.is_file(0) or explain.is_pipe(0):
         return explain.replayed(program, words)
     os.execv("/bin/sh", ["/bin/sh", "-c", '. "$0" && begin "$@"', LIMITS, program, *words])
 

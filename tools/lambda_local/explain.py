@@ -3,6 +3,7 @@ program's own line says it in a word.
 
   python3 -m lambda_local.explain PROGRAM serve CONFIGURATION
   python3 -m lambda_local.explain PROGRAM replay < SCRIPT        SCRIPT is a file
+  .. | python3 -m lambda_local.explain PROGRAM piped [replay]    replays what comes, and explains then
 
 Prints nothing if there is nothing to add."""
 import os
@@ -11,10 +12,11 @@ import signal
 import stat
 import subprocess
 import sys
-from typing import Iterator, List, Optional
+import threading
+from typing import IO, Iterator, List, Optional
 
 from .outgoing import tell
-from .reasons import sentence
+from .reasons import LineOf, among, sentence
 
 NOT_READ = "usage: "  # the program's line if it does not read its arguments or its variables
 PATIENCE, HOSTS = "LAMBDA_LOCAL_PATIENCE_MS", "LAMBDA_LOCAL_HOSTS"
@@ -22,6 +24,8 @@ LONGEST_PATIENCE = 2000  # milliseconds
 HOST_NAMES = re.compile(r"[A-Za-z0-9._-]+(,[A-Za-z0-9._-]+)*")
 SIGNALS = (signal.SIGHUP, signal.SIGINT, signal.SIGQUIT, signal.SIGTERM)
 SHOWN = 80  # characters of a value
+AT_ONCE = 64 << 10  # bytes
+MOST_KEPT = 4 << 20  # bytes of what goes through a pipe: its beginning, and its end
 
 
 def said_of(program: str, words: List[str], script: bytes = b"") -> Optional[str]:
@@ -50,7 +54,7 @@ def of_configuration(program: str, path: str) -> Iterator[str]:
     with open(path, "rb") as file:
         script = script_of(file.read())
     said = said_of(program, ["replay"], script)
-    told = sentence(said, script.split(b"\n")) if said is not None else said
+    told = sentence(said, among(script.split(b"\n"))) if said is not None else said
     if told is not None and told != said:
         yield f"{path}: {told.partition(', the configuration: ')[2]}"
 
@@ -69,11 +73,72 @@ def of_script(program: str, path: str) -> Iterator[str]:
     with open(path, "rb") as file:
         script = file.read()
     said = said_of(program, ["replay"], script)
-    if said is None:
-        return
-    told = sentence(said, script.split(b"\n"))
-    if told != said:
+    yield from of_said(said, among(script.split(b"\n")))
+
+
+def of_said(said: Optional[str], line_of: LineOf) -> Iterator[str]:
+    told = sentence(said, line_of) if said is not None else said
+    if told is not None and told != said:
         yield told
+
+
+class Piped:
+    """What a program gets from standard input, and what it says on standard error, as both pass: the beginning and the
+    end of the one, and the end of the other, are kept."""
+
+    def __init__(self) -> None:
+        self.first, self.last, self.said = bytearray(), bytearray(), b""
+        self.gone = 0  # lines before the last ones
+        self.is_cut = False  # their first one
+
+    def begin(self, child: "subprocess.Popen[bytes]") -> None:
+        assert child.stdin and child.stderr
+        threading.Thread(target=self._feed, args=(child.stdin,), daemon=True).start()
+        self.hearing = threading.Thread(target=self._hear, args=(child.stderr,), daemon=True)
+        self.hearing.start()
+
+    def _feed(self, sink: IO[bytes]) -> None:
+        try:
+            while data := os.read(0, AT_ONCE):
+                self._keep(data)
+                sink.write(data)
+        except OSError:  # (the program has ended, or nothing more can be read)
+            pass
+        sink.close()
+
+    def _keep(self, data: bytes) -> None:
+        self.first += data[:MOST_KEPT - len(self.first)]
+        self.last += data
+        if len(self.last) > 2 * MOST_KEPT:
+            cut = len(self.last) - MOST_KEPT
+            self.gone += self.last.count(b"\n", 0, cut)
+            self.is_cut = self.last[cut - 1:cut] != b"\n"
+            del self.last[:cut]
+
+    def _hear(self, source: IO[bytes]) -> None:
+        while data := os.read(source.fileno(), AT_ONCE):
+            self.said = (self.said + data)[-MOST_KEPT:]
+            os.write(2, data)
+
+    def line_of(self, number: int) -> Optional[bytes]:
+        """A line that was kept whole."""
+        at = number - 1 - self.gone
+        if at < 0 or at == 0 and self.is_cut:
+            found, at = self.first.split(b"\n")[:-1], number - 1
+        else:
+            found = self.last.split(b"\n")
+        return bytes(found[at]) if at < len(found) else None
+
+    def told(self) -> Iterator[str]:
+        self.hearing.join()
+        yield from of_said(self.said.decode(errors="replace").strip().rpartition("\n")[2], self.line_of)
+
+
+def is_pipe(descriptor: int) -> bool:
+    try:
+        return stat.S_ISFIFO(os.fstat(descriptor).st_mode)
+    except OSError:
+        return False
 
 
 def is_file(descriptor: int) -> bool:
@@ -96,9 +161,10 @@ def before_serving(program: str, path: str) -> None:
 
 
 def replayed(program: str, words: List[str]) -> int:
-    """The status of a replay of the file that is standard input, which ends by itself: signals are passed on to it."""
+    """The status of a replay of standard input: of a file, or of a pipe. Signals are passed on to it."""
     came: List[int] = []
     child: "Optional[subprocess.Popen[bytes]]" = None
+    piped = None if is_file(0) else Piped()
 
     def pass_on(number: int, _frame: object) -> None:
         came.append(number)
@@ -106,7 +172,10 @@ def replayed(program: str, words: List[str]) -> int:
             child.terminate()
     for number in SIGNALS:
         signal.signal(number, pass_on)
-    child = subprocess.Popen([program, *words])
+    through = None if piped is None else subprocess.PIPE
+    child = subprocess.Popen([program, *words], stdin=through, stderr=through, bufsize=0)
+    if piped is not None:
+        piped.begin(child)
     if came:
         child.terminate()
     status = child.wait()
@@ -116,13 +185,17 @@ def replayed(program: str, words: List[str]) -> int:
             signal.signal(ended_by, signal.SIG_DFL)
         os.kill(os.getpid(), ended_by)
     if status == 2:
-        for line in of_script(program, "/proc/self/fd/0"):
+        for line in of_script(program, "/proc/self/fd/0") if piped is None else piped.told():
             tell(f"lambda_local: {line}")
+    if piped is not None:
+        piped.hearing.join()
     return status
 
 
 def main() -> int:
     program, command, *rest = sys.argv[1:]
+    if command == "piped":
+        return replayed(program, rest)
     try:
         found = of_configuration(program, rest[0]) if command == "serve" else (
             of_script(program, f"/proc/self/fd/{sys.stdin.fileno()}") if is_file(sys.stdin.fileno()) else iter(()))

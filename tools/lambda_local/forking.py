@@ -9,11 +9,13 @@ JSON with "cwd" and "env" and the descriptor of the output, is answered by {"pid
 by then, so that the guard has it. This file is read by any Python from 3.6 on, and imports nothing beside what the
 runtime does."""
 import array
+import atexit
 import gc
 import json
 import os
 import socket
 import sys
+import threading
 import time
 import types
 
@@ -114,10 +116,28 @@ def prepared(path: str, channel: socket.socket) -> "Optional[types.CodeType]":
     return code
 
 
+def leave(end: SystemExit) -> None:
+    """Ends this process as its interpreter would, but for taking everything apart: that would copy all that the fork
+    shares. A status that is not a number is left to the interpreter."""
+    if not isinstance(end.code, int):
+        raise end
+    threading._shutdown()  # type: ignore[attr-defined]
+    atexit._run_exitfuncs()
+    for stream in (sys.stdout, sys.stderr):
+        try:
+            stream.flush()
+        except (AttributeError, OSError, ValueError):
+            pass
+    os._exit(end.code & 0xFF)
+
+
 if __name__ == "__main__":
     _channel = socket.socket(fileno=int(sys.argv[2]))
     _code = prepared(sys.argv[1], _channel)
     _request, _output = forked(_channel) if _code is not None else (None, -1)
     if _request is not None and _code is not None:
         _own = sys.modules["__main__"]  # (kept: its names are in use)
-        exec(_code, become(sys.argv[1], _request, _output).__dict__)
+        try:
+            exec(_code, become(sys.argv[1], _request, _output).__dict__)
+        except SystemExit as _end:
+            leave(_end)

@@ -2,8 +2,9 @@
 and ends them and all else that the tool holds once the tool has gone, however that ended.
 
 It adopts what loses its parent below it (`PR_SET_CHILD_SUBREAPER`, prctl(2)): so a process cannot leave it, not even
-by a session of its own. `guard` has the tool's side. Standard input has a line for each target that is held or
-released; the socket whose number is the argument has requests and answers, each a length and JSON."""
+by a session of its own. What a process that has ended leaves behind is known by a variable (`PROCESS`). `guard` has
+the tool's side. Standard input has a line for each target that is held or released; the socket whose number is the
+argument has requests and answers, each a length and JSON."""
 import contextlib
 import json
 import os
@@ -15,18 +16,20 @@ import struct
 import subprocess
 import sys
 import time
-from typing import Dict, List, Mapping, Optional, Tuple, Union, cast
+from typing import Callable, Dict, List, Mapping, Optional, Tuple, Union, cast
 
 SET_CHILD_SUBREAPER = 36  # <linux/prctl.h>
+CHILDREN = "/proc/{}/task/{}/children"  # of a thread of a process
 LENGTH = struct.Struct("!I")
 PATIENCE = 10.0  # seconds for killed processes to end (one may wait for a device)
 FORKER_SECONDS = 10.0  # for a forker to be ready, and for its answer
 MOST_FORKERS = 8
+PROCESS = "LAMBDA_LOCAL_PROCESS"  # another value for each that is started here, and for what that starts
 SWITCH = "LAMBDA_LOCAL_FORK"  # with "0" each runtime is a fresh interpreter
 # The variables in which the environments of functions differ: none of them is read before a runtime is.
 OF_ENVIRONMENTS = ("AWS_LAMBDA_RUNTIME_API", "AWS_LAMBDA_FUNCTION_NAME", "AWS_LAMBDA_FUNCTION_VERSION",
                    "AWS_LAMBDA_FUNCTION_MEMORY_SIZE", "AWS_LAMBDA_LOG_GROUP_NAME", "AWS_LAMBDA_LOG_STREAM_NAME",
-                   "_HANDLER", "LAMBDA_TASK_ROOT")
+                   "_HANDLER", "LAMBDA_TASK_ROOT", "LAMBDA_LOCAL_MARK", PROCESS)
 
 
 def adopt_orphans() -> None:
@@ -38,25 +41,41 @@ def adopt_orphans() -> None:
 
 def below(pid: int) -> List[int]:
     """The processes below this one, those of each level before those below them."""
+    children_of = listed if os.path.exists(CHILDREN.format(os.getpid(), os.getpid())) else scanned()
+    found: List[int] = []
+    level = [pid]
+    while level := [child for parent in level for child in children_of(parent)]:
+        found += level
+    return found
+
+
+def listed(pid: int) -> List[int]:
+    """The children of a process, as the system lists them for each of its threads."""
+    found: List[int] = []
+    with contextlib.suppress(OSError):  # (it has gone)
+        for task in os.listdir(f"/proc/{pid}/task"):
+            with contextlib.suppress(OSError), open(CHILDREN.format(pid, task)) as file:
+                found += map(int, file.read().split())
+    return found
+
+
+def scanned() -> Callable[[int], List[int]]:
+    """The same on a kernel without these lists: by the parents of all processes."""
     children: Dict[int, List[int]] = {}
     for name in filter(str.isdigit, os.listdir("/proc")):
         with contextlib.suppress(OSError, IndexError), open(f"/proc/{name}/stat", "rb") as file:
             parent = int(file.read().rpartition(b")")[2].split()[1])
             children.setdefault(parent, []).append(int(name))
-    found: List[int] = []
-    level = [pid]
-    while level := [child for parent in level for child in children.get(parent, ())]:
-        found += level
-    return found
+    return lambda pid: children.get(pid, [])
 
 
-def marked(variable: str) -> List[int]:
-    """The processes that were started with a variable, NAME=VALUE, but for this one."""
+def marked(variable: str, among: Optional[List[int]] = None) -> List[int]:
+    """The processes that were started with a variable, NAME=VALUE, among these, or all; but for this one."""
     found = []
-    for name in filter(str.isdigit, os.listdir("/proc")):
-        with contextlib.suppress(OSError), open(f"/proc/{name}/environ", "rb") as file:
-            if int(name) != os.getpid() and os.fsencode(variable) in file.read().split(b"\0"):
-                found.append(int(name))
+    for pid in map(int, filter(str.isdigit, os.listdir("/proc"))) if among is None else among:
+        with contextlib.suppress(OSError), open(f"/proc/{pid}/environ", "rb") as file:
+            if pid != os.getpid() and os.fsencode(variable) in file.read().split(b"\0"):
+                found.append(pid)
     return found
 
 
@@ -206,7 +225,9 @@ class Forkers:
         if len(self.forkers) >= MOST_FORKERS:
             return None
         self.forkers[key] = None  # (until it is ready)
-        self.forkers[key] = found = Forker(words, cwd, env)
+        # (what it forks has these in /proc, whatever they are in the fork)
+        own = {name: value for name, value in env.items() if name != PROCESS}
+        self.forkers[key] = found = Forker(words, cwd, own)
         return found
 
     def _failed(self, key: str) -> None:
@@ -222,6 +243,7 @@ class Guard:
         self.held: List[Tuple[str, str]] = []
         self.started: Dict[int, "Union[subprocess.Popen[bytes], Forked]"] = {}
         self.forkers = Forkers()
+        self.marks: Dict[int, str] = {}  # the variables of those, NAME=VALUE
         self.ended: Dict[int, int] = {}  # the statuses that the tool was sent
         self.unread = b""  # of standard input
 
@@ -272,10 +294,10 @@ class Guard:
                 shutil.rmtree(target, ignore_errors=True)
 
     @staticmethod
-    def end_marked(variable: str) -> None:
+    def end_marked(variable: str, among: Callable[[], Optional[List[int]]] = lambda: None) -> None:
         """What lost its parent before, and so is below nothing that is held."""
         end = time.monotonic() + PATIENCE
-        while (found := marked(variable)) and time.monotonic() < end:
+        while (found := marked(variable, among())) and time.monotonic() < end:
             for pid in found:
                 kill_tree(pid)
             time.sleep(0.005)
@@ -303,9 +325,11 @@ class Guard:
             self.channel.sendall(framed(message))
 
     def start(self, words: List[str], cwd: str, env: Dict[str, str], output: int, forks: bool) -> Dict[str, object]:
+        mark = os.urandom(16).hex()
+        env = {**env, PROCESS: mark}
         forked = self.forkers.start(words, cwd, env, output) if forks else None
         if forked is not None:
-            self.started[forked.pid] = forked
+            self.started[forked.pid], self.marks[forked.pid] = forked, f"{PROCESS}={mark}"
             return {"pid": forked.pid}
         try:
             child = subprocess.Popen(words, cwd=cwd, env=env, stdin=subprocess.DEVNULL, stdout=output, stderr=output,
@@ -314,17 +338,18 @@ class Guard:
             return {"errno": fault.errno}
         except (ValueError, MemoryError) as fault:
             return {"errno": 0, "reason": str(fault)}
-        self.started[child.pid] = child
+        self.started[child.pid], self.marks[child.pid] = child, f"{PROCESS}={mark}"
         return {"pid": child.pid}
 
     def kill(self, pid: int) -> None:
-        """Ends a process that was started here, and what is below it."""
+        """Ends a process that was started here, what is below it, and what it has left behind, which is adopted."""
         child = self.started.get(pid)
         if child is not None:
             kill_tree(pid)
             child.wait()
             del self.started[pid]
             self.ended.pop(pid, None)
+            self.end_marked(self.marks.pop(pid), self.adopted)
         self.tell({"gone": pid})
 
     def look(self) -> None:
@@ -335,19 +360,17 @@ class Guard:
                 if seen is not None:
                     self.ended[pid] = seen.si_status if seen.si_code == os.CLD_EXITED else -seen.si_status
                     self.tell({"ended": pid, "status": self.ended[pid]})
-        for pid in self.children():
-            if pid not in self.started:
-                with contextlib.suppress(ChildProcessError):
-                    os.waitpid(pid, os.WNOHANG)
+        for pid in self.adopted():
+            with contextlib.suppress(ChildProcessError):
+                os.waitpid(pid, os.WNOHANG)
+
+    def adopted(self) -> List[int]:
+        return [pid for pid in self.children() if pid not in self.started]
 
     @staticmethod
     def children() -> List[int]:
         own = os.getpid()
-        try:
-            with open(f"/proc/{own}/task/{own}/children") as file:
-                return list(map(int, file.read().split()))
-        except OSError:  # (a kernel without this file)
-            return below(own)
+        return listed(own) or below(own)
 
 
 def main() -> None:

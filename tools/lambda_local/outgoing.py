@@ -35,6 +35,11 @@ def printable(text: str) -> str:
     return UNSAFE.sub(_escaped, text)
 
 
+def several(count: int, what: str) -> str:
+    """A number of things, such as `1 call` and `2,000 calls`."""
+    return f"{count:,} {what}{'' if count == 1 else 's'}"
+
+
 def printable_output(text: str) -> str:
     """The same for what a function prints, which may have colours; they end with its line."""
     if "\x1b" not in text:

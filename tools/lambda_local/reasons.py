@@ -1,6 +1,6 @@
 """Sentences for the lines by which the program refuses a configuration or a script (docs/formats.md)."""
 import re
-from typing import List
+from typing import Callable, List, Optional
 
 from .configuration import explained
 from .json_reader import NotJson, read_json
@@ -29,17 +29,26 @@ def of_line(line: bytes) -> str:
     return f"docs/formats.md has the fields of {words[1]}"
 
 
-def sentence(said: str, lines: List[bytes]) -> str:
+# A line of a script by its number, from 1 on; none if it is not there.
+LineOf = Callable[[int], Optional[bytes]]
+
+
+def among(lines: List[bytes]) -> LineOf:
+    return lambda number: lines[number - 1] if number <= len(lines) else None
+
+
+def sentence(said: str, line_of: LineOf) -> str:
     """A sentence for what the program said about these lines; the program's own words if none is known."""
     found = SCRIPT.fullmatch(said)
-    if found and int(found[1]) <= len(lines):
-        line = lines[int(found[1]) - 1]
+    line = line_of(int(found[1])) if found else None
+    if found and line is not None:
         return f"line {found[1]} is not a call: {shown(line)}: {of_line(line)} (the program says {said})"
     found = CONFIGURATION.fullmatch(said)
-    at = 2 if lines[0] == b"form 2" else 1
-    if found and at <= len(lines):
+    at = 2 if line_of(1) == b"form 2" else 1
+    line = line_of(at) if found else None
+    if found and line is not None:
         try:
-            told = explained(found[1], read_json(lines[at - 1]))
+            told = explained(found[1], read_json(line))
         except NotJson as fault:
             told = f"this is not JSON: {fault}"
         if told:

@@ -4,7 +4,7 @@
 #
 # `serve` must be this process, so that signals reach it: it is asked beforehand, by a replay of its configuration
 # without a call, whether it takes it. A replay of a file ends by itself, and is a child, to which signals are passed
-# on. A replay of a pipe is this process: what it has read is gone.
+# on. What goes to a replay of a pipe passes through the explaining program, since what was read is gone.
 
 explain() {
   PYTHONPATH=$root/tools python3 -m lambda_local.explain "$program" "$@" || exit 2
@@ -18,6 +18,12 @@ takes() {
   fi
   { echo "form 2" && tr '\r\n' '  ' <"$1" && echo; } | "$program" replay >/dev/null 2>&1
   [ $? -ne 2 ]
+}
+
+replay_pipe() {
+  command -v python3 >/dev/null || exec "$program" "$@"
+  export PYTHONPATH="$root/tools"
+  exec python3 -m lambda_local.explain "$program" piped "$@"
 }
 
 serve_or_explain() {

@@ -6,7 +6,7 @@ import threading
 import time
 from typing import Any, Callable, Dict, Iterator, List, Optional, Protocol, Sequence, Tuple
 
-from ..outgoing import Log
+from ..outgoing import Log, several
 from ..service import Fault, Service, free_ports
 from ..streaming.streams import Streams
 from .client import Client
@@ -128,7 +128,7 @@ class Front(threading.Thread):
         end = time.monotonic() + self.drain_seconds
         if not self.queue or not self.queue.count:
             return
-        self.log("up", f"{self.queue.count} events are left: waits up to {self.drain_seconds:g} s for them",
+        self.log("up", f"{several(self.queue.count, 'event')} left: waits up to {self.drain_seconds:g} s",
                  kind="event")
         while self.queue.count and time.monotonic() < end and not is_over():
             time.sleep(0.01)

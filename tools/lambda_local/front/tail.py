@@ -10,10 +10,7 @@ T = TypeVar("T")
 
 
 class Tails(Protocol):
-    """Knows what invocations print. Its calls may wait."""
-
-    def begin(self, function: str) -> None:
-        """Before an invocation is asked for: what was printed by now is not its own."""
+    """Knows what invocations print. Its call may wait."""
 
     def result_of(self, function: str, identifier: str) -> Optional[str]:
         """The log result of an invocation that was answered just now; none if nothing is known of it."""
@@ -21,7 +18,6 @@ class Tails(Protocol):
 
 async def with_tail(tails: Tails, function: str, invoke: Callable[[], Awaitable[Reply]]) -> Reply:
     """The answer of `invoke` with the end of the log; without it if that is not known in time."""
-    await looked(lambda: tails.begin(function))
     reply = await invoke()
     identifier = first(reply.headers, "x-amzn-requestid")
     if reply.status != 200 or identifier is None:

@@ -3,6 +3,7 @@ from collections import Counter
 from typing import List, NamedTuple, Optional, Sequence
 
 from ..junit import Suite
+from ..outgoing import several
 from .compare import Pointer, differences, of_reports, shown
 from .record import Invocation, Recording
 
@@ -62,7 +63,8 @@ def text_of(results: Sequence[Result], recording: Recording) -> List[str]:
     words = ", ".join(f"{counts[verdict]} {verdict}" for verdict in (EQUAL, CHANGED, FAILED_NOW, FAILED_THEN)
                       if counts[verdict])
     others = left_out(recording.invocations)
-    return lines + [f"{len(results)} invocations: {words or 'none'}" + (f"; not sent: {others}" if others else "")]
+    sent = f"{several(len(results), 'invocation')}: {words or 'none'}"
+    return lines + [sent + (f"; not sent: {others}" if others else "")]
 
 
 def write_junit(path: str, results: Sequence[Result]) -> None:

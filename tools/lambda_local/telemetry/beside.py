@@ -1,8 +1,10 @@
-"""What lambda_local up has beside an environment: its proxy, if the function's extensions may subscribe to telemetry;
-otherwise nothing, at no cost."""
+"""What lambda_local up has beside an environment: its proxy, if the function's extensions may subscribe to telemetry,
+if its responses are streamed, or if its runtime does not mark what it prints; otherwise nothing, at no cost."""
+import asyncio
 import json
 import uuid
-from typing import Any, Callable, Container, Dict, Iterable, List, Mapping, Optional, Protocol
+from concurrent.futures import ThreadPoolExecutor
+from typing import Any, Awaitable, Callable, Container, Dict, Iterable, List, Mapping, Optional, Protocol
 
 from ..front import origins
 from ..front.front import listener_at
@@ -38,9 +40,16 @@ class Printed(Protocol):
     def peak(self) -> int:
         """The most memory that they have used since the runtime was started, in bytes; 0 if it is not known."""
 
+    def deliver(self, identifier: str) -> None:
+        """Takes all that they have written by now: what comes after that is this invocation's."""
+
+    def deliver_at_once(self, identifier: str) -> bool:
+        """The same if there is nothing to wait for; whether it is so."""
+
 
 class Beside:
     """Nothing: the processes have the environment's own port."""
+    divides = False  # whether the lines of invocations are divided by it
 
     def __init__(self, port: int):
         self.port = port
@@ -58,12 +67,21 @@ class Beside:
         """All its processes have ended."""
 
 
-class WithTelemetry(Beside):
+class WithProxy(Beside):
+    """The lines of an invocation are divided from those before it when it passes."""
+    divides = True
+
+    def __init__(self, proxy: Proxy):
+        super().__init__(proxy.address[1])
+        self.proxy = proxy
+
+
+class WithTelemetry(WithProxy):
     """`printed` has the lines of the processes; those of its runtime are under the environment's own name."""
 
     def __init__(self, desk: Desk, proxy: Proxy, name: str, printed: Printed):
-        super().__init__(proxy.address[1])
-        self.desk, self.proxy, self.name = desk, proxy, name
+        super().__init__(proxy)
+        self.desk, self.name = desk, name
         desk.memory = lambda: printed.peak() or None
         printed.follow(self.take)
 
@@ -104,28 +122,41 @@ class Sidecars:
     def __init__(self, functions: Iterable[Any], streaming: Container[str], path: str, log: Callable[..., None]):
         self.functions, self.streaming, self.path, self.log = list(functions), streaming, path, log
         self.streams = Streams()
-        self.found: Dict[int, WithTelemetry] = {}
+        self.found: Dict[int, WithProxy] = {}
 
     def serve(self, configuration: Mapping[str, Any], printed: Mapping[int, Printed]) -> List[Proxy]:
         """Makes the proxies of a service with this configuration, whose environments' processes print this; its front
         runs them."""
         number = 0
+        # One for each environment: what one of them prints delays no other.
+        self.readers = ThreadPoolExecutor(max(1, len(printed)), "reads before a delivery")
         for function, part in zip(self.functions, configuration["functions"]):
             for place, port in enumerate(part["ports"], 1):
                 number += 1
-                if function.has_telemetry or function.name in self.streaming:
+                if function.has_telemetry or function.name in self.streaming or function.is_unmarked:
                     self.found[number] = self._made(function, place, port, printed[number])
         return [each.proxy for each in self.found.values()]
 
-    def _made(self, function: Any, place: int, port: int, printed: Printed) -> WithTelemetry:
+    def _made(self, function: Any, place: int, port: int, printed: Printed) -> WithProxy:
         name = f"{function.name}/{place}"
 
         def tell(text: str) -> None:
             self.log(name, f"-- {text}", level="warning", kind="telemetry", function=function.name)
+
+        async def wait(identifier: str) -> None:
+            try:
+                await asyncio.get_running_loop().run_in_executor(self.readers, printed.deliver, identifier)
+            except Exception as fault:
+                tell(f"what it has printed before {identifier} could not be read: {fault!r}")
+
+        def deliver(identifier: str) -> Optional[Awaitable[None]]:
+            return None if printed.deliver_at_once(identifier) else wait(identifier)
         desk = Desk(about(function), tell)
-        ears = EnvironmentEars(desk, refusal_of, self.streams, function.has_telemetry)
-        listener = listener_at(0, f"telemetry of {name}", self.path)
-        return WithTelemetry(desk, Proxy(listener, port, ears, tell, desk.ends), name, printed)
+        is_plain = not function.has_telemetry and function.name not in self.streaming  # (it gives results in one piece)
+        ears = EnvironmentEars(desk, refusal_of, Streams() if is_plain else self.streams, function.has_telemetry,
+                               deliver)
+        proxy = Proxy(listener_at(0, f"proxy of {name}", self.path), port, ears, tell, desk.ends)
+        return WithTelemetry(desk, proxy, name, printed) if function.has_telemetry else WithProxy(proxy)
 
     def of(self, number: int, port: int) -> Beside:
         return self.found.get(number) or Beside(port)

@@ -16,7 +16,7 @@ CONTINUE = b"HTTP/1.1 100 Continue\r\n\r\n"
 class Exchange:
     """A request that passes, and its answer: what is done when some of it comes."""
     holds = False  # whether the answer is kept until it is whole
-    waits: Optional[Awaitable[object]] = None  # before its answer goes on
+    waits: Optional[Awaitable[object]] = None  # before what has come of its answer goes on
 
     def __init__(self, head: Request):
         self.head = head
@@ -243,8 +243,9 @@ class Conversation:
             exchange.came(event.data)
         elif isinstance(event, EndOfMessage):
             exchange.all_came()
-            if exchange.waits is not None:
-                self.waits.append(exchange.waits)
+        if exchange.waits is not None:
+            self.waits.append(exchange.waits)
+            exchange.waits = None
         is_over = isinstance(event, EndOfMessage)
         if is_over or not exchange.holds:
             count = len(self._from_service) - len(self.responses.buffer) if exchange.holds else read

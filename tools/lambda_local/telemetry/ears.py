@@ -2,7 +2,7 @@
 Lambda runtime API for custom runtimes" and "Using the Lambda Extensions API")."""
 import re
 import uuid
-from typing import Callable, List, Optional
+from typing import Awaitable, Callable, List, Optional
 
 from ..http1 import Headers, Request, Response, first
 from ..json_reader import NotJson, read_json
@@ -20,6 +20,8 @@ RUNTIME, EXTENSION = "/2018-06-01/runtime/", "/2020-01-01/extension/"
 POSTED = re.compile(re.escape(RUNTIME) + "invocation/([^/]+)/(response|error)")
 SHORT = 64 << 10  # bytes of a body that is looked at
 UNKNOWN_ERROR = "Runtime.Unknown"
+# What is done before an invocation is passed on: it is, once that is done.
+Deliver = Callable[[str], Optional[Awaitable[object]]]
 
 
 def identifier_of(headers: Headers, name: str = IDENTIFIER) -> str:
@@ -78,9 +80,9 @@ class Registration(Short):
 class ExtensionPoll(Short):
     """Its answer is held until it is whole: a SHUTDOWN goes on once the extension has got what it subscribed to."""
 
-    def __init__(self, head: Request, desk: Desk):
+    def __init__(self, head: Request, desk: Desk, deliver: Deliver):
         super().__init__(head, desk)
-        self.identifier, self.polls = identifier_of(head.headers), False
+        self.identifier, self.polls, self.deliver = identifier_of(head.headers), False, deliver
 
     def all_sent(self, trailers: Headers) -> None:
         self.polls = True
@@ -95,7 +97,9 @@ class ExtensionPoll(Short):
         if not self.is_done(200):
             return
         event = self.members(bytes(self.content))
-        if event.get("eventType") == "SHUTDOWN":
+        if event.get("eventType") == "INVOKE":
+            self.waits = self.deliver(str(event.get("requestId")))
+        elif event.get("eventType") == "SHUTDOWN":
             self.desk.closes(str(event.get("shutdownReason")))
             self.waits = self.desk.flushed(self.identifier)
 
@@ -120,9 +124,9 @@ class ExtensionReport(Short):
 
 
 class RuntimePoll(Exchange):
-    def __init__(self, head: Request, desk: Desk, streams: Streams):
+    def __init__(self, head: Request, desk: Desk, streams: Streams, deliver: Deliver):
         super().__init__(head)
-        self.desk, self.streams, self.polls = desk, streams, False
+        self.desk, self.streams, self.deliver, self.polls = desk, streams, deliver, False
 
     def all_sent(self, trailers: Headers) -> None:
         self.polls = True
@@ -132,6 +136,7 @@ class RuntimePoll(Exchange):
         self.lost()
         identifier = first(head.headers, REQUEST)
         if head.status == 200 and identifier is not None:
+            self.waits = self.deliver(plain(identifier))
             trace = first(head.headers, "lambda-runtime-trace-id")
             self.streams.delivered(plain(identifier), trace)
             self.desk.delivered(plain(identifier), trace)
@@ -198,17 +203,19 @@ Refusal = Callable[[Request], Optional[Answer]]
 
 class EnvironmentEars(Ears):
     """`refusal` is the service's own answer to a request of a web page, or one for a foreign host. Without telemetry
-    the routes of subscriptions are the service's."""
+    the routes of subscriptions are the service's. `deliver` is done before an invocation is passed on."""
 
-    def __init__(self, desk: Desk, refusal: Refusal, streams: Streams, has_telemetry: bool = True):
+    def __init__(self, desk: Desk, refusal: Refusal, streams: Streams, has_telemetry: bool = True,
+                 deliver: Deliver = lambda _: None):
         self.desk, self.refusal, self.streams, self.has_telemetry = desk, refusal, streams, has_telemetry
+        self.deliver = deliver
 
     def exchange(self, head: Request) -> Exchange:
         path, desk = head.parts.path, self.desk
         if head.method == "GET" and path == RUNTIME + "invocation/next":
-            return RuntimePoll(head, desk, self.streams)
+            return RuntimePoll(head, desk, self.streams, self.deliver)
         if head.method == "GET" and path == EXTENSION + "event/next":
-            return ExtensionPoll(head, desk)
+            return ExtensionPoll(head, desk, self.deliver)
         return self.of_post(head, path) if head.method == "POST" else Exchange(head)
 
     def of_post(self, head: Request, path: str) -> Exchange:

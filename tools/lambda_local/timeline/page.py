@@ -2,6 +2,7 @@
 from typing import List, Tuple
 from xml.sax.saxutils import escape
 
+from ..outgoing import several
 from .drawing import Drawing
 from .style import COLOURS, DRAWING, LABELS
 from .words import axis_words, length_words, moment_words, what
@@ -99,7 +100,8 @@ def summary(drawing: Drawing, world: World) -> str:
     """How much there is, and how much of it is drawn."""
     invokes = sum(count for (kind, _), count in world.outcomes.items() if kind == "invoke")
     invokes += sum(call.kind == "invoke" for call in world.open.values())
-    words = f"{world.calls:,} calls, {invokes:,} of them invocations, in {world.entry + 1:,} entries."
+    words = (f"{several(world.calls, 'call')}, {invokes:,} of them invocations, in {world.entry + 1:,} "
+             f"{'entry' if world.entry == 0 else 'entries'}.")
     if drawing.moments:
         words += (f" Drawn: {length_words(drawing.moments[-1] - drawing.moments[0])}, from "
                   f"{moment_words(drawing.moments[0])} to {moment_words(drawing.moments[-1])}.")

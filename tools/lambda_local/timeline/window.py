@@ -1,6 +1,7 @@
 """What is shown of a history: the calls of a window of time, up to a limit, and what goes on around them."""
 from typing import Dict, List, Optional, Sequence
 
+from ..outgoing import several
 from ..service import Fault
 from .read import Call, Lane
 from .sink import Sink
@@ -164,9 +165,9 @@ class Window(Sink):
         """What is left out, in words; nothing if that is nothing."""
         words = []
         if self.before:
-            words.append(f"{self.before:,} calls before {since_words(self.start, self.first)}")
+            words.append(f"{several(self.before, 'call')} before {since_words(self.start, self.first)}")
         if self.after:
-            words.append(f"{self.after:,} calls from {since_words(self.over or 0, self.first)} on")
+            words.append(f"{several(self.after, 'call')} from {since_words(self.over or 0, self.first)} on")
         if not words:
             return ""
         failed = ""

@@ -86,6 +86,7 @@ class Environment(threading.Thread):
         self.wait_until_wanted()
         self.wait_out_pause()
         self.identifier = None
+        self.printed.divide()
         self.beside.begins()
         if self.stopping.is_set() or self.begins_unseen and not self.begin_unseen():
             return not self.stopping.is_set()
@@ -163,7 +164,7 @@ class Environment(threading.Thread):
         self.generation += 1
         self.printed.begins()
         self.runtime = Process(self.name, self.function.command, self.function.directory, self.variables, self.printed,
-                               self.function.forks)
+                               self.function.forks, self.function.is_bundled and not self.beside.divides)
         return self.runtime
 
     def begin_unseen(self) -> bool:

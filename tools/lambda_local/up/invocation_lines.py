@@ -1,16 +1,17 @@
 """What the processes of an environment print, and which of it belongs to an invocation.
 
-An environment handles one invocation at a time: so what is read from its processes between an invocation's delivery and
-its response is that invocation's, and nothing else is. The moments are those of the history, in milliseconds, and those
-at which this process came to read: on a machine that is overloaded a line may be read so late that it counts as one of
-the next invocation.
+An environment handles one invocation at a time: so what its processes print from the delivery of one to that of the
+next, or to the end of the generation, is that invocation's. What they wrote before a delivery is in their pipes by
+then: a division is made there, by the mark that a bundled runtime prints once it has an invocation, or by the
+environment's proxy, which reads the pipes before it passes a delivery on. So it does not matter how late a line is
+read.
 
     printed = Printed()                      # of one environment, for all its processes, one generation after the other
     printed.follow(lambda line: ..)          # called for each line as it comes, by the thread that reads it
+    printed.divide(identifier)               # what is taken from now on is this invocation's
     printed.settle()                         # all that the processes had written by now has been taken then
-    printed.between(begin, end)              # the lines that were read then, in milliseconds
-
-Whoever passes a delivery or a response on itself knows these moments better: `settle()` before it, and then `now()`."""
+    printed.of_invocation(identifier)        # its lines"""
+import itertools
 import threading
 import time
 from collections import deque
@@ -21,12 +22,26 @@ from .memory import peak_of
 MOST_KEPT = 1 << 20  # characters of lines
 OF_A_LINE = 100  # and so many for each line, so that empty ones count too
 MOST_STARTS = 8  # of runtimes that are remembered
+MOST_DIVISIONS = 64  # that are remembered
 
 
 class Line(NamedTuple):
     moment: float  # when it was read, in milliseconds
     source: str  # the name of the process, such as "greet/1", or "greet/1 flush" for an extension
     text: str  # without its end
+
+
+class Division(NamedTuple):
+    """Where the lines of an invocation begin."""
+    identifier: str  # or nothing, if a generation of processes begins
+    place: int  # how many lines were taken before
+
+
+class Settled(NamedTuple):
+    """What was taken until a moment."""
+    place: int  # how many lines
+    identifier: str  # of the invocation whose lines came
+    unfinished: List[Line]  # what has come of those whose end has not
 
 
 class Readable(Protocol):
@@ -37,9 +52,13 @@ class Readable(Protocol):
     def pid(self) -> int:
         ...
 
-    def settle(self) -> Tuple[float, str]:
+    def settle(self, cuts: bool = False) -> Tuple[float, str]:
         """Takes what it has written by now; what has come of the line that is not whole yet, and since when, by the
-        time of day in seconds."""
+        time of day in seconds. If it cuts, that is a line as well."""
+
+    @property
+    def is_settled(self) -> bool:
+        """Whether all that it has written by now has been taken, in whole lines, so far as is known without waiting."""
 
 
 class Start:
@@ -59,10 +78,12 @@ class Printed:
     """What the processes of one environment print."""
 
     def __init__(self) -> None:
-        self.lock = threading.Lock()
+        self.lock, self.dividing = threading.Lock(), threading.Lock()
         self.lines: Deque[Line] = deque()
-        self.size = 0
+        self.size = self.count = 0  # of those that are kept, in characters; of all
+        self.divisions: Deque[Division] = deque(maxlen=MOST_DIVISIONS)
         self.followers: List[Callable[[Line], None]] = []
+        self.dividers: List[Callable[[str], None]] = []
         self.processes: List[Readable] = []
         self.starts: Deque[Start] = deque(maxlen=MOST_STARTS)
 
@@ -99,28 +120,79 @@ class Printed:
 
     # ---- the lines ---------------------------------------------------------------------------------------------------
 
-    def follow(self, take: Callable[[Line], None]) -> None:
+    def follow(self, take: Callable[[Line], None], divide: Callable[[str], None] = lambda _: None) -> None:
+        """`take` is given each line, and `divide` the identifier of each invocation before its lines."""
         self.followers.append(take)
+        self.dividers.append(divide)
 
     def take(self, source: str, text: str) -> None:
         """A line that was read just now."""
         line = Line(now(), source, text)
         with self.lock:
             self.lines.append(line)
+            self.count += 1
             self.size += len(text) + OF_A_LINE
             while self.size > MOST_KEPT and len(self.lines) > 1:
                 self.size -= len(self.lines.popleft().text) + OF_A_LINE
         for follower in self.followers:
             follower(line)
 
-    def settle(self) -> List[Line]:
-        """Takes all that the processes have written by now. Returns the lines that have begun and not ended."""
+    def settle(self, cuts: bool = False) -> Settled:
+        """Takes all that the processes have written by now. If it cuts, also what is not whole."""
         with self.lock:
             processes = list(self.processes)
-        begun = [(process.name, *process.settle()) for process in processes]
-        return [Line(1000 * since, name, text) for name, since, text in begun if text]
-
-    def between(self, begin: float, end: float) -> List[Line]:
-        """The lines that were read from `begin` on and before `end`, as far as they are kept."""
+        begun = [(process.name, *process.settle(cuts)) for process in processes]
+        unfinished = [Line(1000 * since, name, text) for name, since, text in begun if text]
         with self.lock:
-            return [line for line in self.lines if begin <= line.moment < end]
+            return Settled(self.count, self.divisions[-1].identifier if self.divisions else "", unfinished)
+
+    # ---- the invocations ---------------------------------------------------------------------------------------------
+
+    def divide(self, identifier: str = "") -> None:
+        """What is taken from now on is this invocation's; without one, it is that of a new generation."""
+        with self.lock:
+            if self.is_current(identifier):
+                return
+            self.divisions.append(Division(identifier, self.count))
+        if identifier:
+            for divider in self.dividers:
+                divider(identifier)
+
+    def is_current(self, identifier: str) -> bool:
+        """Whether what is taken now is this invocation's."""
+        return bool(self.divisions) and self.divisions[-1].identifier == identifier
+
+    def deliver(self, identifier: str) -> None:
+        """Divides after all that the processes have written by now: before this invocation is passed on to them. The
+        first of those that are to get it makes the division, and the others wait for it."""
+        with self.dividing:
+            if not self.is_current(identifier):
+                self.settle(cuts=True)
+                self.divide(identifier)
+
+    def deliver_at_once(self, identifier: str) -> bool:
+        """The same if there is nothing to wait for; whether it is so."""
+        if not self.dividing.acquire(blocking=False):
+            return False
+        try:
+            if not self.is_current(identifier):
+                if not all(process.is_settled for process in list(self.processes)):
+                    return False
+                self.divide(identifier)
+            return True
+        finally:
+            self.dividing.release()
+
+    def of_invocation(self, identifier: str, until: Optional[Settled] = None) -> List[Line]:
+        """The lines of an invocation, as far as they are kept, and what has come of those that are not whole; only what
+        was taken until then."""
+        with self.lock:
+            places = [division.place for division in self.divisions] + [self.count]
+            number = next((number for number, division in enumerate(self.divisions)
+                           if division.identifier == identifier), None)
+            if number is None:
+                return []
+            end = min(places[number + 1], until.place) if until else places[number + 1]
+            dropped = self.count - len(self.lines)
+            found = list(itertools.islice(self.lines, max(0, places[number] - dropped), max(0, end - dropped)))
+        return found + (until.unfinished if until and until.identifier == identifier else [])

@@ -3,17 +3,16 @@ Lambda function logs to CloudWatch Logs"), and the last 4 KB of that, which Invo
 reference, "Invoke")."""
 import base64
 import math
-from collections import OrderedDict, deque
+from collections import OrderedDict
 from datetime import datetime, timezone
-from typing import Any, Deque, Dict, Iterator, List, Mapping, NamedTuple, Optional, Protocol, Sequence
+from typing import Any, Dict, Iterator, List, Mapping, NamedTuple, Optional, Protocol, Sequence
 
-from ..life import Begun, Ended, Event
-from .invocation_lines import Line, Printed, now
+from ..life import Ended, Event
+from .invocation_lines import Line, Printed, Settled
 from .reports import members_of, text_of
 
 MOST_TAIL = 4096  # bytes
 MOST_REMEMBERED = 1024  # invocations that have ended
-MOST_DELIVERIES = 32  # of an environment
 OF_PROCESSES = ("Runtime.ExitError", "Extension.Crash")  # errors that no handler has raised
 MB = 1 << 20
 
@@ -85,13 +84,10 @@ class Invocations:
         self.functions, self.printed = functions, printed
         self.numbers = numbers  # of the environments of each function
         self.ended: "OrderedDict[str, Ended]" = OrderedDict()
-        self.deliveries: Dict[int, Deque[int]] = {}
 
     def take(self, event: Event) -> None:
         """From a watch, event by event."""
-        if isinstance(event, Begun):
-            self.deliveries.setdefault(event.environment.number, deque(maxlen=MOST_DELIVERIES)).append(event.moment)
-        elif isinstance(event, Ended):
+        if isinstance(event, Ended):
             self.ended[event.invocation.identifier] = event
             if len(self.ended) > MOST_REMEMBERED:
                 self.ended.popitem(last=False)
@@ -104,24 +100,19 @@ class Invocations:
             self.printed[number].measure()
             start.is_measured = is_ready
 
-    def settle(self, function: str) -> Dict[int, List[Line]]:
-        """Takes all that the processes of a function have written by now; the lines that are not whole, by
-        environment."""
+    def settle(self, function: str) -> Dict[int, Settled]:
+        """Takes all that the processes of a function have written by now, by environment."""
         return {number: self.printed[number].settle() for number in self.numbers.get(function, ())}
 
     def of_environment(self, event: Ended) -> Optional[Printed]:
         return self.printed.get(event.environment.number) if event.environment else None
 
-    def lines_of(self, event: Ended, until: float, unfinished: Sequence[Line] = ()) -> List[Line]:
-        """The lines of an invocation that has ended, which were read before this moment; then those of the unfinished
-        ones of its environment that are its own."""
-        begin, printed = event.invocation.delivered, self.of_environment(event)
-        if begin is None or printed is None or event.environment is None:
+    def lines_of(self, event: Ended, until: Mapping[int, Settled]) -> List[Line]:
+        """The lines of an invocation that has ended, of those that were taken until then."""
+        printed = self.of_environment(event)
+        if printed is None or event.environment is None:
             return []
-        later = [moment for moment in self.deliveries.get(event.environment.number, ())
-                 if moment > begin and moment >= event.moment]
-        end = min([until, *later])
-        return [*printed.between(begin, end), *(line for line in unfinished if begin <= line.moment < end)]
+        return printed.of_invocation(event.invocation.identifier, until.get(event.environment.number))
 
     def figures_of(self, event: Ended) -> Figures:
         invocation, printed = event.invocation, self.of_environment(event)
@@ -166,15 +157,10 @@ class Tails:
     def __init__(self, invocations: Invocations, watch: Watching):
         self.invocations, self.watch = invocations, watch
 
-    def begin(self, function: str) -> None:
-        """Before an invocation is asked for: what was printed by now is not its own."""
-        self.invocations.settle(function)
-
     def result_of(self, function: str, identifier: str) -> Optional[str]:
         """The log result of an invocation that was answered just now; none if nothing is known of it."""
         invocations = self.invocations
-        unfinished = invocations.settle(function)
-        until = now()
+        until = invocations.settle(function)
         self.watch.refresh()
         event = invocations.ended.get(identifier)
         if event is None:
@@ -182,8 +168,7 @@ class Tails:
         printed = invocations.of_environment(event)
         if printed:
             printed.measure()
-        own = unfinished.get(event.environment.number, []) if event.environment else []
-        return encoded(self.whole(event, [line.text for line in invocations.lines_of(event, until, own)]))
+        return encoded(self.whole(event, [line.text for line in invocations.lines_of(event, until)]))
 
     def whole(self, event: Ended, lines: List[str]) -> Iterator[str]:
         identifier = event.invocation.identifier

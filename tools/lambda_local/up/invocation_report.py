@@ -1,12 +1,13 @@
 """`--report`: the log of each environment as Lambda writes it, with START, END and REPORT around the lines of each
 invocation.
 
-Which invocation a line belongs to is known once the history has been read up to its moment: until then, at most a
-tenth of a second, a line is held back."""
+What an environment's processes print is shown as it comes, and START before what is the first invocation's own. The
+next one's START waits until the history says that the one before has ended, which is known a tenth of a second later:
+its END and REPORT come first."""
 import threading
 import time
 from collections import deque
-from typing import Any, Deque, Dict, NamedTuple, Union
+from typing import Any, Deque, Dict, List, NamedTuple, Union
 
 from ..life import Begun, Ended, Event
 from .invocation_lines import Line, Printed
@@ -15,13 +16,16 @@ from .log import OUTPUT, Log
 
 MOST_HELD = 4 << 20  # characters; then a process that prints waits
 PATIENCE = 1.0  # seconds, as long as it waits
-LATE = 50.0  # milliseconds: so late may a line be read that was written before the response
-FOREVER = float("inf")
+MOST_REMEMBERED = 64  # invocations of an environment
+
+
+class Begin(NamedTuple):
+    """Here the lines of an invocation begin."""
+    identifier: str
 
 
 class Mark(NamedTuple):
     """A line that no process has printed."""
-    moment: float  # its place among the lines of the processes
     text: str
     members: Dict[str, Any]
     level: str = "info"
@@ -31,11 +35,40 @@ class Mark(NamedTuple):
 class Held:
     """What one environment's log has next."""
 
-    def __init__(self, name: str, function: str, place: int):
-        self.name = name
+    def __init__(self, name: str, function: str, place: int, printed: Printed):
+        self.name, self.printed = name, printed
         self.members: Dict[str, Any] = {"function": function, "environment": place}
-        self.lines: Deque[Line] = deque()
-        self.marks: Deque[Mark] = deque()
+        self.next: Deque[Union[Line, Begin, Mark]] = deque()
+        self.open = ""  # the invocation whose START was shown, and not its END
+        self.over: Deque[str] = deque(maxlen=MOST_REMEMBERED)  # those whose END has its place
+
+    def end_of(self, identifier: str) -> int:
+        """Where what is said of an invocation at its end belongs: before the next one begins."""
+        begins = [place for place, item in enumerate(self.next) if isinstance(item, Begin)]
+        if any(self.next[place] == Begin(identifier) for place in begins):
+            begins = begins[begins.index(self.next.index(Begin(identifier))) + 1:]
+        return begins[0] if begins else len(self.next)
+
+    def has(self, identifier: str) -> bool:
+        """Whether its lines have begun."""
+        return self.open == identifier or Begin(identifier) in self.next
+
+    def put(self, identifier: str, marks: List[Mark]) -> None:
+        """At the end of an invocation."""
+        if identifier not in self.over:
+            self.over.append(identifier)
+            if not self.has(identifier):  # (it was never delivered, or ended before its runtime had it)
+                marks = [Mark(start_line(identifier), {"request": identifier}), *marks]
+        place = self.end_of(identifier)
+        for mark in reversed(marks):
+            self.next.insert(place, mark)
+
+
+class Told(NamedTuple):
+    """What the watch has said of an invocation's end."""
+    held: Held
+    identifier: str
+    marks: List[Mark]
 
 
 class InvocationReport(threading.Thread):
@@ -44,21 +77,34 @@ class InvocationReport(threading.Thread):
         self.invocations, self.log = invocations, log
         self.changed = threading.Condition()
         self.held: Dict[int, Held] = {}
-        self.size, self.seen = 0, 0.0
-        self.is_closed = False
+        self.coming: List[Told] = []  # by the watch, which goes on
+        self.told: List[Told] = []
+        self.size = 0
+        self.has_news = self.is_settling = self.is_closed = False
 
     def hold(self, number: int, name: str, function: str, place: int, printed: Printed) -> None:
         """From now on, what this environment's processes print goes this way."""
-        self.held[number] = held = Held(name, function, place)
-        printed.follow(lambda line: self.take_line(held, line))
+        self.held[number] = held = Held(name, function, place, printed)
+        printed.follow(lambda line: self.take_line(held, line), lambda identifier: self.begin(held, identifier))
 
     def take_line(self, held: Held, line: Line) -> None:
         end = time.monotonic() + PATIENCE
         with self.changed:
-            while self.size > MOST_HELD and not self.is_closed and (left := end - time.monotonic()) > 0:
+            while (self.size > MOST_HELD and not self.is_settling and not self.is_closed
+                   and (left := end - time.monotonic()) > 0):
                 self.changed.wait(left)
-            held.lines.append(line)
             self.size += len(line.text)
+            self.add(held, line)
+
+    def begin(self, held: Held, identifier: str) -> None:
+        with self.changed:
+            if identifier not in held.over and not held.has(identifier):
+                self.add(held, Begin(identifier))
+
+    def add(self, held: Held, item: Union[Line, Begin]) -> None:
+        held.next.append(item)
+        self.has_news = True
+        self.changed.notify_all()
 
     # ---- from the watch ----------------------------------------------------------------------------------------------
 
@@ -66,73 +112,82 @@ class InvocationReport(threading.Thread):
         """Event by event. (The figures of an invocation are taken now, while its processes are there.)"""
         if not isinstance(event, (Begun, Ended)) or event.environment is None:
             return
-        held, printed = self.held[event.environment.number], self.invocations.printed[event.environment.number]
-        identifier = event.invocation.identifier
-        printed.measure()
+        held, identifier = self.held[event.environment.number], event.invocation.identifier
+        held.printed.measure()
         if isinstance(event, Begun):
-            self.begins(held, event.moment, identifier)
+            if not held.printed.starts:  # (its runtime was started by somebody else, and prints nothing here)
+                self.begin(held, identifier)
             return
-        if event.invocation.delivered is None:
-            self.begins(held, event.moment, identifier)
-        figures = self.invocations.figures_of(event)
-        with self.changed:
-            end = event.moment + 1 + LATE
-            for text in self.invocations.failure_of(event):
-                held.marks.append(Mark(end, text, {"request": identifier}))
-            held.marks.append(Mark(end, end_line(identifier), {"request": identifier}))
-            held.marks.append(Mark(end, report_line(figures), figures.members))
+        figures, about = self.invocations.figures_of(event), {"request": identifier}
+        marks = [Mark(text, about) for text in (*self.invocations.failure_of(event), end_line(identifier))]
+        self.coming.append(Told(held, identifier, [*marks, Mark(report_line(figures), figures.members)]))
 
     def tell(self, who: str, text: str, level: str = "info", kind: str = "up", always: bool = False,
              **members: object) -> None:
         """A line of lambda_local up: one about an invocation comes after that."""
         held = next((held for held in self.held.values() if held.name == who), None)
-        if kind != "invocation" or held is None:
+        if kind == "invocation" and held is not None:
+            self.coming.append(Told(held, str(members["request"]), [Mark(text, members, level, kind)]))
+        else:
             self.log(who, text, level, kind, always, **members)
-            return
-        with self.changed:
-            held.marks.append(Mark(held.marks[-1].moment if held.marks else 0.0, text, members, level, kind))
 
-    def begins(self, held: Held, moment: float, identifier: str) -> None:
-        """What ended before that comes before it."""
+    def know(self, _moment: float) -> None:
+        """The history has been read as far as it is written."""
         with self.changed:
-            earlier = [mark._replace(moment=min(moment, mark.moment)) for mark in held.marks]
-            held.marks = deque([*earlier, Mark(moment, start_line(identifier), {"request": identifier})])
-
-    def know(self, moment: float) -> None:
-        """The history has been read up to this moment."""
-        with self.changed:
-            self.seen = max(self.seen, moment)
+            self.told += self.coming
+            self.coming = []
+            self.has_news = self.has_news or bool(self.told)
             self.changed.notify_all()
 
     # ---- its thread --------------------------------------------------------------------------------------------------
 
     def run(self) -> None:
-        shown = 0.0
         while not self.is_closed:
             with self.changed:
-                self.changed.wait_for(lambda: self.is_closed or self.seen > shown)  # noqa: B023
-                shown = FOREVER if self.is_closed else self.seen
+                self.changed.wait_for(lambda: self.is_closed or self.has_news)
+                self.has_news = False
+            self.place()
             for held in self.held.values():
-                self.show(held, shown)
+                self.show(held)
 
-    def show(self, held: Held, before: float) -> None:
-        while (found := self.next_of(held, before)) is not None:
+    def place(self) -> None:
+        """What was told gets its place: after all that the processes had written before they answered."""
+        with self.changed:
+            told, self.told = self.told, []
+            self.is_settling = bool(told)
+            self.changed.notify_all()
+        for held in {one.held for one in told}:
+            held.printed.settle()
+        with self.changed:
+            self.is_settling = False
+            for one in told:
+                one.held.put(one.identifier, one.marks)
+
+    def show(self, held: Held) -> None:
+        while (found := self.next_of(held)) is not None:
             if isinstance(found, Line):
                 self.log(found.source, found.text, kind=OUTPUT)
             else:
                 self.log(held.name, found.text, found.level, found.kind, found.kind == "platform",
                          **{**held.members, **found.members})
 
-    def next_of(self, held: Held, before: float) -> Union[Line, Mark, None]:
+    def next_of(self, held: Held) -> Union[Line, Mark, None]:
+        """What is shown next; nothing if the next invocation's START waits for the end of the one before."""
         with self.changed:
-            line, mark = (held.lines or [None])[0], (held.marks or [None])[0]
-            if line is not None and (mark is None or line.moment < mark.moment) and line.moment < before:
-                self.size -= len(line.text)
+            if not held.next:
+                return None
+            found = held.next[0]
+            if isinstance(found, Begin):
+                if held.open and held.open not in held.over and not self.is_closed:
+                    return None
+                held.open = found.identifier
+                held.next[0] = Mark(start_line(found.identifier), {"request": found.identifier})
+            elif isinstance(found, Line):
+                self.size -= len(found.text)
                 self.changed.notify_all()
-                return held.lines.popleft()
-            if mark is not None and mark.moment < before:
-                return held.marks.popleft()
-            return None
+            taken = held.next.popleft()
+            assert not isinstance(taken, Begin)
+            return taken
 
     def close(self) -> None:
         """Once all has ended: shows all that is left."""
@@ -141,5 +196,7 @@ class InvocationReport(threading.Thread):
             self.changed.notify_all()
         if self.ident is not None:
             self.join(PATIENCE)
+        self.know(0.0)
+        self.place()
         for held in self.held.values():
-            self.show(held, FOREVER)
+            self.show(held)

@@ -10,6 +10,7 @@ from ..phases import FAILURES
 from .invocation_lines import Printed
 from .members import NAME, Function
 from .reports import Report, shortened
+from .unnamed import late_and_others
 
 REASONS = {"ReservedFunctionConcurrentInvocationLimitExceeded": "reserved concurrency",
            "ConcurrentInvocationLimitExceeded": "the account's concurrency",
@@ -89,8 +90,7 @@ class Lines:
         late = [f"its extension {name}, which must "
                 f"{'ask for its next event' if generation.named(name) else 'register by this name'}"
                 for name in generation.missing(environment.expected) if name != NAME]
-        others = [extension.name for extension in generation.extensions.values()
-                  if extension.name != NAME and extension.name not in environment.expected]
+        others = late_and_others(environment, generation)[1]
         if late and others:
             late[-1] += f" ({', '.join(others)} has registered)"
         if generation.poll is None:

@@ -12,7 +12,7 @@ from collections import deque
 from datetime import datetime, timezone
 from typing import Deque, Dict, Optional, TextIO
 
-from ..outgoing import printable, printable_output
+from ..outgoing import printable, printable_output, several
 
 OUTPUT = "output"  # the kind of a line that a process wrote
 COLOURS = {"error": "31", "warning": "33", "ok": "32"}
@@ -122,7 +122,8 @@ class Note:
         self.log = log
 
     def __call__(self, count: int, size: int) -> bytes:
-        text = (f"{count:,} lines ({size:,} bytes) are left out here: what reads the log did not take them in time")
+        text = (f"{several(count, 'line')} ({several(size, 'byte')}) {'is' if count == 1 else 'are'} left out here: "
+                "what reads the log did not take them in time")
         return self.log.line("up", text, "warning", "log", {"count": count, "bytes": size})
 
 

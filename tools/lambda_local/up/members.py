@@ -11,7 +11,7 @@ from ..configuration import (OF_FUNCTION, OF_SERVICE, Kind, Members, is_list_of,
                              mistakes_of, named, shown)
 from ..front import settings
 from ..json_reader import NotJson, read_json
-from ..outgoing import is_for_the_system, is_name_of_variable
+from ..outgoing import is_for_the_system, is_name_of_variable, several
 from ..paths import bundled
 from ..service import Fault
 from ..variables import OF_FUNCTION as VARIABLES
@@ -97,17 +97,28 @@ class Function:
         self.watch = [os.path.join(self.directory, name) for name in member.get("watch", ["."])]
         # Whether its runtime is the bundled one of Python. (A debugger may look at the interpreter from its start.)
         self.forks = programs.is_of_python(member.get("runtime")) and not debug
+        self.is_bundled = "runtime" in member
+        if self.is_bundled and "handler" not in member and not self._has_index():
+            self.notes.append("there is no \"handler\", and no module index for index.handler, which is taken then: "
+                              "write one, such as \"app.handler\"")
         self.handler: str = member.get("handler", "index.handler")
         self.member = member
         self.command = self._command(member)
         self.extensions = self._extensions(member.get("extensions", {}))
         self.expected = list(self.extensions) + ([NAME] if self.command else [])
+        # Whether what an invocation prints is known by its environment's proxy alone.
+        self.is_unmarked = self.command is not None and (not self.is_bundled or any(self.extensions.values()))
         self._look()
         self.has_telemetry = self._telemetry(member)
         self.part = self._part(member)
         self._scale(member)
         if self.layers:
             self.variables.update(layers.variables_of(self.layers, self.variables, self._versions(member)))
+
+    def _has_index(self) -> bool:
+        """Whether there may be a module of the default handler."""
+        there = os.listdir(self.directory) if os.path.isdir(self.directory) else []
+        return any(name.partition(".")[0] == "index" for name in there)
 
     def _refuse(self, status: int, sentence: str) -> None:
         """What cannot be started now, and may be mended while all else runs."""
@@ -201,8 +212,8 @@ class Function:
             count = count.get("max", max(1, count.get("min", 1)))
         part.setdefault("ports", [0] * count)
         if "environments" in member and count != len(part["ports"]):
-            raise Fault(2, f"{self.where}: {len(part['ports'])} ports for {count} environments: leave one of the two "
-                           "out")
+            raise Fault(2, f"{self.where}: {several(len(part['ports']), 'port')} for {several(count, 'environment')}: "
+                           "leave one of the two out")
         if self.debug:
             part.update(ports=part["ports"][:1], timeout=DEBUG_TIMEOUT)
             if part.get("reserved", 0) > 1:

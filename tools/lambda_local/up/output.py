@@ -11,6 +11,7 @@ from typing import Callable, List, Protocol, Tuple
 
 LONGEST_LINE = 256 << 10  # characters; a longer line is written in parts of that length (as Lambda's log does)
 AT_ONCE = 64 << 10  # bytes
+OF_IDENTIFIER = 36  # characters of an invocation's, after a mark
 
 
 class Readable(Protocol):
@@ -53,6 +54,46 @@ class Splitter:
         """What has come of a line whose end has not, and since when."""
         return self.since, "".join(self.parts)
 
+    def cut(self) -> None:
+        """What has come of a line whose end has not is a line."""
+        Splitter.feed(self, b"")
+
+
+class MarkedSplitter(Splitter):
+    """What a bundled runtime prints: before an invocation a mark, which nothing else begins with, the identifier and a
+    line feed. `divide` is given the identifier, between the lines before it and those after it."""
+
+    def __init__(self, take: Callable[[str], None], divide: Callable[[str], None], mark: bytes):
+        super().__init__(take)
+        self.divide, self.mark = divide, mark
+        self.held = b""  # what may be the beginning of a mark
+
+    def feed(self, data: bytes) -> None:
+        rest, self.held = self.held + data, b""
+        while True:
+            before, mark, after = rest.partition(self.mark)
+            if not mark or len(after) <= OF_IDENTIFIER:
+                break
+            self._pass(before)
+            self.cut()
+            self.divide(after[:OF_IDENTIFIER].decode("ascii", "replace"))
+            rest = after[OF_IDENTIFIER + 1:]
+        if data:
+            whole = len(before) if mark else self._before_half_a_mark(rest)
+            rest, self.held = rest[:whole], rest[whole:]
+        self._pass(rest)
+        if not data:
+            self.cut()
+
+    def _pass(self, data: bytes) -> None:
+        if data:
+            super().feed(data)
+
+    def _before_half_a_mark(self, data: bytes) -> int:
+        """How many bytes come before what the mark may begin with at their end."""
+        place = data.rfind(self.mark[:1], max(0, len(data) - len(self.mark) + 1))
+        return place if place >= 0 and self.mark.startswith(data[place:]) else len(data)
+
 
 def read_lines(stream: Readable, take: Callable[[str], None]) -> None:
     """Gives each line to `take`, without its end, until the stream ends."""
@@ -65,9 +106,9 @@ def read_lines(stream: Readable, take: Callable[[str], None]) -> None:
 class Reader(threading.Thread):
     """Reads what comes from a pipe, as it comes, until its end."""
 
-    def __init__(self, descriptor: int, take: Callable[[str], None], name: str):
+    def __init__(self, descriptor: int, splitter: Splitter, name: str):
         super().__init__(name=name, daemon=True)
-        self.descriptor, self.splitter = descriptor, Splitter(take)
+        self.descriptor, self.splitter = descriptor, splitter
         self.lock = threading.Lock()  # held while it reads, and while what was read is taken
         self.is_over = False
         os.set_blocking(descriptor, False)
@@ -80,13 +121,27 @@ class Reader(threading.Thread):
             with self.lock:
                 self._read()
 
-    def settle(self) -> Tuple[float, str]:
-        """Takes all that was written by now; what has come of the line that is not whole yet, and since when."""
+    def settle(self, cuts: bool = False) -> Tuple[float, str]:
+        """Takes all that was written by now; what has come of the line that is not whole yet, and since when. If it
+        cuts, that is a line as well."""
         with self.lock:
             left = 0 if self.is_over else self._unread()
             while left > 0 and (count := self._read()):
                 left -= count
+            if cuts:
+                self.splitter.cut()
             return self.splitter.unfinished
+
+    @property
+    def is_settled(self) -> bool:
+        """Whether all that was written by now has been taken, in whole lines. Does not wait: if it is not known, it is
+        not."""
+        if not self.lock.acquire(blocking=False):
+            return False
+        try:
+            return (self.is_over or self._unread() == 0) and not self.splitter.unfinished[1]
+        finally:
+            self.lock.release()
 
     def _read(self) -> int:
         """How many bytes it took."""

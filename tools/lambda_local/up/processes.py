@@ -1,5 +1,6 @@
 """Processes of functions and extensions."""
 import os
+import secrets
 import select
 import shutil
 import signal
@@ -8,7 +9,9 @@ from typing import List, Mapping, Tuple
 
 from ..guard import GUARD
 from .invocation_lines import Printed
-from .output import Reader
+from .output import MarkedSplitter, Reader, Splitter
+
+MARK = "LAMBDA_LOCAL_MARK"  # what a bundled runtime prints before an invocation, after a NUL
 
 
 def program_of(word: str, directory: str) -> str:
@@ -17,11 +20,17 @@ def program_of(word: str, directory: str) -> str:
 
 
 class Process:
-    """A process in a session of its own, whose lines `printed` takes under its name."""
+    """A process in a session of its own, whose lines `printed` takes under its name. One that `marks` is a bundled
+    runtime, which prints where the lines of an invocation begin."""
 
     def __init__(self, name: str, words: List[str], directory: str, variables: Mapping[str, str], printed: Printed,
-                 forks: bool = False):
+                 forks: bool = False, marks: bool = False):
         self.name, self.printed, self.begun = name, printed, time.monotonic()
+        splitter = Splitter(lambda line: printed.take(name, line))
+        if marks:
+            mark = secrets.token_hex(16)
+            variables = {**variables, MARK: mark}
+            splitter = MarkedSplitter(splitter.take, printed.divide, b"\0" + mark.encode())
         program = program_of(words[0], directory)
         if not shutil.which(program):
             raise FileNotFoundError(f"{words[0]} is not a program (any more)")
@@ -39,7 +48,7 @@ class Process:
             self.started.kill()
             os.close(reading)
             raise
-        self.reader = Reader(reading, lambda line: printed.take(name, line), f"output of {name}")
+        self.reader = Reader(reading, splitter, f"output of {name}")
         self.reader.start()
         printed.add(self)
 
@@ -47,9 +56,15 @@ class Process:
     def pid(self) -> int:
         return self.started.pid
 
-    def settle(self) -> Tuple[float, str]:
-        """Takes what it has printed by now; what has come of the line that is not whole yet, and since when."""
-        return self.reader.settle()
+    def settle(self, cuts: bool = False) -> Tuple[float, str]:
+        """Takes what it has printed by now; what has come of the line that is not whole yet, and since when. If it
+        cuts, that is a line as well."""
+        return self.reader.settle(cuts)
+
+    @property
+    def is_settled(self) -> bool:
+        """Whether all that it has printed by now has been taken, in whole lines, so far as is known without waiting."""
+        return self.reader.is_settled
 
     def ended(self, seconds: float = 0.0) -> bool:
         """Whether it ends within this many seconds."""

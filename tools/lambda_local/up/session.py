@@ -31,6 +31,7 @@ from .scaling import BETWEEN_LOOKS, Scaling
 from .schedules import Schedules
 from .sources import queues_of, refuse_aws
 from .supervised import BROKEN, Supervisor, told
+from .unnamed import Unnamed
 from .watch import Watch
 
 Given = TypeVar("Given")
@@ -80,6 +81,8 @@ class Session:
         self.front.serve(self.service, Tails(invocations, self.watch),
                          self.sidecars.serve(self.service.configuration, self.printed), self.sidecars.streams)
         self.environments = list(self.make_environments())
+        self.watch.hooks.append(Unnamed(self.watch.life.environments.values(), lambda name, line: log(
+            name, f"-- {line}", level="warning", kind="init")).look)
         self.watch.hooks += [environment.answer_callers for environment in self.environments]
         if any(environment.is_extra for environment in self.environments):
             self.watch.hooks.append(Scaling(self.environments, self.watch, self.service).look)

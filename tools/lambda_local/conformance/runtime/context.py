@@ -57,4 +57,5 @@ def judge_time(stage: Stage, remaining: Any, request: Optional[str]) -> None:
 def judge_trace(stage: Stage, place: int, seen: Optional[str]) -> None:
     if place == 0:
         return stage.check("trace_id", seen == TRACES[0], f"{shown(seen)} in place of {TRACES[0]}")
-    return stage.check("trace_renewed", seen != TRACES[0], f"in the second invocation still {shown(seen)}")
+    return stage.check("trace_renewed", seen == TRACES[1], f"in the second invocation {shown(seen)} in place of "
+                                                           f"{TRACES[1]}")
