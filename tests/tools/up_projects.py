@@ -209,6 +209,20 @@ def interpreters():
     program, note = programs.python_of("python3.99", None, "/at")
     check("a version that is not here is told", (program, note.startswith("python3.99 is not on PATH, and Python 3.")),
           (sys.executable, True))
+    with tempfile.TemporaryDirectory() as folder:  # (as a manager of versions has them on PATH)
+        for name, does in (("python3.97", "exit 127"), ("python3.98", "echo 3.98")):
+            path = os.path.join(folder, name)
+            with open(path, "w") as file:
+                file.write(f"#!/bin/sh\n{does}\n")
+            os.chmod(path, 0o755)
+        path, os.environ["PATH"] = os.environ["PATH"], folder + os.pathsep + os.environ["PATH"]
+        try:
+            program, note = programs.python_of("python3.97", None, "/at")
+            check("one that does not start is told", (program, note.startswith("python3.97 does not start here, and Py")),
+                  (sys.executable, True))
+            check("one that does is taken", programs.python_of("python3.98", None, "/at"), ("python3.98", ""))
+        finally:
+            os.environ["PATH"] = path
     check("versions", (programs.version_of(sys.executable, "python"), programs.version_of("/nowhere", "node")),
           ("%d.%d" % sys.version_info[:2], ""))
     done = subprocess.run([sys.executable, os.path.join(ROOT, "tools"), "up", "--help"], capture_output=True, text=True)

@@ -37,10 +37,12 @@ def python_of(runtime: str, given: Optional[str], directory: str) -> Tuple[str, 
     minor = named[3] if named else None
     if minor is None or int(minor) == sys.version_info[1]:
         return own, ""
-    if shutil.which(f"python3.{minor}"):
+    is_there = shutil.which(f"python3.{minor}") is not None
+    # (one that a manager of versions has put there may refuse to start)
+    if is_there and version_of(f"python3.{minor}", "python") == f"3.{minor}":
         return f"python3.{minor}", ""
-    return own, (f"python3.{minor} is not on PATH, and Python {sys.version_info[0]}.{sys.version_info[1]} runs it: "
-                 "write another \"python\" to have it run by that")
+    return own, (f"python3.{minor} {'does not start here' if is_there else 'is not on PATH'}, and Python "
+                 f"{sys.version_info[0]}.{sys.version_info[1]} runs it: write another \"python\" to have it run by that")
 
 
 def program_of_runtime(runtime: str, given: Optional[str], directory: str, where: str) -> Tuple[str, str]:
