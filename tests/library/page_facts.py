@@ -89,7 +89,10 @@ def sources_of(root, crate):
 # The tools whose options a page lists, each of them.
 HELPS = {"docs/up.md": ("./lambda_local up", "./lambda_local invoke"), "docs/rerun.md": ("./lambda_local rerun",),
          "docs/timeline.md": ("./lambda_local timeline",), "docs/ci.md": ("tools/package",),
-         "docs/conformance.md": tuple(f"./lambda_local conformance {it}" for it in ("runtime", "extension", "service"))}
+         "docs/conformance.md": tuple(f"./lambda_local conformance {it}" for it in ("runtime", "extension", "service")),
+         "docs/checks.md": ("tests/hours", "tests/memory", "tests/newcomer", "tests/pages", "tests/release",
+                            "tests/tools/run", "tools/release"),
+         "docs/proof_costs.md": ("tools/proof_costs",), "docs/speed.md": ("bench/serve/run",)}
 
 
 def help_of(root, command):
@@ -111,8 +114,8 @@ def unlisted(root, page, text):
 
 
 # The pages that a user lives on: each has a block that tests/newcomer runs.
-FOR_USERS = ("README.md", "docs/ci.md", "docs/debugging.md", "docs/events.md", "docs/pytest.md", "docs/rerun.md",
-             "docs/timeline.md", "docs/up.md", "docs/your_function.md")
+FOR_USERS = ("README.md", "docs/ci.md", "docs/conformance.md", "docs/debugging.md", "docs/events.md", "docs/pytest.md",
+             "docs/rerun.md", "docs/telemetry.md", "docs/timeline.md", "docs/up.md", "docs/your_function.md")
 
 
 def runs(root, page, text):

@@ -1,7 +1,6 @@
 """The side that is called: connections that are kept alive, each request answered by a handler."""
 import asyncio
 import contextlib
-import errno
 import socket
 import time
 from typing import Optional, Protocol, Set
@@ -11,14 +10,13 @@ from ..http1 import (CLOSED, NEED_DATA, CutShort, Event, Malformed, Request as H
 from ..outgoing import Log
 from .client import NoDescriptor
 from .http import PHRASES, Body, Pieces, Reply, Request, first, words_of
+from .newcomers import Newcomers
 from .patience import LINGER_BYTES, Patience, Phase
 from .places import Places
 from .wire import Gone, Wire
 
 BETWEEN_LOOKS = 1.0
-AT_ONCE = 64  # newcomers that are accepted before others have their turn
-WITHOUT_ROOM = (errno.EMFILE, errno.ENFILE, errno.ENOBUFS, errno.ENOMEM)
-PAUSE, BETWEEN_TELLS = 0.1, 60.0  # seconds; after a newcomer for whom there is no descriptor
+BETWEEN_TELLS = 60.0  # seconds, of newcomers for whom there is no descriptor
 
 
 class Port(Protocol):
@@ -181,7 +179,8 @@ class Server:
     """One port, with the connections at it."""
 
     def __init__(self, listener: socket.socket, port: Port, places: Places, log: Log) -> None:
-        self.listener, self.port, self.places, self.log = listener, port, places, log
+        self.port, self.places, self.log = port, places, log
+        self.newcomers = Newcomers(listener, self.welcome, self.lacks_room)
         self.connections: Set[Connection] = set()
         self.told = -BETWEEN_TELLS
 
@@ -189,54 +188,30 @@ class Server:
         loop = asyncio.get_running_loop()
         assert isinstance(loop, asyncio.BaseEventLoop)
         self.loop = loop
-        self.listener.setblocking(False)
-        self.loop.add_reader(self.listener, self.accept)
+        self.newcomers.begin()
         self.looking = self.loop.create_task(self.look())
 
     async def stop(self) -> None:
         """Closes all connections, also those that wait for an answer."""
-        self.loop.remove_reader(self.listener)
-        self.listener.close()
+        self.newcomers.end()
         self.looking.cancel()
         ending = [connection.task for connection in self.connections if connection.task]
         for connection in list(self.connections):
             connection.give_way()
         await asyncio.gather(*ending, return_exceptions=True)
 
-    def accept(self) -> None:
-        """Takes newcomers. (The loop's own way reports each one for whom there is no descriptor, some thousand times a
-        second.)"""
-        for _ in range(AT_ONCE):
-            try:
-                peer, _ = self.listener.accept()
-            except (BlockingIOError, InterruptedError, ConnectionAbortedError):
-                return
-            except OSError as fault:
-                if fault.errno in WITHOUT_ROOM:
-                    self.wait_for_room()
-                    return
-                raise
-            self.welcome(peer)
-
     def welcome(self, peer: socket.socket) -> None:
         connection = Connection(self)
         if not self.places.take(connection):
             peer.close()
             return
-        peer.setblocking(False)
         self.connections.add(connection)
         connection.task = self.loop.create_task(connection.serve(peer))
 
-    def wait_for_room(self) -> None:
+    def lacks_room(self) -> None:
         """There is no descriptor for a newcomer: the connection that has waited longest gives way."""
         self.tell_shortage()
         self.places.make_room()
-        self.loop.remove_reader(self.listener)
-        self.loop.call_later(PAUSE, self.accept_again)
-
-    def accept_again(self) -> None:
-        if self.listener.fileno() >= 0:
-            self.loop.add_reader(self.listener, self.accept)
 
     def tell_shortage(self) -> None:
         now = time.monotonic()

@@ -2,17 +2,15 @@
 with one of its own to the environment's port. Nothing ends a connection here but one of its sides, however long it
 waits. What one side does not take, the other is not asked for."""
 import asyncio
-import errno
 import socket
 import struct
 from typing import Callable, Dict, Optional, Set, Tuple, cast
 
+from ..front.newcomers import Newcomers
 from .conversation import Conversation, Ears
 
 MOST = 64  # connections at once; a runtime and ten extensions have eleven polls
 AT_ONCE = 16  # newcomers that are accepted before others have their turn
-WITHOUT_ROOM = (errno.EMFILE, errno.ENFILE, errno.ENOBUFS, errno.ENOMEM)
-PAUSE = 0.1  # seconds, after a newcomer for whom there is no descriptor
 HELD_SECONDS = 20.0  # for the rest of a request that is answered here, as the service has it for a head
 STEPS = 4  # of the loop, in which what is cancelled ends
 BY_RESET = struct.pack("ii", 1, 0)  # of SO_LINGER
@@ -186,6 +184,7 @@ class Proxy:
                  when_stopped: Callable[[], None] = lambda: None, most: int = MOST):
         self.listener, self.port, self.ears, self.tell, self.most = listener, port, ears, tell, most
         self.when_stopped = when_stopped
+        self.newcomers = Newcomers(listener, self._welcome, self._tell_shortage, AT_ONCE)
         self.pairs: Dict[Pair, None] = {}  # in the order in which they came
         self.beginning: Set["asyncio.Task[None]"] = set()
         self.has_told = False
@@ -197,13 +196,10 @@ class Proxy:
 
     async def start(self) -> None:
         self.loop = asyncio.get_running_loop()
-        self.listener.setblocking(False)
-        self.loop.add_reader(self.listener, self._accept)
+        self.newcomers.begin()
 
     async def stop(self) -> None:
-        if self.listener.fileno() >= 0:
-            self.loop.remove_reader(self.listener)
-        self.listener.close()
+        self.newcomers.end()
         for task in self.beginning:
             task.cancel()
         for pair in list(self.pairs):
@@ -211,19 +207,6 @@ class Proxy:
         self.when_stopped()
         for _ in range(STEPS):
             await asyncio.sleep(0)
-
-    def _accept(self) -> None:
-        for _ in range(AT_ONCE):
-            try:
-                peer, _ = self.listener.accept()
-            except (BlockingIOError, InterruptedError, ConnectionAbortedError):
-                return
-            except OSError as fault:
-                if fault.errno not in WITHOUT_ROOM:
-                    raise
-                self._wait_for_room()
-                return
-            self._welcome(peer)
 
     def _welcome(self, peer: socket.socket) -> None:
         """Without room, one that asks nothing makes it; if each does, the newcomer is closed."""
@@ -234,23 +217,16 @@ class Proxy:
                 return
             self.leave(idle)
             idle.abort()
-        peer.setblocking(False)
         pair = Pair(self)
         self.pairs[pair] = None
         task = self.loop.create_task(pair.begin(peer))
         self.beginning.add(task)
         task.add_done_callback(self.beginning.discard)
 
-    def _wait_for_room(self) -> None:
+    def _tell_shortage(self) -> None:
         if not self.has_told:
             self.has_told = True
             self.tell("there is no descriptor for a further connection of its processes (ulimit -n): they wait")
-        self.loop.remove_reader(self.listener)
-        self.loop.call_later(PAUSE, self._accept_again)
-
-    def _accept_again(self) -> None:
-        if self.listener.fileno() >= 0:
-            self.loop.add_reader(self.listener, self._accept)
 
     def leave(self, pair: Pair) -> None:
         self.pairs.pop(pair, None)

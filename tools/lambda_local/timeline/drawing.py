@@ -3,7 +3,7 @@ import bisect
 from typing import Dict, List, Optional, Tuple
 from xml.sax.saxutils import escape, quoteattr
 
-from .kept import Kept
+from .kept import Band, Kept, Step
 from .read import POLLS, Call, Lane
 from .style import COLOURS, DRAWING, LABELS, LANE, LETTER, width_of
 from .words import WALL_CLOCK, extension_words, length_words, payload_words, since_words, what, who
@@ -27,7 +27,7 @@ class Drawing(Kept):
         rows += [(LANE, f"caller {lane[1]}", "", lane) for lane in callers]
         if ("account",) in lanes or self.refused:
             rows.append((LANE, "account", "", ("account",)))
-        for f in sorted({f for _, _, f, _ in self.steps}):
+        for f in sorted({step.function for step in self.steps}):
             rows.append((LANE, f"reserved for {self.configuration.names[f]}", "", ("reserved", f)))
         for e, f in enumerate(self.configuration.owners, 1):
             own = [lane for lane in lanes if lane[0] in ("environment", "runtime", "extension") and lane[1] == e]
@@ -67,16 +67,16 @@ class Drawing(Kept):
         self.height = top + 26
         self.draw_axis(top)
         taken: Dict[Lane, List[Tuple[float, float]]] = {}  # per lane, what is where: no label is written over it
-        for e, phase, generation, reason, since, since_entry, moment, entry, deadline in self.bands:
-            self.draw_band(e, phase, generation, reason, since, since_entry, moment, entry, deadline)
-        for work, moment, entry in self.works:
-            taken.setdefault(work.lane, []).append((self.x(work.entry), self.x(entry)))
+        for band in self.bands:
+            self.draw_band(band)
+        for worked in self.works:
+            taken.setdefault(worked.work.lane, []).append((self.x(worked.work.entry), self.x(worked.entry)))
         for call in self.calls:
             taken.setdefault(call.lane, []).append((self.x(call.entry), self.x(call.end_entry)))
         self.occupied = {lane: sorted(spans) for lane, spans in taken.items()}
         self.draw_steps()
-        for work, moment, entry in self.works:
-            self.draw_work(work, moment, entry)
+        for worked in self.works:
+            self.draw_work(*worked)
         for call in self.calls:
             self.draw_call(call)
         self.draw_resets()
@@ -125,26 +125,25 @@ class Drawing(Kept):
                 self.chart.append(
                     f'<text class="muted" x="{max(x, half):.1f}" y="{y}" text-anchor="middle">{words}</text>')
 
-    def draw_band(self, e: int, phase: str, generation: int, reason: Optional[str], since: int, since_entry: int,
-                  moment: int, entry: Optional[int], deadline: Optional[int]) -> None:
-        key = ("environment", e)
-        if key not in self.tops or since_entry == entry:
+    def draw_band(self, band: Band) -> None:
+        key, phase = ("environment", band.environment), band.phase
+        if key not in self.tops or band.since_entry == band.entry:
             return
-        left, right, top = self.x(since_entry), self.x(entry), self.tops[key]
+        left, right, top = self.x(band.since_entry), self.x(band.entry), self.tops[key]
         if right <= left:
             return
-        name = phase + (f": {reason}" if reason else "")
-        title = (f"{self.configuration.place(e)}, generation {generation}\n{name}\n{self.moment(since)} to "
-                 f"{self.moment(moment)}: {length_words(moment - since)}")
-        if deadline is not None:
-            title += f"\nat most until {self.moment(deadline)}"
+        name = phase + (f": {band.reason}" if band.reason else "")
+        title = (f"{self.configuration.place(band.environment)}, generation {band.generation}\n{name}\n"
+                 f"{self.moment(band.since)} to {self.moment(band.moment)}: {length_words(band.moment - band.since)}")
+        if band.deadline is not None:
+            title += f"\nat most until {self.moment(band.deadline)}"
         shapes = [f'<rect class="{phase}" x="{left:.1f}" y="{top + 3}" width="{right - left:.1f}" height="16" rx="3"/>']
         for words in (name, phase):
             if width_of(words) <= right - left:
                 shapes.append(f'<text x="{left + 4:.1f}" y="{top + 15}">{words}</text>')
                 break
-        if deadline is not None and phase != "Busy" and (entry is None or deadline <= moment):
-            shapes.append(self.deadline_shape(left, deadline, top + 21))
+        if band.deadline is not None and phase != "Busy" and (band.entry is None or band.deadline <= band.moment):
+            shapes.append(self.deadline_shape(left, band.deadline, top + 21))
         self.put("phase", title, *shapes)
 
     def deadline_shape(self, left: float, deadline: int, y: int) -> str:
@@ -157,21 +156,22 @@ class Drawing(Kept):
 
     def draw_steps(self) -> None:
         """A function's reservation, from one change to the next."""
-        by_function: Dict[int, List[Tuple[int, int, int, Optional[int]]]] = {}
+        by_function: Dict[int, List[Step]] = {}
         for step in self.steps:
-            by_function.setdefault(step[2], []).append(step)
+            by_function.setdefault(step.function, []).append(step)
         for f, steps in by_function.items():
             if ("reserved", f) not in self.tops:
                 continue
             top = self.tops[("reserved", f)]
-            for i, (entry, moment, _, count) in enumerate(steps):
-                left, right = self.x(entry), self.x(steps[i + 1][0]) if i + 1 < len(steps) else self.width - 24
-                if right <= left or count is None:
+            for i, step in enumerate(steps):
+                left = self.x(step.entry)
+                right = self.x(steps[i + 1].entry) if i + 1 < len(steps) else self.width - 24
+                if right <= left or step.reserved is None:
                     continue
-                words = str(count)
+                words = str(step.reserved)
                 text = (f'<text x="{left + 4:.1f}" y="{top + 15}">{words}</text>'
                         if width_of(words) <= right - left else "")
-                self.put("step", f"{self.configuration.names[f]}: {count} reserved from {self.moment(moment)} on",
+                self.put("step", f"{self.configuration.names[f]}: {words} reserved from {self.moment(step.moment)} on",
                          f'<rect class="ended" x="{left:.1f}" y="{top + 4}" width="{right - left:.1f}" height="15" '
                          f'rx="3"/>', text)
 
@@ -242,13 +242,13 @@ class Drawing(Kept):
     def draw_resets(self) -> None:
         """A line through the environment's lanes where it closes, with the reason above."""
         ends: Dict[int, Optional[Tuple[int, int]]] = {}
-        for e in {reset[0] for reset in self.resets}:
+        for e in {reset.environment for reset in self.resets}:
             own = [top for key, top in self.tops.items() if key[0] in ("environment", "runtime", "extension")
                    and key[1] == e]
             ends[e] = (self.tops[("why", e)], max(own) + LANE - 2) if own else None
         places: Dict[int, List[float]] = {}
         for reset in self.resets:
-            places.setdefault(reset[0], []).append(self.x(reset[2]))
+            places.setdefault(reset.environment, []).append(self.x(reset.entry))
         for e, moment, entry, reason, generation in self.resets:
             span = ends[e]
             if span is None:

@@ -1,6 +1,6 @@
 """What a drawing shows: the calls of a window, what went on around them, and the position of each entry."""
 import bisect
-from typing import List, NamedTuple, Optional, Tuple, TypeVar
+from typing import List, NamedTuple, Optional, TypeVar
 
 from .read import Call, Configuration
 from .sink import Sink
@@ -33,6 +33,34 @@ class Reset(NamedTuple):
     generation: int
 
 
+class Worked(NamedTuple):
+    """What an extension or a runtime worked on. `entry` is that at which it ends; none if it has not."""
+    work: Work
+    moment: int
+    entry: Optional[int]
+
+
+class Step(NamedTuple):
+    """A function's reservation changes; none: it has none from there on."""
+    entry: int
+    moment: int
+    function: int
+    reserved: Optional[int]
+
+
+class Expiry(NamedTuple):
+    """A deadline of an environment passes, in this phase."""
+    entry: int
+    environment: int
+    phase: str
+
+
+class Refusal(NamedTuple):
+    """A call for which the history had no room."""
+    moment: int
+    call: str
+
+
 class Kept(Sink):
     """Keeps what is drawn: calls, and what goes on around them."""
 
@@ -47,10 +75,10 @@ class Kept(Sink):
         self.calls: List[Call] = []
         self.bands: List[Band] = []
         self.resets: List[Reset] = []
-        self.works: List[Tuple[Work, int, Optional[int]]] = []
-        self.steps: List[Tuple[int, int, int, Optional[int]]] = []  # entry, moment, function, count
-        self.expiries: List[Tuple[int, int, str]] = []  # entry, environment, phase
-        self.refused: List[Tuple[int, str]] = []
+        self.works: List[Worked] = []
+        self.steps: List[Step] = []
+        self.expiries: List[Expiry] = []
+        self.refused: List[Refusal] = []
         self.places: List[float] = []
         self.width = 0.0
 
@@ -58,7 +86,7 @@ class Kept(Sink):
         self.zero = moment
 
     def full(self, moment: int, call: Call) -> None:
-        self.refused.append((moment, what(self.configuration, call)))
+        self.refused.append(Refusal(moment, what(self.configuration, call)))
 
     def answered(self, call: Call) -> None:
         self.calls.append(call)
@@ -68,7 +96,7 @@ class Kept(Sink):
         self.calls.append(call)
 
     def expired(self, moment: int, entry: int, environment: Environment) -> None:
-        self.expiries.append((entry, environment.number, environment.phase))
+        self.expiries.append(Expiry(entry, environment.number, environment.phase))
 
     def phase(self, environment: Environment, moment: int, entry: Optional[int]) -> None:
         self.bands.append(Band(environment.number, environment.phase, environment.generation, environment.reason,
@@ -81,10 +109,10 @@ class Kept(Sink):
             self.resets.append(Reset(environment.number, moment, entry, reason, environment.generation))
 
     def worked(self, work: Work, moment: int, entry: Optional[int]) -> None:
-        self.works.append((work, moment, entry))
+        self.works.append(Worked(work, moment, entry))
 
     def reservation(self, moment: int, entry: int, f: int, count: Optional[int]) -> None:
-        self.steps.append((entry, moment, f, count))
+        self.steps.append(Step(entry, moment, f, count))
 
     def entered(self, entry: int, moment: int) -> None:
         if self.first is None:
@@ -106,15 +134,16 @@ class Kept(Sink):
         self.first = entry
         self.calls = [call for call in self.calls if is_from(call.end_entry, entry)]
         self.bands = [band for band in self.bands if is_from(band.entry, entry)]
-        self.works = [work for work in self.works if is_from(work[2], entry)]
+        self.works = [work for work in self.works if is_from(work.entry, entry)]
         self.resets = [reset for reset in self.resets if reset.entry >= entry]
-        self.expiries = [expiry for expiry in self.expiries if expiry[0] >= entry]
-        before = {step[2]: step for step in self.steps if step[0] < entry}  # the last one of each function still holds
-        self.steps = [step for step in self.steps if step[0] >= entry or step is before[step[2]]]
+        self.expiries = [expiry for expiry in self.expiries if expiry.entry >= entry]
+        # (of those before it, the last one of each function still holds)
+        before = {step.function: step for step in self.steps if step.entry < entry}
+        self.steps = [step for step in self.steps if step.entry >= entry or step is before[step.function]]
 
     def end(self, world: World) -> None:
         self.calls.sort(key=lambda call: call.ticket)
-        self.works.sort(key=lambda work: work[0].entry)
+        self.works.sort(key=lambda worked: worked.work.entry)
         self.place_entries()
 
     # positions

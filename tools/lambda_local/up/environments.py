@@ -8,7 +8,7 @@ import json
 import select
 import threading
 import time
-from typing import Dict, List, Optional, Set, Tuple
+from typing import Dict, List, Optional, Tuple
 
 from ..life import Generation
 from ..service import EXTENSION, RUNTIME, Service, ask
@@ -16,6 +16,7 @@ from ..telemetry.beside import Beside
 from .invocation_lines import Printed
 from .log import Log
 from .members import NAME, Function
+from .pause import Pause
 from .processes import Process, reason_of
 from .reports import kind_in
 from .restarts import Restarts
@@ -40,11 +41,7 @@ class Environment(threading.Thread):
         self.extensions: List[Tuple[str, Process]] = []  # each with the name by which it registers
         self.generation = 0
         self.identifier: Optional[str] = None  # of lambda_local up in this generation
-        self.restarts, self.hurry = restarts, threading.Event()
-        self.reporting = threading.Lock()
-        self.report: Optional[bytes] = None  # what callers hear in a pause
-        self.tried: Set[int] = set()
-        self.last_report = b"{}"
+        self.restarts, self.pause = restarts, Pause()
         self.reported: Optional[Generation] = None  # the last one that ended by this tool's own report
         # One beyond the function's least number is started once it is wanted.
         self.is_extra = watch.environment(number).place > function.least
@@ -128,7 +125,7 @@ class Environment(threading.Thread):
 
     def wake(self) -> None:
         """At the end it waits for nothing any more."""
-        self.hurry.set()
+        self.pause.hurry.set()
         self.wanted.set()
 
     def me(self) -> Dict[str, str]:
@@ -194,11 +191,11 @@ class Environment(threading.Thread):
         self.end(0)
         before = self.watch.environment(self.number).before
         if before and before.report and before is not self.reported:
-            self.last_report = before.report
+            self.pause.last_report = before.report
         else:
             self.say(f"Init failed: {reason}", level="error", kind="exit")
             self.remember(reason, kind)
-        self.fail_init(self.last_report)
+        self.fail_init(self.pause.last_report)
         self.reported = self.watch.environment(self.number).before
         self.restarts.note(True)
         return False
@@ -251,8 +248,8 @@ class Environment(threading.Thread):
 
     def remember(self, reason: str, kind: str) -> bytes:
         """The body of a report, which callers get in a pause as well."""
-        self.last_report = json.dumps({"errorMessage": reason, "errorType": kind}).encode()
-        return self.last_report
+        self.pause.last_report = json.dumps({"errorMessage": reason, "errorType": kind}).encode()
+        return self.pause.last_report
 
     # ---- its end -----------------------------------------------------------------------------------------------------
 
@@ -281,7 +278,7 @@ class Environment(threading.Thread):
         while generation and not generation.is_over and time.time() < deadline + 0.005 and not self.stopping.wait(0.02):
             generation = self.watch.generation(self.number, self.identifier)
         if generation and generation.report:
-            self.last_report = generation.report
+            self.pause.last_report = generation.report
         elif generation and not generation.is_ready:
             self.remember("Init timed out", "Init.Timeout")
         is_early = lived < SOON if generation is None else (
@@ -320,27 +317,24 @@ class Environment(threading.Thread):
     def wait_out_pause(self) -> None:
         """After generations that ended early. A caller who comes meanwhile hears why at once."""
         if self.restarts.needs_a_change or self.restarts.pause:
-            self.report = self.last_report
-            if self.restarts.needs_a_change:
-                self.say("it has failed three times: it is started again when a file changes", level="warning")
-                self.hurry.wait()
-            else:
-                self.say(f"started again in {self.restarts.pause} s: it ends as soon as it has begun", level="warning")
-                self.hurry.wait(self.restarts.pause)
-            with self.reporting:
-                self.report = None
-        if self.hurry.is_set():
+            with self.pause.answering() as hurry:
+                if self.restarts.needs_a_change:
+                    self.say("it has failed three times: it is started again when a file changes", level="warning")
+                    hurry.wait()
+                else:
+                    self.say(f"started again in {self.restarts.pause} s: it ends as soon as it has begun",
+                             level="warning")
+                    hurry.wait(self.restarts.pause)
+        if self.pause.was_hurried():
             self.restarts.note(False)
-        self.hurry.clear()
 
     def answer_callers(self) -> None:
         """In a pause: ends the Init that an invocation may be bound to, with what was reported last."""
-        with self.reporting:
-            waiting = set(self.watch.waiting(self.function.name)) if self.report is not None else set()
-            if self.report is not None and waiting - self.tried:
-                self.fail_init(self.report)
-                self.watch.refresh()
-            self.tried = waiting
+        def fail(report: bytes) -> None:
+            self.fail_init(report)
+            self.watch.refresh()
+
+        self.pause.answer(lambda: self.watch.waiting(self.function.name), fail)
 
     def fail_init(self, report: bytes) -> None:
         """Reports a failed Init for the runtime, which its caller receives; prints no line."""

@@ -201,7 +201,7 @@ class Reload(threading.Thread):
         for environment in self.environments:
             if environment.function is function and environment.is_started:
                 self.due[environment] = environment.generation
-                environment.hurry.set()
+                environment.pause.hurry.set()
 
     def spin_down(self) -> None:
         """One that is busy or in its Init is asked again at the next look (409)."""

@@ -244,7 +244,7 @@ class Session:
         """Why an environment is not ready."""
         if environment.restarts.early:
             return (f"{environment.name}, whose Init fails: "
-                    f"{Report(environment.last_report, environment.function.directory)}")
+                    f"{Report(environment.pause.last_report, environment.function.directory)}")
         here = self.watch.environment(environment.number)
         return f"{environment.name}, {Lines.waited_for(here, here.generation)}"
 

@@ -5,25 +5,7 @@ from typing import List
 from .oracle import FRESH, Oracle, Plan, playable
 from .sequences import sequences_of
 
-PAIRS = """
-an invocation in each environment
-  register x =one -
-  ext-next x
-  next
-  invoke a ={"n":1}
-  @2 register y =two -
-  @2 ext-next y
-  @2 next
-  invoke b ={"n":2}
-  @2 response b ={"n":3}
-  response a ={"n":4}
-  next
-  @2 next
-  ext-exit-failure x REPORT
-  @2 ext-exit-failure y REPORT
-  init-failure REPORT
-  @2 init-failure REPORT
-three invocations at once
+BOTH_BEGIN = """\
   register x =one -
   ext-next x
   next
@@ -32,31 +14,35 @@ three invocations at once
   @2 ext-next y
   @2 next
   invoke b =2
+"""
+BOTH_END = """\
+  ext-exit-failure x REPORT
+  @2 ext-exit-failure y REPORT
+  init-failure REPORT
+  @2 init-failure REPORT
+"""
+PAIRS = """
+an invocation in each environment
+  BOTH BEGIN
+  @2 response b =3
+  response a =4
+  next
+  @2 next
+  BOTH END
+three invocations at once
+  BOTH BEGIN
   invoke c =3
   response a =4
   @2 response b =5
-  ext-exit-failure x REPORT
-  @2 ext-exit-failure y REPORT
-  init-failure REPORT
-  @2 init-failure REPORT
+  BOTH END
 an answer at the other environment
-  register x =one -
-  ext-next x
-  next
-  invoke a =1
-  @2 register y =two -
-  @2 ext-next y
-  @2 next
-  invoke b =2
+  BOTH BEGIN
   @2 response a =3
   response b =4
   failure b REPORT
   response a =5
   @2 response b =6
-  ext-exit-failure x REPORT
-  @2 ext-exit-failure y REPORT
-  init-failure REPORT
-  @2 init-failure REPORT
+  BOTH END
 an environment that fails
   register x =one is
   ext-next x
@@ -82,11 +68,8 @@ extensions of the same name
   ext-next y
   ext-next x
   @2 ext-next y
-  ext-exit-failure x REPORT
-  @2 ext-exit-failure y REPORT
-  init-failure REPORT
-  @2 init-failure REPORT
-"""
+  BOTH END
+""".replace("  BOTH BEGIN\n", BOTH_BEGIN).replace("  BOTH END\n", BOTH_END)
 
 
 def pairs_of(oracle: Oracle) -> List[Plan]:
