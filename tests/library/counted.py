@@ -1,4 +1,5 @@
-"""Checks that are printed one by one and counted: the last line is 'N passed, M failed'."""
+"""Checks that are printed one by one and counted: the last line is 'N passed, M failed'. Tests of tools are unittest
+cases, which check in the same way (tests/library/cases.py)."""
 
 from typing import Callable, Optional
 
@@ -9,19 +10,20 @@ class NotBoolean(TypeError):
     """A check was given a value where it asks whether something holds: `1 == True`, and `cond or value` is a value."""
 
 
-def check(name: str, seen: object, wanted: object = True, *, shown: object = None) -> None:
-    """Prints whether what was seen is what is expected, and counts it. If that is True or False, what was seen has to
-    be one of the two, and `shown` is printed where it is the other; a value is compared with a value."""
-    global passed, failed
+def difference(name: str, seen: object, wanted: object = True, shown: object = None) -> Optional[str]:
+    """What was seen and what was wanted, unless they agree. If True or False is wanted, what was seen has to be one of
+    the two, and `shown` is said where it is the other; a value is compared with a value."""
     if isinstance(wanted, bool) and not isinstance(seen, bool):
         raise NotBoolean(f"{name}: {seen!r} is not a Boolean: give the condition and shown=, or what is wanted")
     if seen is wanted if isinstance(wanted, bool) else not isinstance(seen, bool) and seen == wanted:
-        passed += 1
-        print("ok  ", name, flush=True)
-    else:
-        failed += 1
-        print("FAIL", name, "\n     seen  ", seen, *(() if shown is None else (shown,)), "\n     wanted", wanted,
-              flush=True)
+        return None
+    return f"seen   {seen!r}" + ("" if shown is None else f" {shown}") + f"\nwanted {wanted!r}"
+
+
+def check(name: str, seen: object, wanted: object = True, *, shown: object = None) -> None:
+    """Prints whether what was seen is what is expected, and counts it."""
+    fault = difference(name, seen, wanted, shown)
+    check_sound(name, fault and fault.replace("\n", "\n     "))
 
 
 def check_sound(name: str, fault: Optional[str]) -> None:
@@ -33,7 +35,7 @@ def check_sound(name: str, fault: Optional[str]) -> None:
 
 def end() -> bool:
     """Prints how many checks passed and failed. Returns the exit status."""
-    print(f"{passed} passed, {failed} failed")
+    print(f"{passed} passed, {failed} failed", flush=True)
     return failed != 0
 
 
@@ -43,5 +45,5 @@ def run(*parts: Callable[[], None]) -> bool:
         try:
             part()
         except Exception as fault:
-            check(f"{part.__name__} runs to its end", repr(fault), None)
+            check_sound(f"{part.__name__} runs to its end", repr(fault))
     return end()

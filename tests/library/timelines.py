@@ -2,12 +2,10 @@
 import json
 import os
 import subprocess
-import sys
 import xml.etree.ElementTree as ElementTree
 
-ROOT = os.path.dirname(os.path.dirname(os.path.dirname(os.path.realpath(__file__))))
-sys.path.insert(0, os.path.join(ROOT, "tools"))
-import counted  # noqa: E402
+from tests import ROOT
+from tests.library.cases import Case
 
 TOOL = [os.path.join(ROOT, "lambda_local"), "timeline"]
 PROGRAM = os.environ.get("LAMBDA_LOCAL_PROGRAM") or os.path.join(ROOT, "lambda_local")
@@ -18,31 +16,6 @@ ONE = '{"account":"123456789012","region":"us-east-2","functions":[{"name":"f","
 WHOLE = ('{"account":"123456789012","accountLimit":1000,'
          '"functions":[{"extensions":[],"handler":"index.handler","name":"f","ports":[9001],"timeout":3}],'
          '"invokePort":9000,"leastRemainder":100,"maxEntries":%d,"region":"us-east-2","salt":0}')
-
-
-def check(name, good, more=""):
-    """Counts a check; of the many of this tool, only those that fail are printed."""
-    if good:
-        counted.passed += 1
-    else:
-        counted.failed += 1
-        print(f"FAILED: {name}{': ' if more else ''}{more}", flush=True)
-
-
-def run_parts(*parts):
-    """Runs the parts that the command line names, or all. The exit status."""
-    chosen = [part for part in parts if len(sys.argv) == 1 or part.__name__ in sys.argv[1:]]
-    return counted.run(*map(told, chosen))
-
-
-def told(part):
-    """The part, which ends with a line that says how many checks it passed."""
-    def run_part():
-        before = counted.passed
-        part()
-        print(f"ok   {part.__name__}: {counted.passed - before}", flush=True)
-    run_part.__name__ = part.__name__
-    return run_part
 
 
 def run(*arguments, script=None, environment=ENVIRONMENT):
@@ -69,41 +42,47 @@ def phases(trace, environment):
     return [event["name"] for event in found]
 
 
-def draw(name, script, *arguments):
-    """All four forms of a script's timeline, checked for their grammar and for a span a call. Gives the trace."""
-    count = calls_of(script)
-    status, text, said = run("--text", *arguments, script=script)
-    check(f"{name}: text", status == 0 and said == "", said)
-    status, trace, said = run("--trace", *arguments, script=script)
-    check(f"{name}: trace", status == 0, said)
-    try:
-        spans = events(trace, "call")
-        full = events(trace, "full")
-        check(f"{name}: a span a call in the trace", len(spans) + len(full) == count,
-              f"{len(spans)} + {len(full)} of {count}")
-        check(f"{name}: spans end after they begin", all(span["dur"] >= 0 for span in spans))
-        lanes = {(event["pid"], event["tid"]) for event in json.loads(trace)["traceEvents"]
-                 if event["name"] == "thread_name"}
-        check(f"{name}: each lane has a name", all((span["pid"], span["tid"]) in lanes for span in spans))
-        callers = sorted((span["tid"], span["ts"], span["ts"] + span["dur"]) for span in spans if span["pid"] == 1)
-        check(f"{name}: no two invocations of a caller at once",
-              all(a[0] != b[0] or a[2] <= b[1] for a, b in zip(callers, callers[1:])))
-    except ValueError as fault:
-        check(f"{name}: the trace is JSON", False, str(fault))
-        return trace
-    for form in ("html", "svg"):
-        status, page, said = run(f"--{form}", *arguments, script=script)
-        check(f"{name}: {form}", status == 0 and said == "", said)
+class TimelineCase(Case):
+    """Its checks are very many."""
+
+    prints_each = False
+
+    def draw(self, name, script, *arguments):
+        """All four forms of a script's timeline, checked for their grammar and for a span a call. Gives the trace."""
+        count = calls_of(script)
+        status, text, said = run("--text", *arguments, script=script)
+        self.check(f"{name}: text", status == 0 and said == "", shown=said)
+        status, trace, said = run("--trace", *arguments, script=script)
+        self.check(f"{name}: trace", status == 0, shown=said)
         try:
-            tree = ElementTree.fromstring(page.replace("<!DOCTYPE html>\n", ""))
-            groups = [group for group in tree.iter("{http://www.w3.org/2000/svg}g")
-                      if group.get("class", "").startswith("call ")]
-            if form == "svg":
-                groups = [g for g in groups if g.find("{http://www.w3.org/2000/svg}title") is not None]
-            check(f"{name}: a span a call in the {form}", len(groups) == len(spans), f"{len(groups)} of {len(spans)}")
-            names = {element.tag.split("}")[-1] for element in tree.iter()}
-            check(f"{name}: the {form} has no script and takes nothing from elsewhere",
-                  "script" not in names and "link" not in names and "url(" not in page and "src=" not in page)
-        except ElementTree.ParseError as fault:
-            check(f"{name}: the {form} is XML", False, str(fault))
-    return trace
+            spans = events(trace, "call")
+            full = events(trace, "full")
+            self.check(f"{name}: a span a call in the trace", len(spans) + len(full) == count,
+                       shown=f"{len(spans)} + {len(full)} of {count}")
+            self.check(f"{name}: spans end after they begin", all(span["dur"] >= 0 for span in spans))
+            lanes = {(event["pid"], event["tid"]) for event in json.loads(trace)["traceEvents"]
+                     if event["name"] == "thread_name"}
+            self.check(f"{name}: each lane has a name", all((span["pid"], span["tid"]) in lanes for span in spans))
+            callers = sorted((span["tid"], span["ts"], span["ts"] + span["dur"]) for span in spans if span["pid"] == 1)
+            self.check(f"{name}: no two invocations of a caller at once",
+                       all(a[0] != b[0] or a[2] <= b[1] for a, b in zip(callers, callers[1:])))
+        except ValueError as fault:
+            self.check(f"{name}: the trace is JSON", False, shown=str(fault))
+            return trace
+        for form in ("html", "svg"):
+            status, page, said = run(f"--{form}", *arguments, script=script)
+            self.check(f"{name}: {form}", status == 0 and said == "", shown=said)
+            try:
+                tree = ElementTree.fromstring(page.replace("<!DOCTYPE html>\n", ""))
+                groups = [group for group in tree.iter("{http://www.w3.org/2000/svg}g")
+                          if group.get("class", "").startswith("call ")]
+                if form == "svg":
+                    groups = [g for g in groups if g.find("{http://www.w3.org/2000/svg}title") is not None]
+                self.check(f"{name}: a span a call in the {form}", len(groups) == len(spans),
+                           shown=f"{len(groups)} of {len(spans)}")
+                names = {element.tag.split("}")[-1] for element in tree.iter()}
+                self.check(f"{name}: the {form} has no script and takes nothing from elsewhere",
+                           "script" not in names and "link" not in names and "url(" not in page and "src=" not in page)
+            except ElementTree.ParseError as fault:
+                self.check(f"{name}: the {form} is XML", False, shown=str(fault))
+        return trace

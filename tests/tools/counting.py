@@ -1,15 +1,10 @@
-#!/usr/bin/env python3
-"""Checks tests/library/counted.py, by which the other files of this folder check: what it must not take for a success,
-and what it says then. Prints a line for each check and ends with 'N passed, M failed'.
-
-usage: tests/tools/counting.py"""
-import os
+"""Checks tests/library/counted.py and cases.py, by which all other tests check: what they must not take for a success,
+what they say then, and that a check which fails hides none of the next."""
 import subprocess
 import sys
 
-ROOT = os.path.dirname(os.path.dirname(os.path.dirname(os.path.realpath(__file__))))
-sys.path.insert(0, os.path.join(ROOT, "tests", "library"))
-from counted import check, run  # noqa: E402
+from tests import ROOT
+from tests.library.cases import Case
 
 # Arguments of a check, the last line of a run of it alone, and words of what it prints.
 CHECKS = (
@@ -29,22 +24,48 @@ CHECKS = (
     ("[1], [2]", "0 passed, 1 failed", "wanted [2]"),
     ("None, None", "1 passed, 0 failed", "ok   it"),
 )
+COUNTED = ("import sys\nfrom tests.library import counted\ndef part(): counted.check('it', {})\n"
+           "sys.exit(counted.run(part))")
+OPENING = "import unittest\nfrom tests.library.cases import Case\nclass It(Case):\n"
+CASE = OPENING + "    def test_it(self): self.check('it', {})\nunittest.main()"
+# Tests, and the last line of their run with words of what they print.
+TESTS = (
+    ("    def test_it(self):\n        self.check('one', 1, 2)\n        self.check('two', 2, 2)\n", 1,
+     "1 passed, 1 failed", ("FAIL one", "ok   two")),
+    ("    def test_it(self):\n        self.check('one', 1, 1)\n        raise KeyError('no')\n"
+     "    def test_others(self): self.check('two', 2, 2)\n", 1, "2 passed, 1 failed",
+     ("FAIL test_it runs to its end", "KeyError: 'no'", "ok   two")),
+    ("    def test_it(self): self.skipTest('no network')\n", 0, "0 passed, 0 failed",
+     ("note test_it is skipped: no network",)),
+    ("    def test_it(self): self.check('a list', list(range(40)), [*range(39), 41])\n", 1, "0 passed, 1 failed",
+     ("FAIL a list", "First differing element 39:")),
+    ("    prints_each = False\n    def test_it(self):\n        self.check('one', 1, 1)\n"
+     "        self.check('two', 1, 2)\n", 1, "1 passed, 1 failed", ("FAIL two", "ok   test_it: 1")),
+)
 
 
-def counted(arguments: str) -> "tuple[int, list[str], str]":
-    """The status of a run of one check, its last line, and all that it prints."""
-    program = f"import counted, sys\ndef part(): counted.check('it', {arguments})\nsys.exit(counted.run(part))"
-    done = subprocess.run([sys.executable, "-c", program], cwd=os.path.join(ROOT, "tests", "library"),
-                          stdout=subprocess.PIPE, stderr=subprocess.STDOUT, universal_newlines=True)
+def run(program: str) -> "tuple[int, list[str], str]":
+    """The status of a program, the last line, and all that it prints."""
+    done = subprocess.run([sys.executable, "-c", program], cwd=ROOT, stdout=subprocess.PIPE, stderr=subprocess.DEVNULL,
+                          text=True)
     return done.returncode, done.stdout.splitlines()[-1:], done.stdout
 
 
-def what_passes() -> None:
-    for arguments, last, words in CHECKS:
-        status, seen, printed = counted(arguments)
-        check(f"check(.., {arguments})", (status, seen, words in printed), (int("1 failed" in last), [last], True),
-              shown=printed)
+class Counting(Case):
+    def what_passes(self, name: str, program: str) -> None:
+        for arguments, last, words in CHECKS:
+            status, seen, printed = run(program.format(arguments))
+            self.check(f"{name}(.., {arguments})", (status, seen, words in printed),
+                       (int("1 failed" in last), [last], True), shown=printed)
 
+    def test_counted(self) -> None:
+        self.what_passes("check", COUNTED)
 
-if __name__ == "__main__":
-    sys.exit(run(what_passes))
+    def test_cases(self) -> None:
+        self.what_passes("Case.check", CASE)
+
+    def test_run(self) -> None:
+        for test, wanted, last, words in TESTS:
+            status, seen, printed = run(OPENING + test + "unittest.main()")
+            self.check(f"a case: {words[0]}", (status, seen, [it for it in words if it not in printed]),
+                       (wanted, [last], []), shown=printed)

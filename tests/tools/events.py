@@ -1,7 +1,6 @@
-#!/usr/bin/env python3
 """Checks asynchronous invocations: what callers are answered, retries, destinations, the queue's bounds and its end,
 and that all else passes through lambda_local up unchanged. Needs boto3. The program is LAMBDA_LOCAL_PROGRAM, else
-./lambda_local. Ends with 'N passed, M failed'."""
+./lambda_local."""
 import contextlib
 import json
 import os
@@ -14,12 +13,10 @@ import time
 import urllib.parse
 from collections import Counter
 
-ROOT = os.path.dirname(os.path.dirname(os.path.dirname(os.path.realpath(__file__))))
-sys.path[:0] = [os.path.join(ROOT, "tools"), os.path.join(ROOT, "tests", "library")]
-import counted  # noqa: E402
-from counted import check  # noqa: E402
-from events_kit import READY, READY_SECONDS, Caller, behind, invoke_path  # noqa: E402
-from up_kit import Up, until  # noqa: E402
+from tests import ROOT
+from tests.library.cases import Case
+from tests.library.events_kit import READY, READY_SECONDS, Caller, behind, invoke_path
+from tests.library.up_kit import Up, until
 
 APP = '''import json, os, time
 def run(event, context):
@@ -45,159 +42,12 @@ def functions(**members):
             {"name": "sink", "runtime": "python", "handler": "app.sink"}]
 
 
-@contextlib.contextmanager
-def running(asynchronous=True, options=(), **members):
-    up = Up(*READY, *options, functions=functions(**members), app=APP, whole={"asynchronous": asynchronous})
-    try:
-        up.until("[up] ready", READY_SECONDS)
-        with Caller(up.endpoint) as caller:
-            yield up, caller
-    finally:
-        if up.process.poll() is None:
-            check("it ends in order, and leaves nothing", up.end(), (0, []))
-
-
 def records(up):
     path = os.path.join(up.at, "records")
     if not os.path.exists(path):
         return []
     with open(path) as file:
         return [json.loads(line) for line in file]
-
-
-def by_boto3():
-    up = Up(*READY, command=["--", sys.executable, "calls.py"], functions=functions(), app=APP,
-            files={"calls.py": BOTO3}, whole={"asynchronous": True})
-    check("boto3: the command and all else end in order", up.end(None), (0, []))
-    check("boto3: Event and DryRun", up.output.splitlines(), ["202 36 b''", "204 36 b''"])
-    check("an event that waits at the stop is still invoked", up.count(r"\[f\] event \S+ ok after"), 1)
-
-
-def refusals():
-    with running() as (up, caller):
-        for name, path, headers, body, wanted in (
-                ("an unknown function", invoke_path("g"), {}, b"{}", (404, "ResourceNotFoundException")),
-                ("a malformed name", invoke_path("f%2F"), {}, b"{}", (400, "InvalidParameterValueException")),
-                ("a version", invoke_path("f") + "?Qualifier=7", {}, b"{}", (404, "ResourceNotFoundException")),
-                ("what is no JSON", invoke_path("f"), {}, b"{", (400, "InvalidRequestContentException")),
-                ("NaN", invoke_path("f"), {}, b"NaN", (400, "InvalidRequestContentException")),
-                ("more than 1 MiB", invoke_path("f"), {}, b'"' + b"x" * (1 << 20) + b'"',
-                 (413, "RequestTooLargeException")),
-                ("another type", invoke_path("f"), {"X-Amz-Invocation-Type": "Events"}, b"{}",
-                 (400, "InvalidParameterValueException"))):
-            status, answered, _ = caller.ask("POST", path, body, {"X-Amz-Invocation-Type": "Event", **headers})
-            check(f"an event: {name}", (status, answered.get("x-amzn-errortype")), wanted)
-        check("an unknown function, tried out",
-              caller.ask("POST", invoke_path("g"), b"{}", {"X-Amz-Invocation-Type": "DryRun"})[0], 404)
-        for name in ("f", "123456789012:function:f", "arn:aws:lambda:us-east-1:123456789012:function:f:$LATEST"):
-            check(f"an event for {name}", caller.event(name, {})[0], 202)
-        check("each is invoked", until(lambda: up.count(r"\[f\] event \S+ ok") == 3, 10))
-        check("1 MiB is taken", caller.ask("POST", invoke_path("f"), b'"' + b"x" * ((1 << 20) - 2) + b'"',
-                                           {"X-Amz-Invocation-Type": "Event"})[0], 202)
-
-
-def fan_out():
-    with running(environments=4, reserved=2, timeout=30) as (up, caller):
-        check("200 events are taken", {caller.event("f", {"number": number})[0] for number in range(200)}, {202})
-        check("each of them succeeds", until(lambda: up.count(r"\[f\] event \S+ ok") >= 200, 60))
-        check("none more", up.count(r"\[f\] event \S+ ok"), 200)
-        until(lambda: up.count(r"\[f/\d\] \S+ ok") >= 200, 5)
-        check("its function is invoked 200 times", up.count(r"\[f/\d\] \S+ ok"), 200)
-
-
-def failures():
-    with running({"delays": [0.2, 0.4], "onFailure": "sink"}) as (up, caller):
-        status, headers, body = caller.event("f", {"do": "fail", "order": 7})
-        check("an event gets 202 and an empty body", (status, body), (202, b""))
-        check("its record comes", until(lambda: records(up), 10))
-        record, = records(up)
-        check("its members", sorted(record),
-              ["requestContext", "requestPayload", "responseContext", "responsePayload", "timestamp", "version"])
-        context = record["requestContext"]
-        check("its context", (record["version"], context), ("1.0", {
-            "requestId": headers["x-amzn-requestid"],
-            "functionArn": "arn:aws:lambda:us-east-1:123456789012:function:f:$LATEST",
-            "condition": "RetriesExhausted", "approximateInvokeCount": 3}))
-        check("its payload", record["requestPayload"], {"do": "fail", "order": 7})
-        check("its response", (record["responseContext"], record["responsePayload"]["errorType"]),
-              ({"statusCode": 200, "executedVersion": "$LATEST", "functionError": "Unhandled"}, "KeyError"))
-        check("its time", re.fullmatch(r"\d{4}-\d\d-\d\dT\d\d:\d\d:\d\d\.\d{3}Z", record["timestamp"]) is not None)
-        check("both retries are told",
-              [up.count(text) for text in ("again after 0.2 s", "again after 0.4 s", "its record goes to sink")],
-              [1, 1, 1])
-        caller.event("f", {"do": "fail", "sink": "fails"})
-        check("a destination that fails is retried, and ends there",
-              until(lambda: up.has("attempt 3 of 3: it is dropped"), 10))
-        check("and gets no record of its own", len(records(up)), 4)
-        caller.event("f", {"do": "crash"})
-        check("a crash is retried as well", until(lambda: len(records(up)) == 5, 30))
-    with running({"retries": 0, "maximumAge": 1, "onFailure": "sink"}, timeout=10) as (up, caller):
-        caller.event("f", {"do": "sleep", "seconds": 2})
-        caller.event("f", {"number": 2})
-        check("an event that is too old gets its record", until(lambda: records(up), 10))
-        record, = records(up)
-        check("which says why",
-              (record["requestContext"]["condition"], record["requestContext"]["approximateInvokeCount"],
-                                 "responsePayload" in record), ("EventAgeExceeded", 0, False))
-
-
-def bounds():
-    with running(options=["--drain", "0"], timeout=60) as (up, caller):
-        seen = [caller.event("f", {"do": "sleep", "seconds": 60})[0] for _ in range(1000)]
-        status, headers, body = caller.event("f", {})
-        check("1,000 events are held", set(seen), {202})
-        check("one more gets 429", (status, headers.get("x-amzn-errortype"), json.loads(body)),
-              (429, "TooManyRequestsException", {
-            "Reason": "CallerRateLimitExceeded", "Type": "User", "message": "Rate Exceeded."}))
-        up.end()
-        check("what is lost by a stop is told", up.count("is lost by the stop"), 1000)
-    with running(timeout=60, options=["--drain", "0"]) as (up, caller):
-        large = b'{"do":"sleep","seconds":60,"fill":"' + b"x" * 1_000_000 + b'"}'
-        seen = [caller.ask("POST", invoke_path("f"), large, {"X-Amz-Invocation-Type": "Event"})[0] for _ in range(70)]
-        check("64 MiB are held", (seen.count(202), set(seen)), ((64 << 20) // len(large), {202, 429}))
-
-
-def ends():
-    with running(timeout=10) as (up, caller):
-        for number in range(4):
-            caller.event("f", {"do": "sleep", "seconds": 0.4, "number": number})
-        check("a stop waits for the events", (up.end(), up.count(r"\[f\] event \S+ ok"), up.has(" left: waits up to")),
-              ((0, []), 4, True))
-    with running(timeout=10) as (up, caller):
-        for number in range(3):
-            caller.event("f", {"do": "sleep", "seconds": 0.4, "number": number})
-        begun = time.monotonic()
-        status = caller.ask("POST", "/_local/stop", b"")[0]
-        check("so does POST /_local/stop", (status, time.monotonic() - begun > 0.8), (202, True))
-        check("and all ends", (up.end(None), up.count(r"\[f\] event \S+ ok")), ((0, []), 3))
-    with running(options=["--drain", "0.5"], timeout=30) as (up, caller):
-        caller.event("f", {"do": "sleep", "seconds": 20})
-        begun = time.monotonic()
-        up.end()
-        check("it waits no longer than --drain says", (time.monotonic() - begun < 8, up.count("is lost by the stop")),
-              (True, 1))
-
-
-def unchanged():
-    with running(timeout=2) as (up, caller), Caller(behind(up)) as direct:
-        large = json.dumps({"x": "y" * 3_000_000}).encode()
-        for name, method, path, body in (
-                ("an output", "POST", invoke_path("f"), b'{"a":"\xc3\xa9"}'),
-                ("an error", "POST", invoke_path("f"), b'{"do":"fail"}'),
-                ("a large payload", "POST", invoke_path("f"), large),
-                ("one that is too large", "POST", invoke_path("f"), b"1" * 7_000_000),
-                ("what is no JSON", "POST", invoke_path("f"), b"{"),
-                ("an unknown function", "POST", invoke_path("g"), b"{}"),
-                ("an unknown path", "GET", "/x", None), ("another method", "DELETE", invoke_path("f"), None),
-                ("a reservation", "PUT", "/2017-10-31/functions/f/concurrency", b'{"ReservedConcurrentExecutions":1}'),
-                ("its removal", "DELETE", "/2017-10-31/functions/f/concurrency", None)):
-            seen, wanted = (alike(one.ask(method, path, body)) for one in (caller, direct))
-            check(f"passed on: {name}", seen, wanted)
-        check("passed on in chunks", caller.ask("POST", invoke_path("f"), iter([b'{"a', b'":1}']))[2], b'{"a": 1}')
-        history = caller.ask("GET", "/_local/history")[2]
-        check("passed on as it comes: the history",
-              (len(history) > 3_000_000, direct.ask("GET", "/_local/history")[2][:len(history)] == history),
-              (True, True))
 
 
 SEEN = "/2019-09-30/functions/f/concurrency"  # of which the answer stays the same
@@ -252,71 +102,12 @@ def as_event(head):
     return f"POST {target} {version}\r\n{fields}X-Amz-Invocation-Type: Event\r\nContent-Length: 2\r\n\r\n{{}}"
 
 
-def refused_alike():
-    """What the service refuses by a request's head, its front refuses alike, byte for byte, and events as well: what is
-    not refused is asked of the service, or taken."""
-    up = Up(*READY, functions=functions(), app=APP, whole={"asynchronous": True},
-            environ={**os.environ, "LAMBDA_LOCAL_HOSTS": "listed.example,x.y"})
-    up.until("[up] ready", READY_SECONDS)
-    service, statuses, taken = behind(up), Counter(), 0
-    for head in HEADS:
-        wanted = raw_answer(service, head)
-        check(f"the front answers {head!r} as the service", raw_answer(up.endpoint, head), wanted)
-        statuses[wanted[0][9:12]] += 1
-        event = as_event(head)
-        wanted, seen = raw_answer(service, event), raw_answer(up.endpoint, event)
-        if b"Invocation type is not RequestResponse" in wanted[0]:
-            taken += 1
-            wanted, seen = (b"202", wanted[1]), (seen[0][9:12], seen[1])
-        check(f"an event: {event!r}", seen, wanted)
-    check("each kind of answer is among them", sorted(statuses), [b"200", b"400", b"403"])
-    check("some events are taken, and others not", 10 < taken < len(HEADS) - 10)
-    until(lambda: up.count(r"\[f\] event \S+ ok") >= taken, 30)
-    check("it ends in order, and leaves nothing", (up.end(), up.count(r"\[f\] event \S+ ok")), ((0, []), taken))
-
-
 HIDDEN = b'{"do":"sleep","seconds":0.5,"whose":"hidden"}'
 HIDDEN_REQUEST = f"{INVOKE}Host: a\r\nContent-Length: {len(HIDDEN)}\r\n\r\n".encode() + HIDDEN
 
 
 def in_one_chunk(data):
     return b"%x\r\n%b\r\n0\r\n\r\n" % (len(data), data)
-
-
-def smuggled():
-    """What a head's `Connection` names takes nothing away: neither where its body ends, so that a second request hides
-    in it whose answer another caller gets, nor why it is refused (RFC 9110, section 7.6.1)."""
-    long = f"Content-Length: {len(HIDDEN_REQUEST)}\r\n"
-    for name, head, body in (
-            ("a body whose length is of the connection", f"Connection: content-length\r\n{long}", HIDDEN_REQUEST),
-            ("in capitals, in a list", f"Connection: keep-alive, CONTENT-LENGTH\r\n{long}", HIDDEN_REQUEST),
-            ("in two headers", f"Connection: te\r\nConnection: Content-Length,\r\n{long}", HIDDEN_REQUEST),
-            ("a body in chunks", "Connection: transfer-encoding\r\nTransfer-Encoding: chunked\r\n",
-             in_one_chunk(HIDDEN_REQUEST)),
-            ("chunks and a length", f"Connection: content-length\r\n{long}Transfer-Encoding: chunked\r\n",
-             in_one_chunk(b"{}") + HIDDEN_REQUEST)):
-        with running(environments=2, timeout=10) as (up, caller):
-            caller.invoke("f", {"warm": True})
-            raw_answers(up.endpoint, f"GET /_local/stats HTTP/1.1\r\nHost: a\r\n{head}\r\n".encode() + body, 0.2)
-            seen = [json.loads(caller.invoke("f", {"whose": number})[2]) for number in range(3)]
-            check(f"{name}: each caller gets its own answer", seen, [{"whose": number} for number in range(3)])
-            until(lambda: up.count(r"\[f/\d\] \S+ ok") >= 4, 30)
-            time.sleep(1)
-            check(f"{name}: what it hides is not invoked", up.count(r"\[f/\d\] \S+ ok"), 4)
-    with running() as (up, caller):
-        before = len(caller.ask("GET", "/_local/history")[2].splitlines())
-        old, length = INVOKE.replace("1.1", "1.0"), "Content-Length: 2\r\n\r\n{}"
-        for head, wanted in (
-                (f"{INVOKE}Host: a\r\nOrigin: https://evil\r\nConnection: close, origin\r\n{length}", b"403"),
-                (f"{INVOKE}Host: a\r\nSec-Fetch-Site: cross-site\r\nConnection: sec-fetch-site\r\n{length}", b"403"),
-                (f"{INVOKE}Host: evil.example\r\nConnection: close, host\r\n{length}", b"403"),
-                (f"{old}Host: evil.example\r\nConnection: host\r\n{length}", b"403"),
-                (f"{old}Connection: host\r\nHost: evil.example\r\nHost: a\r\n{length}", b"400"),
-                ("GET /_local/history HTTP/1.0\r\nHost: evil.example\r\nConnection: host\r\n\r\n", b"403"),
-                (f"{INVOKE}Host: a\r\nX-Amz-Invocation-Type: Nonsense\r\nConnection: x-amz-invocation-type\r\n{length}",
-                 b"400")):
-            check(f"{head!r} is refused", raw_answers(up.endpoint, head.encode())[9:12], wanted)
-        check("nothing is invoked", len(caller.ask("GET", "/_local/history")[2].splitlines()), before)
 
 
 def raw_answers(address, data, seconds=2):
@@ -331,33 +122,6 @@ def raw_answers(address, data, seconds=2):
     return found
 
 
-def peers_that_go():
-    """A connection whose caller has gone is closed on both sides; one whose caller has ended its own side is
-    answered."""
-    def sockets():
-        folder = f"/proc/{up.process.pid}/fd"
-        return sum(os.readlink(os.path.join(folder, name)).startswith("socket:") for name in os.listdir(folder))
-
-    with running(environments=2, timeout=20) as (up, caller):
-        caller.invoke("f", {})
-        parts = urllib.parse.urlsplit(up.endpoint)
-        body = json.dumps({"do": "sleep", "seconds": 4}).encode()
-        head = f"POST {invoke_path('f')} HTTP/1.1\r\nHost: a\r\nContent-Length: {len(body)}\r\n\r\n".encode()
-        time.sleep(0.5)
-        before = sockets()
-        peer = socket.create_connection((parts.hostname, parts.port))
-        peer.sendall(head + body)
-        until(lambda: sockets() > before, 3)
-        peer.setsockopt(socket.SOL_SOCKET, socket.SO_LINGER, struct.pack("ii", 1, 0))  # (it is reset)
-        peer.close()
-        check("a caller that has gone is forgotten on both sides", until(lambda: sockets() <= before, 3))
-        with socket.create_connection((parts.hostname, parts.port)) as peer:
-            peer.sendall(head + body)
-            peer.shutdown(socket.SHUT_WR)
-            peer.settimeout(20)
-            check("one that has ended its own side is answered", peer.recv(65536).startswith(b"HTTP/1.1 200"))
-
-
 def alike(answer):
     """An answer without what differs from call to call."""
     status, headers, body = answer
@@ -366,40 +130,267 @@ def alike(answer):
     return status, headers, re.sub(rb"[0-9a-f]{8}-[0-9a-f-]{27}", b"ID", body)
 
 
-def samples():
-    """Each sample is JSON with the member by which its kind is known, and examples/invoke.sh takes it by name."""
-    known = {"s3": ("Records", 0, "s3", "bucket", "name"), "sqs": ("Records", 0, "body"),
-             "sns": ("Records", 0, "Sns", "Message"),
-             "schedule": ("detail-type",), "eventbridge": ("detail",), "apigateway_1.0": ("requestContext", "identity"),
-             "apigateway_2.0": ("requestContext", "http")}
-    folder = os.path.join(ROOT, "examples", "events")
-    check("the samples", sorted(os.listdir(folder)), sorted(f"{name}.json" for name in known))
-    with running() as (up, _):
-        for name, path in known.items():
-            done = subprocess.run([os.path.join(ROOT, "examples", "invoke.sh"), "f", name,
-                                   up.endpoint.partition("//")[2]],
-                                  stdout=subprocess.PIPE, timeout=30)
-            value = json.loads(done.stdout.partition(b"\r\n\r\n")[2])
-            with open(os.path.join(folder, f"{name}.json")) as file:
-                check(f"the sample {name} comes to the function", value, json.load(file))
-            for step in path:
-                value = value[step]
-            check(f"the sample {name} is of its kind", bool(value) or value == {})
+class Events(Case):
+    @contextlib.contextmanager
+    def running(self, asynchronous=True, options=(), **members):
+        up = Up(*READY, *options, functions=functions(**members), app=APP, whole={"asynchronous": asynchronous})
+        try:
+            up.until("[up] ready", READY_SECONDS)
+            with Caller(up.endpoint) as caller:
+                yield up, caller
+        finally:
+            if up.process.poll() is None:
+                self.check("it ends in order, and leaves nothing", up.end(), (0, []))
 
+    def test_by_boto3(self):
+        up = Up(*READY, command=["--", sys.executable, "calls.py"], functions=functions(), app=APP,
+                files={"calls.py": BOTO3}, whole={"asynchronous": True})
+        self.check("boto3: the command and all else end in order", up.end(None), (0, []))
+        self.check("boto3: Event and DryRun", up.output.splitlines(), ["202 36 b''", "204 36 b''"])
+        self.check("an event that waits at the stop is still invoked", up.count(r"\[f\] event \S+ ok after"), 1)
 
-def mistakes():
-    for whole, wanted in (
-            ({"asynchronous": 1}, "asynchronous must be true, or an object, not 1"),
-            ({"asynchronous": {"retry": 1}}, "asynchronous: unknown member retry, did you mean retries?"),
-            ({"asynchronous": {"retries": 3}}, "asynchronous: retries must be a whole number from 0 to 2, not 3"),
-            ({"asynchronous": {"onFailure": "g"}}, 'asynchronous: onFailure: there is no function "g"'),
-            ({"asynchronus": True}, "unknown member asynchronus, did you mean asynchronous?")):
-        up = Up(whole=whole)
-        check(f"a mistake: {whole}", (up.end(None), up.lines), ((2, []), [f"up: up.json: {wanted}"]))
+    def test_refusals(self):
+        with self.running() as (up, caller):
+            for name, path, headers, body, wanted in (
+                    ("an unknown function", invoke_path("g"), {}, b"{}", (404, "ResourceNotFoundException")),
+                    ("a malformed name", invoke_path("f%2F"), {}, b"{}", (400, "InvalidParameterValueException")),
+                    ("a version", invoke_path("f") + "?Qualifier=7", {}, b"{}", (404, "ResourceNotFoundException")),
+                    ("what is no JSON", invoke_path("f"), {}, b"{", (400, "InvalidRequestContentException")),
+                    ("NaN", invoke_path("f"), {}, b"NaN", (400, "InvalidRequestContentException")),
+                    ("more than 1 MiB", invoke_path("f"), {}, b'"' + b"x" * (1 << 20) + b'"',
+                     (413, "RequestTooLargeException")),
+                    ("another type", invoke_path("f"), {"X-Amz-Invocation-Type": "Events"}, b"{}",
+                     (400, "InvalidParameterValueException"))):
+                status, answered, _ = caller.ask("POST", path, body, {"X-Amz-Invocation-Type": "Event", **headers})
+                self.check(f"an event: {name}", (status, answered.get("x-amzn-errortype")), wanted)
+            self.check("an unknown function, tried out",
+                       caller.ask("POST", invoke_path("g"), b"{}", {"X-Amz-Invocation-Type": "DryRun"})[0], 404)
+            for name in ("f", "123456789012:function:f", "arn:aws:lambda:us-east-1:123456789012:function:f:$LATEST"):
+                self.check(f"an event for {name}", caller.event(name, {})[0], 202)
+            self.check("each is invoked", until(lambda: up.count(r"\[f\] event \S+ ok") == 3, 10))
+            self.check("1 MiB is taken", caller.ask("POST", invoke_path("f"), b'"' + b"x" * ((1 << 20) - 2) + b'"',
+                                                    {"X-Amz-Invocation-Type": "Event"})[0], 202)
 
+    def test_fan_out(self):
+        with self.running(environments=4, reserved=2, timeout=30) as (up, caller):
+            self.check("200 events are taken", {caller.event("f", {"number": number})[0] for number in range(200)},
+                       {202})
+            self.check("each of them succeeds", until(lambda: up.count(r"\[f\] event \S+ ok") >= 200, 60))
+            self.check("none more", up.count(r"\[f\] event \S+ ok"), 200)
+            until(lambda: up.count(r"\[f/\d\] \S+ ok") >= 200, 5)
+            self.check("its function is invoked 200 times", up.count(r"\[f/\d\] \S+ ok"), 200)
 
-if __name__ == "__main__":
-    parts = {part.__name__: part
-             for part in (by_boto3, refusals, fan_out, failures, bounds, ends, unchanged, refused_alike, smuggled,
-                          peers_that_go, samples, mistakes)}
-    sys.exit(counted.run(*(parts[name] for name in sys.argv[1:] or parts)))
+    def test_failures(self):
+        with self.running({"delays": [0.2, 0.4], "onFailure": "sink"}) as (up, caller):
+            status, headers, body = caller.event("f", {"do": "fail", "order": 7})
+            self.check("an event gets 202 and an empty body", (status, body), (202, b""))
+            self.check("its record comes", until(lambda: records(up), 10))
+            record, = records(up)
+            self.check("its members", sorted(record),
+                       ["requestContext", "requestPayload", "responseContext", "responsePayload", "timestamp",
+                        "version"])
+            context = record["requestContext"]
+            self.check("its context", (record["version"], context), ("1.0", {
+                "requestId": headers["x-amzn-requestid"],
+                "functionArn": "arn:aws:lambda:us-east-1:123456789012:function:f:$LATEST",
+                "condition": "RetriesExhausted", "approximateInvokeCount": 3}))
+            self.check("its payload", record["requestPayload"], {"do": "fail", "order": 7})
+            self.check("its response", (record["responseContext"], record["responsePayload"]["errorType"]),
+                       ({"statusCode": 200, "executedVersion": "$LATEST", "functionError": "Unhandled"}, "KeyError"))
+            self.check("its time", re.fullmatch(r"\d{4}-\d\d-\d\dT\d\d:\d\d:\d\d\.\d{3}Z",
+                                                record["timestamp"]) is not None)
+            self.check("both retries are told",
+                       [up.count(text) for text in ("again after 0.2 s", "again after 0.4 s",
+                                                    "its record goes to sink")],
+                       [1, 1, 1])
+            caller.event("f", {"do": "fail", "sink": "fails"})
+            self.check("a destination that fails is retried, and ends there",
+                       until(lambda: up.has("attempt 3 of 3: it is dropped"), 10))
+            self.check("and gets no record of its own", len(records(up)), 4)
+            caller.event("f", {"do": "crash"})
+            self.check("a crash is retried as well", until(lambda: len(records(up)) == 5, 30))
+        with self.running({"retries": 0, "maximumAge": 1, "onFailure": "sink"}, timeout=10) as (up, caller):
+            caller.event("f", {"do": "sleep", "seconds": 2})
+            caller.event("f", {"number": 2})
+            self.check("an event that is too old gets its record", until(lambda: records(up), 10))
+            record, = records(up)
+            self.check("which says why",
+                       (record["requestContext"]["condition"], record["requestContext"]["approximateInvokeCount"],
+                                          "responsePayload" in record), ("EventAgeExceeded", 0, False))
+
+    def test_bounds(self):
+        with self.running(options=["--drain", "0"], timeout=60) as (up, caller):
+            seen = [caller.event("f", {"do": "sleep", "seconds": 60})[0] for _ in range(1000)]
+            status, headers, body = caller.event("f", {})
+            self.check("1,000 events are held", set(seen), {202})
+            self.check("one more gets 429", (status, headers.get("x-amzn-errortype"), json.loads(body)),
+                       (429, "TooManyRequestsException", {
+                     "Reason": "CallerRateLimitExceeded", "Type": "User", "message": "Rate Exceeded."}))
+            up.end()
+            self.check("what is lost by a stop is told", up.count("is lost by the stop"), 1000)
+        with self.running(timeout=60, options=["--drain", "0"]) as (up, caller):
+            large = b'{"do":"sleep","seconds":60,"fill":"' + b"x" * 1_000_000 + b'"}'
+            seen = [caller.ask("POST", invoke_path("f"), large, {"X-Amz-Invocation-Type": "Event"})[0]
+                    for _ in range(70)]
+            self.check("64 MiB are held", (seen.count(202), set(seen)), ((64 << 20) // len(large), {202, 429}))
+
+    def test_ends(self):
+        with self.running(timeout=10) as (up, caller):
+            for number in range(4):
+                caller.event("f", {"do": "sleep", "seconds": 0.4, "number": number})
+            self.check("a stop waits for the events", (up.end(), up.count(r"\[f\] event \S+ ok"),
+                                                       up.has(" left: waits up to")),
+                       ((0, []), 4, True))
+        with self.running(timeout=10) as (up, caller):
+            for number in range(3):
+                caller.event("f", {"do": "sleep", "seconds": 0.4, "number": number})
+            begun = time.monotonic()
+            status = caller.ask("POST", "/_local/stop", b"")[0]
+            self.check("so does POST /_local/stop", (status, time.monotonic() - begun > 0.8), (202, True))
+            self.check("and all ends", (up.end(None), up.count(r"\[f\] event \S+ ok")), ((0, []), 3))
+        with self.running(options=["--drain", "0.5"], timeout=30) as (up, caller):
+            caller.event("f", {"do": "sleep", "seconds": 20})
+            begun = time.monotonic()
+            up.end()
+            self.check("it waits no longer than --drain says", (time.monotonic() - begun < 8,
+                                                                up.count("is lost by the stop")),
+                       (True, 1))
+
+    def test_unchanged(self):
+        with self.running(timeout=2) as (up, caller), Caller(behind(up)) as direct:
+            large = json.dumps({"x": "y" * 3_000_000}).encode()
+            for name, method, path, body in (
+                    ("an output", "POST", invoke_path("f"), b'{"a":"\xc3\xa9"}'),
+                    ("an error", "POST", invoke_path("f"), b'{"do":"fail"}'),
+                    ("a large payload", "POST", invoke_path("f"), large),
+                    ("one that is too large", "POST", invoke_path("f"), b"1" * 7_000_000),
+                    ("what is no JSON", "POST", invoke_path("f"), b"{"),
+                    ("an unknown function", "POST", invoke_path("g"), b"{}"),
+                    ("an unknown path", "GET", "/x", None), ("another method", "DELETE", invoke_path("f"), None),
+                    ("a reservation", "PUT", "/2017-10-31/functions/f/concurrency",
+                     b'{"ReservedConcurrentExecutions":1}'),
+                    ("its removal", "DELETE", "/2017-10-31/functions/f/concurrency", None)):
+                seen, wanted = (alike(one.ask(method, path, body)) for one in (caller, direct))
+                self.check(f"passed on: {name}", seen, wanted)
+            self.check("passed on in chunks", caller.ask("POST", invoke_path("f"), iter([b'{"a', b'":1}']))[2],
+                       b'{"a": 1}')
+            history = caller.ask("GET", "/_local/history")[2]
+            self.check("passed on as it comes: the history",
+                       (len(history) > 3_000_000, direct.ask("GET", "/_local/history")[2][:len(history)] == history),
+                       (True, True))
+
+    def test_refused_alike(self):
+        """What the service refuses by a request's head, its front refuses alike, byte for byte, and events as well:
+        what is not refused is asked of the service, or taken."""
+        up = Up(*READY, functions=functions(), app=APP, whole={"asynchronous": True},
+                environ={**os.environ, "LAMBDA_LOCAL_HOSTS": "listed.example,x.y"})
+        up.until("[up] ready", READY_SECONDS)
+        service, statuses, taken = behind(up), Counter(), 0
+        for head in HEADS:
+            wanted = raw_answer(service, head)
+            self.check(f"the front answers {head!r} as the service", raw_answer(up.endpoint, head), wanted)
+            statuses[wanted[0][9:12]] += 1
+            event = as_event(head)
+            wanted, seen = raw_answer(service, event), raw_answer(up.endpoint, event)
+            if b"Invocation type is not RequestResponse" in wanted[0]:
+                taken += 1
+                wanted, seen = (b"202", wanted[1]), (seen[0][9:12], seen[1])
+            self.check(f"an event: {event!r}", seen, wanted)
+        self.check("each kind of answer is among them", sorted(statuses), [b"200", b"400", b"403"])
+        self.check("some events are taken, and others not", 10 < taken < len(HEADS) - 10)
+        until(lambda: up.count(r"\[f\] event \S+ ok") >= taken, 30)
+        self.check("it ends in order, and leaves nothing", (up.end(), up.count(r"\[f\] event \S+ ok")),
+                   ((0, []), taken))
+
+    def test_smuggled(self):
+        """What a head's `Connection` names takes nothing away: neither where its body ends, so that a second request
+        hides in it whose answer another caller gets, nor why it is refused (RFC 9110, section 7.6.1)."""
+        long = f"Content-Length: {len(HIDDEN_REQUEST)}\r\n"
+        for name, head, body in (
+                ("a body whose length is of the connection", f"Connection: content-length\r\n{long}", HIDDEN_REQUEST),
+                ("in capitals, in a list", f"Connection: keep-alive, CONTENT-LENGTH\r\n{long}", HIDDEN_REQUEST),
+                ("in two headers", f"Connection: te\r\nConnection: Content-Length,\r\n{long}", HIDDEN_REQUEST),
+                ("a body in chunks", "Connection: transfer-encoding\r\nTransfer-Encoding: chunked\r\n",
+                 in_one_chunk(HIDDEN_REQUEST)),
+                ("chunks and a length", f"Connection: content-length\r\n{long}Transfer-Encoding: chunked\r\n",
+                 in_one_chunk(b"{}") + HIDDEN_REQUEST)):
+            with self.running(environments=2, timeout=10) as (up, caller):
+                caller.invoke("f", {"warm": True})
+                raw_answers(up.endpoint, f"GET /_local/stats HTTP/1.1\r\nHost: a\r\n{head}\r\n".encode() + body, 0.2)
+                seen = [json.loads(caller.invoke("f", {"whose": number})[2]) for number in range(3)]
+                self.check(f"{name}: each caller gets its own answer", seen, [{"whose": number} for number in range(3)])
+                until(lambda: up.count(r"\[f/\d\] \S+ ok") >= 4, 30)
+                time.sleep(1)
+                self.check(f"{name}: what it hides is not invoked", up.count(r"\[f/\d\] \S+ ok"), 4)
+        with self.running() as (up, caller):
+            before = len(caller.ask("GET", "/_local/history")[2].splitlines())
+            old, length = INVOKE.replace("1.1", "1.0"), "Content-Length: 2\r\n\r\n{}"
+            for head, wanted in (
+                    (f"{INVOKE}Host: a\r\nOrigin: https://evil\r\nConnection: close, origin\r\n{length}", b"403"),
+                    (f"{INVOKE}Host: a\r\nSec-Fetch-Site: cross-site\r\nConnection: sec-fetch-site\r\n{length}",
+                     b"403"),
+                    (f"{INVOKE}Host: evil.example\r\nConnection: close, host\r\n{length}", b"403"),
+                    (f"{old}Host: evil.example\r\nConnection: host\r\n{length}", b"403"),
+                    (f"{old}Connection: host\r\nHost: evil.example\r\nHost: a\r\n{length}", b"400"),
+                    ("GET /_local/history HTTP/1.0\r\nHost: evil.example\r\nConnection: host\r\n\r\n", b"403"),
+                    (f"{INVOKE}Host: a\r\nX-Amz-Invocation-Type: Nonsense\r\n"
+                     f"Connection: x-amz-invocation-type\r\n{length}", b"400")):
+                self.check(f"{head!r} is refused", raw_answers(up.endpoint, head.encode())[9:12], wanted)
+            self.check("nothing is invoked", len(caller.ask("GET", "/_local/history")[2].splitlines()), before)
+
+    def test_peers_that_go(self):
+        """A connection whose caller has gone is closed on both sides; one whose caller has ended its own side is
+        answered."""
+        def sockets():
+            folder = f"/proc/{up.process.pid}/fd"
+            return sum(os.readlink(os.path.join(folder, name)).startswith("socket:") for name in os.listdir(folder))
+
+        with self.running(environments=2, timeout=20) as (up, caller):
+            caller.invoke("f", {})
+            parts = urllib.parse.urlsplit(up.endpoint)
+            body = json.dumps({"do": "sleep", "seconds": 4}).encode()
+            head = f"POST {invoke_path('f')} HTTP/1.1\r\nHost: a\r\nContent-Length: {len(body)}\r\n\r\n".encode()
+            time.sleep(0.5)
+            before = sockets()
+            peer = socket.create_connection((parts.hostname, parts.port))
+            peer.sendall(head + body)
+            until(lambda: sockets() > before, 3)
+            peer.setsockopt(socket.SOL_SOCKET, socket.SO_LINGER, struct.pack("ii", 1, 0))  # (it is reset)
+            peer.close()
+            self.check("a caller that has gone is forgotten on both sides", until(lambda: sockets() <= before, 3))
+            with socket.create_connection((parts.hostname, parts.port)) as peer:
+                peer.sendall(head + body)
+                peer.shutdown(socket.SHUT_WR)
+                peer.settimeout(20)
+                self.check("one that has ended its own side is answered", peer.recv(65536).startswith(b"HTTP/1.1 200"))
+
+    def test_samples(self):
+        """Each sample is JSON with the member by which its kind is known, and examples/invoke.sh takes it by name."""
+        known = {"s3": ("Records", 0, "s3", "bucket", "name"), "sqs": ("Records", 0, "body"),
+                 "sns": ("Records", 0, "Sns", "Message"),
+                 "schedule": ("detail-type",), "eventbridge": ("detail",), "apigateway_1.0": ("requestContext",
+                                                                                              "identity"),
+                 "apigateway_2.0": ("requestContext", "http")}
+        folder = os.path.join(ROOT, "examples", "events")
+        self.check("the samples", sorted(os.listdir(folder)), sorted(f"{name}.json" for name in known))
+        with self.running() as (up, _):
+            for name, path in known.items():
+                done = subprocess.run([os.path.join(ROOT, "examples", "invoke.sh"), "f", name,
+                                       up.endpoint.partition("//")[2]],
+                                      stdout=subprocess.PIPE, timeout=30)
+                value = json.loads(done.stdout.partition(b"\r\n\r\n")[2])
+                with open(os.path.join(folder, f"{name}.json")) as file:
+                    self.check(f"the sample {name} comes to the function", value, json.load(file))
+                for step in path:
+                    value = value[step]
+                self.check(f"the sample {name} is of its kind", bool(value) or value == {})
+
+    def test_mistakes(self):
+        for whole, wanted in (
+                ({"asynchronous": 1}, "asynchronous must be true, or an object, not 1"),
+                ({"asynchronous": {"retry": 1}}, "asynchronous: unknown member retry, did you mean retries?"),
+                ({"asynchronous": {"retries": 3}}, "asynchronous: retries must be a whole number from 0 to 2, not 3"),
+                ({"asynchronous": {"onFailure": "g"}}, 'asynchronous: onFailure: there is no function "g"'),
+                ({"asynchronus": True}, "unknown member asynchronus, did you mean asynchronous?")):
+            up = Up(whole=whole)
+            self.check(f"a mistake: {whole}", (up.end(None), up.lines), ((2, []), [f"up: up.json: {wanted}"]))

@@ -1,27 +1,22 @@
-#!/usr/bin/env python3
 """Asynchronous invocations under a mixed load, with runtimes that crash, hang and are restarted: no event is lost, and
 none runs again unless its run before failed. Then what the front adds to a synchronous call. The program is
-LAMBDA_LOCAL_PROGRAM, else ./lambda_local. Ends with 'N passed, M failed'.
+LAMBDA_LOCAL_PROGRAM, else ./lambda_local.
 
-usage: tests/tools/events_load.py [SECONDS]   (default: 60)"""
+Variable: LOAD_SECONDS is how long the load goes on (60)."""
 import json
 import os
 import random
 import re
 import statistics
-import sys
 import threading
 import time
 from collections import Counter
 
-ROOT = os.path.dirname(os.path.dirname(os.path.dirname(os.path.realpath(__file__))))
-sys.path[:0] = [os.path.join(ROOT, "tools"), os.path.join(ROOT, "tests", "library")]
-import counted  # noqa: E402
-from counted import check  # noqa: E402
-from events_kit import READY, READY_SECONDS, Caller, behind, invoke_path  # noqa: E402
-from up_kit import Up, until  # noqa: E402
+from tests.library.cases import Case
+from tests.library.events_kit import READY, READY_SECONDS, Caller, behind, invoke_path
+from tests.library.up_kit import Up, until
 
-SECONDS = float(sys.argv[1]) if len(sys.argv) > 1 else 60
+SECONDS = float(os.environ.get("LOAD_SECONDS", "60"))
 ENVIRONMENTS, SENDERS, AHEAD, DRAIN = 4, 3, 60, 600
 # Each event has a file, to which each of its runs adds a line at its begin and one for its end, with its invocation.
 APP = '''import os, time
@@ -166,41 +161,6 @@ def text_of(*path):
         return ""
 
 
-def mixed_load():
-    up = Up(*READY, "--log", "json", app=APP, whole={"asynchronous": {"delays": [0.1, 0.3], "onFailure": "sink"}},
-            functions=[{"name": "f", "runtime": "python", "handler": "app.run", "environments": ENVIRONMENTS,
-                        "timeout": 2},
-                       {"name": "sink", "runtime": "python", "handler": "app.sink"}])
-    for name in ("runs", "records"):
-        os.mkdir(os.path.join(up.at, name))
-    check("all is ready", up.until('"kind": "ready"', READY_SECONDS))
-    load = Load(up)
-    load.run()
-    check("every event comes to an end", until(lambda: load.open_events() == 0, DRAIN), shown=load.open_events())
-    until(lambda: len(os.listdir(os.path.join(up.at, "records"))) >= up.count("its record goes to sink"), 60)
-    until(lambda: load.open_events() >= 0 and load.all_answered(), 60)
-    # (What was reported of each run is known only once the event has ended.)
-    stories = [story for story in (Story(load, number) for number in load.sent) if story.has_ended]
-    for name, fault in (("each succeeds once, after up to two failures, or fails three times",
-                         lambda story: not story.is_whole),
-                        ("each run is an attempt that was told, and none runs again unless it failed before",
-                         Story.runs_untold),
-                        ("the service answered each as it was told", Story.differs),
-                        ("each has done its work, or its record has come", Story.is_lost),
-                        ("no record comes twice", lambda story: len(story.records) > 1)):
-        wrong = [story for story in stories if fault(story)]
-        check(name, (len(wrong), wrong[:MOST_SHOWN]), (0, []))
-    check("no other answer came", load.wrong, [])
-    check("it was a load", (len(load.sent) > SECONDS, load.invoked > SECONDS / 10, load.spun_down > SECONDS / 100),
-          (True, True, True))
-    runs = Counter(f"{story.ends.get(invocation, 'begun')}, {answer}"
-                   for story in stories for invocation, answer in story.answers.items())
-    print(f"     {len(stories)} events in {SECONDS:g} s, {sum(bool(story.records) for story in stories)} of them given "
-          f"up; runs with their answers {json.dumps(dict(runs))}; {load.invoked} invocations; "
-          f"{load.spun_down} spindowns", flush=True)
-    check("it ends in order, and leaves nothing", up.end(), (0, []))
-
-
 def medians(callers, count):
     """The median milliseconds of a call of each, which take turns."""
     taken = {name: [] for name in callers}
@@ -213,19 +173,53 @@ def medians(callers, count):
     return {name: statistics.median(times) for name, times in taken.items()}
 
 
-def added_time():
-    up = Up(*READY, functions=[{"name": "f", "runtime": "python", "handler": "app.run"}], app=APP,
-            whole={"asynchronous": True})
-    check("all is ready", up.until("[up] ready", READY_SECONDS))
-    with Caller(up.endpoint) as front, Caller(behind(up)) as direct:
-        medians({"front": front, "direct": direct}, 100)
-        rounds = [medians({"front": front, "direct": direct}, 300) for _ in range(5)]
-    added = sorted(one["front"] - one["direct"] for one in rounds)
-    print("     p50 in ms: " + json.dumps([{name: round(time_, 3) for name, time_ in one.items()} for one in rounds]),
-          flush=True)
-    check("the front adds less than 1 ms at p50", added[len(added) // 2] < 1.0, shown=added)
-    check("it ends in order, and leaves nothing", up.end(), (0, []))
+class EventsLoad(Case):
+    def test_mixed_load(self):
+        up = Up(*READY, "--log", "json", app=APP, whole={"asynchronous": {"delays": [0.1, 0.3], "onFailure": "sink"}},
+                functions=[{"name": "f", "runtime": "python", "handler": "app.run", "environments": ENVIRONMENTS,
+                            "timeout": 2},
+                           {"name": "sink", "runtime": "python", "handler": "app.sink"}])
+        for name in ("runs", "records"):
+            os.mkdir(os.path.join(up.at, name))
+        self.check("all is ready", up.until('"kind": "ready"', READY_SECONDS))
+        load = Load(up)
+        load.run()
+        self.check("every event comes to an end", until(lambda: load.open_events() == 0, DRAIN),
+                   shown=load.open_events())
+        until(lambda: len(os.listdir(os.path.join(up.at, "records"))) >= up.count("its record goes to sink"), 60)
+        until(lambda: load.open_events() >= 0 and load.all_answered(), 60)
+        # (What was reported of each run is known only once the event has ended.)
+        stories = [story for story in (Story(load, number) for number in load.sent) if story.has_ended]
+        for name, fault in (("each succeeds once, after up to two failures, or fails three times",
+                             lambda story: not story.is_whole),
+                            ("each run is an attempt that was told, and none runs again unless it failed before",
+                             Story.runs_untold),
+                            ("the service answered each as it was told", Story.differs),
+                            ("each has done its work, or its record has come", Story.is_lost),
+                            ("no record comes twice", lambda story: len(story.records) > 1)):
+            wrong = [story for story in stories if fault(story)]
+            self.check(name, (len(wrong), wrong[:MOST_SHOWN]), (0, []))
+        self.check("no other answer came", load.wrong, [])
+        self.check("it was a load", (len(load.sent) > SECONDS, load.invoked > SECONDS / 10, load.spun_down > SECONDS
+                                     / 100),
+                   (True, True, True))
+        runs = Counter(f"{story.ends.get(invocation, 'begun')}, {answer}"
+                       for story in stories for invocation, answer in story.answers.items())
+        print(f"     {len(stories)} events in {SECONDS:g} s, {sum(bool(story.records) for story in stories)} of them "
+              f"given up; runs with their answers {json.dumps(dict(runs))}; {load.invoked} invocations; "
+              f"{load.spun_down} spindowns", flush=True)
+        self.check("it ends in order, and leaves nothing", up.end(), (0, []))
 
-
-if __name__ == "__main__":
-    sys.exit(counted.run(added_time, mixed_load))
+    def test_added_time(self):
+        up = Up(*READY, functions=[{"name": "f", "runtime": "python", "handler": "app.run"}], app=APP,
+                whole={"asynchronous": True})
+        self.check("all is ready", up.until("[up] ready", READY_SECONDS))
+        with Caller(up.endpoint) as front, Caller(behind(up)) as direct:
+            medians({"front": front, "direct": direct}, 100)
+            rounds = [medians({"front": front, "direct": direct}, 300) for _ in range(5)]
+        added = sorted(one["front"] - one["direct"] for one in rounds)
+        print("     p50 in ms: " + json.dumps([{name: round(time_, 3) for name, time_ in one.items()}
+                                               for one in rounds]),
+              flush=True)
+        self.check("the front adds less than 1 ms at p50", added[len(added) // 2] < 1.0, shown=added)
+        self.check("it ends in order, and leaves nothing", up.end(), (0, []))

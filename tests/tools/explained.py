@@ -1,7 +1,6 @@
-#!/usr/bin/env python3
 """Checks that `serve` and `replay` say in a sentence why the program refuses with status 2, in a checkout and as an
 installed package has them, and that what they print, their signals and their status are the program's own. The program
-is LAMBDA_LOCAL_PROGRAM, else what ./lambda_local finds. Ends with 'N passed, M failed'."""
+is LAMBDA_LOCAL_PROGRAM, else what ./lambda_local finds."""
 import json
 import os
 import pty
@@ -11,13 +10,11 @@ import sys
 import tempfile
 import time
 
-ROOT = os.path.dirname(os.path.dirname(os.path.dirname(os.path.realpath(__file__))))
-sys.path[:0] = [os.path.join(ROOT, "tools"), os.path.join(ROOT, "tests", "library")]
-import counted  # noqa: E402
-from counted import check  # noqa: E402
-from lambda_local.service import free_ports  # noqa: E402
-from trees import plain, program  # noqa: E402
-from up_kit import children, command_of, until  # noqa: E402
+from lambda_local.service import free_ports
+from tests import ROOT
+from tests.library.cases import Case
+from tests.library.trees import plain, program
+from tests.library.up_kit import children, command_of, until
 
 PROGRAM = program()
 LAUNCHERS = {"the launcher": [os.path.join(ROOT, "lambda_local")],
@@ -36,154 +33,154 @@ def ended(words, stdin, **more):
     return done.returncode, done.stdout, done.stderr.decode().splitlines()
 
 
-def replays(folder):
-    opening, path = json.dumps(CONFIGURATION), os.path.join(folder, "script.txt")
-    bad = {**CONFIGURATION, "functions": [{**CONFIGURATION["functions"][0], "timeout": 0}]}
-    for name, text, line, told in (
-            ("a line that is not a call", f"{opening}\n0 next 1\n5 invoke f - - =1\nhello\n", "script: line 4",
-             "line 4 is not a call: `hello`: it must begin with its moment"),
-            ("a call that is none", f"{opening}\n0 nextt 1\n", "script: line 2",
-             "line 2 is not a call: `0 nextt 1`: after its moment it must have one of invoke, next"),
-            ("a configuration", json.dumps(bad) + "\n0 next 1\n", "configuration: BadTimeout",
-             "line 1, the configuration: function f: timeout must be from 1 to 900 seconds, not 0")):
+class Explained(Case):
+    def setUp(self):
+        folder = tempfile.TemporaryDirectory()
+        self.addCleanup(folder.cleanup)
+        self.folder = folder.name
+
+    def test_replays(self):
+        opening, path = json.dumps(CONFIGURATION), os.path.join(self.folder, "script.txt")
+        bad = {**CONFIGURATION, "functions": [{**CONFIGURATION["functions"][0], "timeout": 0}]}
+        for name, text, line, told in (
+                ("a line that is not a call", f"{opening}\n0 next 1\n5 invoke f - - =1\nhello\n", "script: line 4",
+                 "line 4 is not a call: `hello`: it must begin with its moment"),
+                ("a call that is none", f"{opening}\n0 nextt 1\n", "script: line 2",
+                 "line 2 is not a call: `0 nextt 1`: after its moment it must have one of invoke, next"),
+                ("a configuration", json.dumps(bad) + "\n0 next 1\n", "configuration: BadTimeout",
+                 "line 1, the configuration: function f: timeout must be from 1 to 900 seconds, not 0")):
+            with open(path, "w") as file:
+                file.write(text)
+            with open(path) as file:
+                own = ended([PROGRAM], file)
+            for launcher, words in LAUNCHERS.items():
+                for more in ([], ["replay"]):
+                    with open(path) as file:
+                        status, output, said = ended([*words, *more], file)
+                    self.check(f"{launcher} {' '.join(more)}: {name}", (
+                        status, output == own[1], said[0] if said else None, len(said),
+                        told in (said[-1] if said else "")), (2, True, line, 2, True))
+                piped = subprocess.run(words, input=text.encode(), capture_output=True, env=environ())
+                said = piped.stderr.decode().splitlines()
+                self.check(f"{launcher}: {name}, through a pipe", (piped.returncode, piped.stdout == own[1], said[:-1],
+                                                                   told in (said[-1] if said else "")),
+                           (2, True, own[2], True))
+        self.long_pipes(opening)
+
+    def long_pipes(self, opening):
+        """A fault far behind what is kept of the beginning, and a script without one."""
+        ticks = "".join(f"{moment} tick\n" for moment in range(1_200_000))
+        opening = json.dumps({**json.loads(opening), "maxEntries": 10_000_000})
+        for launcher, words in LAUNCHERS.items():
+            done = subprocess.run(words, input=f"{opening}\n{ticks}hello\n{ticks}".encode(), stdout=subprocess.DEVNULL,
+                                  stderr=subprocess.PIPE, env=environ())
+            said = done.stderr.decode().splitlines()
+            self.check(f"{launcher}: a line far behind", (done.returncode, said[0],
+                                                          "line 1200002 is not a call: `hello`"
+                                                          in said[-1]), (2, "script: line 1200002", True))
+            child = subprocess.Popen(words, stdin=subprocess.PIPE, stdout=subprocess.PIPE, stderr=subprocess.PIPE,
+                                     env=environ())
+            child.stdin.write(f"{opening}\n0 next 1\n5 invoke f - - =1\n".encode())
+            child.stdin.flush()
+            child.stdin.close()
+            self.check(f"{launcher}: what a pipe gives is answered", b"deliver" in child.stdout.readline())
+            self.check(f"{launcher}: and its end is the end", (child.wait(20), child.stderr.read()), (0, b""))
+
+    def test_right_ones(self):
+        path = os.path.join(self.folder, "right.txt")
         with open(path, "w") as file:
-            file.write(text)
+            file.write(json.dumps(CONFIGURATION) + "\n" + "".join(f"{moment} tick\n" for moment in range(1000))
+                       + "1000 next 1\n1001 invoke f - - =1\n1002 response 1 1 =2\n")
         with open(path) as file:
             own = ended([PROGRAM], file)
+        self.check("a script is answered", (own[0], own[1].count(b"\n") > 2, own[2]), (0, True, []))
         for launcher, words in LAUNCHERS.items():
-            for more in ([], ["replay"]):
-                with open(path) as file:
-                    status, output, said = ended([*words, *more], file)
-                check(f"{launcher} {' '.join(more)}: {name}", (
-                    status, output == own[1], said[0] if said else None, len(said),
-                    told in (said[-1] if said else "")), (2, True, line, 2, True))
-            piped = subprocess.run(words, input=text.encode(), capture_output=True, env=environ())
-            said = piped.stderr.decode().splitlines()
-            check(f"{launcher}: {name}, through a pipe", (piped.returncode, piped.stdout == own[1], said[:-1],
-                                                          told in (said[-1] if said else "")), (2, True, own[2], True))
-    long_pipes(opening)
-
-
-def long_pipes(opening):
-    """A fault far behind what is kept of the beginning, and a script without one."""
-    ticks = "".join(f"{moment} tick\n" for moment in range(1_200_000))
-    opening = json.dumps({**json.loads(opening), "maxEntries": 10_000_000})
-    for launcher, words in LAUNCHERS.items():
-        done = subprocess.run(words, input=f"{opening}\n{ticks}hello\n{ticks}".encode(), stdout=subprocess.DEVNULL,
-                              stderr=subprocess.PIPE, env=environ())
-        said = done.stderr.decode().splitlines()
-        check(f"{launcher}: a line far behind", (done.returncode, said[0], "line 1200002 is not a call: `hello`"
-                                                 in said[-1]), (2, "script: line 1200002", True))
-        child = subprocess.Popen(words, stdin=subprocess.PIPE, stdout=subprocess.PIPE, stderr=subprocess.PIPE,
-                                 env=environ())
-        child.stdin.write(f"{opening}\n0 next 1\n5 invoke f - - =1\n".encode())
-        child.stdin.flush()
-        child.stdin.close()
-        check(f"{launcher}: what a pipe gives is answered", b"deliver" in child.stdout.readline())
-        check(f"{launcher}: and its end is the end", (child.wait(20), child.stderr.read()), (0, b""))
-
-
-def right_ones(folder):
-    path = os.path.join(folder, "right.txt")
-    with open(path, "w") as file:
-        file.write(json.dumps(CONFIGURATION) + "\n" + "".join(f"{moment} tick\n" for moment in range(1000))
-                   + "1000 next 1\n1001 invoke f - - =1\n1002 response 1 1 =2\n")
-    with open(path) as file:
-        own = ended([PROGRAM], file)
-    check("a script is answered", (own[0], own[1].count(b"\n") > 2, own[2]), (0, True, []))
-    for launcher, words in LAUNCHERS.items():
-        with open(path) as file:
-            check(f"{launcher}: a script in a file is answered as the program does", ended(words, file), own)
-        with open(path) as file:
-            child = subprocess.Popen(words, stdin=file, stdout=subprocess.PIPE, stderr=subprocess.PIPE, env=environ())
-            child.stdout.close()
-            child.wait()
-            check(f"{launcher}: a reader that has gone", child.returncode, 4)
-            child.stderr.close()
-
-
-def serving(folder):
-    path = os.path.join(folder, "service.json")
-    bad = {**CONFIGURATION, "invokePort": 19001}
-    for name, text, more, line, told in (
-            ("a port twice", json.dumps(bad, indent=2), {}, "configuration: DuplicatePort", "19001"),
-            ("no JSON", "{", {}, "configuration: NotJson", "this is not JSON"),
-            ("a patience that is no number", json.dumps(CONFIGURATION), {"LAMBDA_LOCAL_PATIENCE_MS": "abc"}, "usage: ",
-             "LAMBDA_LOCAL_PATIENCE_MS=abc: write a whole number of milliseconds from 0 to 2000"),
-            ("a host with a port", json.dumps(CONFIGURATION), {"LAMBDA_LOCAL_HOSTS": "a:80"}, "usage: ",
-             "LAMBDA_LOCAL_HOSTS=a:80: write names of letters")):
-        with open(path, "w") as file:
-            file.write(text)
-        for launcher, words in LAUNCHERS.items():
-            status, output, said = ended([*words, "serve", path], subprocess.DEVNULL, **more)
-            check(f"{launcher} serve: {name}", (status, output, len(said), said[0].startswith(line) if said else None,
-                                                told in (said[-1] if said else "")), (2, b"", 2, True, True))
-    for launcher, words in LAUNCHERS.items():
-        status, _, said = ended([*words, "serve", "/nowhere"], subprocess.DEVNULL)
-        check(f"{launcher} serve: a file that is not there", (status, said), (4, ["input: failed"]))
-
-
-def signals(folder):
-    """What serves is the process itself; a replay of a file ends with it."""
-    invoke_port, port = free_ports(2, ())
-    path, long = os.path.join(folder, "service.json"), os.path.join(folder, "long.txt")
-    with open(path, "w") as file:
-        json.dump({**CONFIGURATION, "invokePort": invoke_port,
-                   "functions": [{"name": "f", "ports": [port], "timeout": 3}]}, file)
-    with open(long, "w") as file:
-        file.write(json.dumps({**CONFIGURATION, "maxEntries": 10_000_000}) + "\n"
-                   + "".join(f"{moment} tick\n" for moment in range(3_000_000)))
-    for launcher, words in LAUNCHERS.items():
-        child = subprocess.Popen([*words, "serve", path], stderr=subprocess.PIPE, env=environ())
-        listening = any(b"listening" in line for line in iter(child.stderr.readline, b""))
-        check(f"{launcher} serve is the program", (listening, command_of(child.pid).split("\0")[0]), (True, PROGRAM))
-        child.send_signal(signal.SIGTERM)
-        check(f"{launcher} serve: SIGTERM", child.wait(10), -signal.SIGTERM)
-        child.stderr.close()
-        for number in (signal.SIGTERM, signal.SIGINT, signal.SIGHUP):
-            waiting, kept = os.pipe()  # (nothing comes through it)
-            child = subprocess.Popen(words, stdin=waiting, stdout=subprocess.DEVNULL, stderr=subprocess.PIPE,
-                                     env=environ())
-            until(lambda: any(command_of(pid).startswith(PROGRAM) for pid in children(child.pid)), 20)
-            time.sleep(0.1)
-            child.send_signal(number)
-            check(f"{launcher} replay of a pipe: {number.name}", (child.wait(10), child.stderr.read()), (-number, b""))
-            child.stderr.close()
-            os.close(waiting)
-            os.close(kept)
-            with open(long) as file:
-                child = subprocess.Popen(words, stdin=file, stdout=subprocess.DEVNULL, stderr=subprocess.PIPE,
+            with open(path) as file:
+                self.check(f"{launcher}: a script in a file is answered as the program does", ended(words, file), own)
+            with open(path) as file:
+                child = subprocess.Popen(words, stdin=file, stdout=subprocess.PIPE, stderr=subprocess.PIPE,
                                          env=environ())
-            until(lambda: any(command_of(pid).startswith(PROGRAM) for pid in children(child.pid)), 20)
-            below = children(child.pid)
-            time.sleep(0.1)
-            child.send_signal(number)
-            check(f"{launcher} replay: {number.name}", (child.wait(10), child.stderr.read(), len(below) > 0,
-                                                        [pid for pid in below if command_of(pid)]),
-                  (-number, b"", True, []))
+                child.stdout.close()
+                child.wait()
+                self.check(f"{launcher}: a reader that has gone", child.returncode, 4)
+                child.stderr.close()
+
+    def test_serving(self):
+        path = os.path.join(self.folder, "service.json")
+        bad = {**CONFIGURATION, "invokePort": 19001}
+        for name, text, more, line, told in (
+                ("a port twice", json.dumps(bad, indent=2), {}, "configuration: DuplicatePort", "19001"),
+                ("no JSON", "{", {}, "configuration: NotJson", "this is not JSON"),
+                ("a patience that is no number", json.dumps(CONFIGURATION), {"LAMBDA_LOCAL_PATIENCE_MS": "abc"},
+                 "usage: ",
+                 "LAMBDA_LOCAL_PATIENCE_MS=abc: write a whole number of milliseconds from 0 to 2000"),
+                ("a host with a port", json.dumps(CONFIGURATION), {"LAMBDA_LOCAL_HOSTS": "a:80"}, "usage: ",
+                 "LAMBDA_LOCAL_HOSTS=a:80: write names of letters")):
+            with open(path, "w") as file:
+                file.write(text)
+            for launcher, words in LAUNCHERS.items():
+                status, output, said = ended([*words, "serve", path], subprocess.DEVNULL, **more)
+                self.check(f"{launcher} serve: {name}", (status, output, len(said), said[0].startswith(line) if said
+                                                         else None,
+                                                         told in (said[-1] if said else "")), (2, b"", 2, True, True))
+        for launcher, words in LAUNCHERS.items():
+            status, _, said = ended([*words, "serve", "/nowhere"], subprocess.DEVNULL)
+            self.check(f"{launcher} serve: a file that is not there", (status, said), (4, ["input: failed"]))
+
+    def test_signals(self):
+        """What serves is the process itself; a replay of a file ends with it."""
+        invoke_port, port = free_ports(2, ())
+        path, long = os.path.join(self.folder, "service.json"), os.path.join(self.folder, "long.txt")
+        with open(path, "w") as file:
+            json.dump({**CONFIGURATION, "invokePort": invoke_port,
+                       "functions": [{"name": "f", "ports": [port], "timeout": 3}]}, file)
+        with open(long, "w") as file:
+            file.write(json.dumps({**CONFIGURATION, "maxEntries": 10_000_000}) + "\n"
+                       + "".join(f"{moment} tick\n" for moment in range(3_000_000)))
+        for launcher, words in LAUNCHERS.items():
+            child = subprocess.Popen([*words, "serve", path], stderr=subprocess.PIPE, env=environ())
+            listening = any(b"listening" in line for line in iter(child.stderr.readline, b""))
+            self.check(f"{launcher} serve is the program", (listening, command_of(child.pid).split("\0")[0]),
+                       (True, PROGRAM))
+            child.send_signal(signal.SIGTERM)
+            self.check(f"{launcher} serve: SIGTERM", child.wait(10), -signal.SIGTERM)
             child.stderr.close()
+            for number in (signal.SIGTERM, signal.SIGINT, signal.SIGHUP):
+                waiting, kept = os.pipe()  # (nothing comes through it)
+                child = subprocess.Popen(words, stdin=waiting, stdout=subprocess.DEVNULL, stderr=subprocess.PIPE,
+                                         env=environ())
+                until(lambda: any(command_of(pid).startswith(PROGRAM) for pid in children(child.pid)), 20)
+                time.sleep(0.1)
+                child.send_signal(number)
+                self.check(f"{launcher} replay of a pipe: {number.name}", (child.wait(10), child.stderr.read()),
+                           (-number, b""))
+                child.stderr.close()
+                os.close(waiting)
+                os.close(kept)
+                with open(long) as file:
+                    child = subprocess.Popen(words, stdin=file, stdout=subprocess.DEVNULL, stderr=subprocess.PIPE,
+                                             env=environ())
+                until(lambda: any(command_of(pid).startswith(PROGRAM) for pid in children(child.pid)), 20)
+                below = children(child.pid)
+                time.sleep(0.1)
+                child.send_signal(number)
+                self.check(f"{launcher} replay: {number.name}", (child.wait(10), child.stderr.read(), len(below) > 0,
+                                                                 [pid for pid in below if command_of(pid)]),
+                           (-number, b"", True, []))
+                child.stderr.close()
 
-
-def terminals(_folder):
-    """Alone on a terminal there is nothing to replay: the help is printed."""
-    for launcher, words in LAUNCHERS.items():
-        above, below = pty.openpty()
-        done = subprocess.run(words, stdin=below, capture_output=True, text=True, timeout=20, env=environ())
-        os.close(above)
-        os.close(below)
-        check(f"{launcher} alone on a terminal", (done.returncode, done.stdout.startswith("usage: lambda_local serve")),
-              (0, True))
-        for word, wanted in (("help", "usage: lambda_local serve"), ("version", "lambda_local"), ("-v", "lambda_local"),
-                             ("-V", "lambda_local")):
-            done = subprocess.run([*words, word], capture_output=True, text=True, timeout=20, env=environ())
-            check(f"{launcher} {word}", (done.returncode, done.stdout.startswith(wanted)), (0, True))
-
-
-def all_of_them():
-    with tempfile.TemporaryDirectory() as folder:
-        for part in (replays, right_ones, serving, signals, terminals):
-            part(folder)
-
-
-if __name__ == "__main__":
-    sys.exit(counted.run(all_of_them))
+    def test_terminals(self):
+        """Alone on a terminal there is nothing to replay: the help is printed."""
+        for launcher, words in LAUNCHERS.items():
+            above, below = pty.openpty()
+            done = subprocess.run(words, stdin=below, capture_output=True, text=True, timeout=20, env=environ())
+            os.close(above)
+            os.close(below)
+            self.check(f"{launcher} alone on a terminal",
+                       (done.returncode, done.stdout.startswith("usage: lambda_local serve")),
+                       (0, True))
+            for word, wanted in (("help", "usage: lambda_local serve"), ("version", "lambda_local"),
+                                 ("-v", "lambda_local"),
+                                 ("-V", "lambda_local")):
+                done = subprocess.run([*words, word], capture_output=True, text=True, timeout=20, env=environ())
+                self.check(f"{launcher} {word}", (done.returncode, done.stdout.startswith(wanted)), (0, True))

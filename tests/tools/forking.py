@@ -1,16 +1,11 @@
-#!/usr/bin/env python3
 """Checks Python runtimes that ./lambda_local up forks from a process with their imports: each is what a fresh
 interpreter would be, ends as one would, is below the guard, and shares nothing with the others. Ends with 'N passed, M
 failed'."""
 import os
 import signal
-import sys
 
-ROOT = os.path.dirname(os.path.dirname(os.path.dirname(os.path.realpath(__file__))))
-sys.path[:0] = [os.path.join(ROOT, "tools"), os.path.join(ROOT, "tests", "library")]
-import counted  # noqa: E402
-from counted import check  # noqa: E402
-from up_kit import Up, children, command_of, lives, until  # noqa: E402
+from tests.library.cases import Case
+from tests.library.up_kit import Up, children, command_of, lives, until
 
 APP = r'''import os, random, sys
 LOADED = sorted(sys.modules)
@@ -87,96 +82,92 @@ def again(up):
     until(lambda: up.count("exited") > seen, 20)
 
 
-def same_as_fresh():
-    seen = {}
-    for switch in ("0", "1"):
-        up = up_of(environ={**os.environ, "LAMBDA_LOCAL_FORK": switch})
-        up.until("ready")
-        again(up)
-        again(up)
-        seen[switch] = up.invoke(patience=20, do="describe")[0]
-        check(f"LAMBDA_LOCAL_FORK={switch}", with_its_line(up) != [], switch == "1")
-        main = up.invoke(patience=20, do="main")[0]
-        check("the runtime is the main module", main, ["__main__", "runtime.py", True, True])
-        check("nothing is left", up.end(), (0, []))
-    fresh, other = seen["0"], seen["1"]
-    # (UP.json's folder and the service's ports are those of another run)
-    for place in (fresh, other):
-        for name in ("LAMBDA_LOCAL_FORK", "LAMBDA_LOCAL_PROCESS", "LAMBDA_TASK_ROOT", "PWD"):
-            place["values"].pop(name, None)
-        place["values"] = {name: value for name, value in place["values"].items() if "127.0.0.1" not in value}
-        place["path"], place["directory"] = place["path"][1:], place["path"][0] == place["directory"]
-    for name in sorted(fresh):
-        check(f"a forked runtime's {name} is a fresh one's", other[name], fresh[name])
-
-
-def apart():
-    up = up_of(environments=4)
-    up.until("ready")
-    check("of four environments three are forked, by a fourth process", len(with_its_line(up)), 4)
-    draws = {}
-    for _ in range(60):
-        pid, number, _ = up.invoke(patience=20, do="random")[0]
-        draws.setdefault(pid, number)
-    check("no two draw the same random number", len(set(draws.values())), len(draws))
-    for _ in range(2):
-        again(up)
-    counts = [up.invoke(patience=20, do="count")[0] for _ in range(3)]
-    check("each has its handler's own state", counts[0] in (1, 2, 3) and max(counts) <= 3)
-    up.end()
-
-
-def ends():
-    up = up_of()
-    up.until("ready")
-    again(up)
-    for do, said in (("crash", "exit status 7"), ("exit", "exit status 5"), ("signal", "signal 11"),
-                     ("later", "exit status 9")):
-        up.invoke(patience=20, do=do)
-        check(f"{do}: its end is told", up.until(said, 20))
-    check("an exit ends as an interpreter's does", [up.has(text) for text in (
-        "a thread that is waited for", "at the end", "what was not written yet")], [True, True, True])
-    child = up.invoke(patience=20, do="child")[0]
-    pid = up.invoke(patience=20)[0]
-    check("it is below the guard", parent_of(parent_of(pid)), up.process.pid)
-    check("what it has started lives", lives(child))
-    up.invoke(patience=20, do="hang")
-    check("and ends with it", until(lambda: not lives(child), 10))
-    pid = up.invoke(patience=20)[0]
-    for forker in forkers(up):
-        os.kill(forker, signal.SIGKILL)
-    again(up)
-    check("without the one that forks, a fresh one is started", isinstance(up.invoke(patience=20)[0], int))
-    pid = up.invoke(patience=20)[0]
-    up.process.kill()
-    check("what is forked ends with lambda_local up", until(lambda: not lives(pid), 10))
-    up.end(None)
-
-
-def kinds():
-    """Functions with other variables have other interpreters; one that has threads at its start forks nothing."""
-    two = [{**FUNCTION, "name": name, "environments": 2, "variables": {"PYTHONHASHSEED": seed}}
-           for name, seed in (("f", "1"), ("g", "2"))]
-    up = up_of(functions=two)
-    up.until("ready")
-    seeds = {name: {up.invoke(name, 20, do="random")[0][2] for _ in range(6)} for name in ("f", "g")}
-    check("each function has its own interpreter's seed", (len(seeds["f"]), len(seeds["g"]), seeds["f"] != seeds["g"]),
-          (1, 1, True))
-    up.end()
-    site = "import threading, time\nthreading.Thread(target=time.sleep, args=(600,), daemon=True).start()\n"
-    for name, text, count in (("that begins with threads", site, 0), ("with the function's own path", "", 2)):
-        up = Up(app=APP, functions=[{**FUNCTION, "environments": 2, "variables": {"PYTHONPATH": "site"}}],
-                prepare=lambda at: (os.mkdir(f"{at}/site"), write(f"{at}/site/sitecustomize.py", text)))  # noqa: B023
-        check(f"an interpreter {name}", (up.until("ready"), len(with_its_line(up))), (True, count))
-        path = up.invoke(patience=20, do="describe")[0]["path"]
-        check("its path", f"{up.at}/site" in path)
-        up.end()
-
-
 def write(path, text):
     with open(path, "w") as file:
         file.write(text)
 
 
-if __name__ == "__main__":
-    sys.exit(counted.run(same_as_fresh, apart, ends, kinds))
+class Forking(Case):
+    def test_same_as_fresh(self):
+        seen = {}
+        for switch in ("0", "1"):
+            up = up_of(environ={**os.environ, "LAMBDA_LOCAL_FORK": switch})
+            up.until("ready")
+            again(up)
+            again(up)
+            seen[switch] = up.invoke(patience=20, do="describe")[0]
+            self.check(f"LAMBDA_LOCAL_FORK={switch}", with_its_line(up) != [], switch == "1")
+            main = up.invoke(patience=20, do="main")[0]
+            self.check("the runtime is the main module", main, ["__main__", "runtime.py", True, True])
+            self.check("nothing is left", up.end(), (0, []))
+        fresh, other = seen["0"], seen["1"]
+        # (UP.json's folder and the service's ports are those of another run)
+        for place in (fresh, other):
+            for name in ("LAMBDA_LOCAL_FORK", "LAMBDA_LOCAL_PROCESS", "LAMBDA_TASK_ROOT", "PWD"):
+                place["values"].pop(name, None)
+            place["values"] = {name: value for name, value in place["values"].items() if "127.0.0.1" not in value}
+            place["path"], place["directory"] = place["path"][1:], place["path"][0] == place["directory"]
+        for name in sorted(fresh):
+            self.check(f"a forked runtime's {name} is a fresh one's", other[name], fresh[name])
+
+    def test_apart(self):
+        up = up_of(environments=4)
+        up.until("ready")
+        self.check("of four environments three are forked, by a fourth process", len(with_its_line(up)), 4)
+        draws = {}
+        for _ in range(60):
+            pid, number, _ = up.invoke(patience=20, do="random")[0]
+            draws.setdefault(pid, number)
+        self.check("no two draw the same random number", len(set(draws.values())), len(draws))
+        for _ in range(2):
+            again(up)
+        counts = [up.invoke(patience=20, do="count")[0] for _ in range(3)]
+        self.check("each has its handler's own state", counts[0] in (1, 2, 3) and max(counts) <= 3)
+        up.end()
+
+    def test_ends(self):
+        up = up_of()
+        up.until("ready")
+        again(up)
+        for do, said in (("crash", "exit status 7"), ("exit", "exit status 5"), ("signal", "signal 11"),
+                         ("later", "exit status 9")):
+            up.invoke(patience=20, do=do)
+            self.check(f"{do}: its end is told", up.until(said, 20))
+        self.check("an exit ends as an interpreter's does", [up.has(text) for text in (
+            "a thread that is waited for", "at the end", "what was not written yet")], [True, True, True])
+        child = up.invoke(patience=20, do="child")[0]
+        pid = up.invoke(patience=20)[0]
+        self.check("it is below the guard", parent_of(parent_of(pid)), up.process.pid)
+        self.check("what it has started lives", lives(child))
+        up.invoke(patience=20, do="hang")
+        self.check("and ends with it", until(lambda: not lives(child), 10))
+        pid = up.invoke(patience=20)[0]
+        for forker in forkers(up):
+            os.kill(forker, signal.SIGKILL)
+        again(up)
+        self.check("without the one that forks, a fresh one is started", isinstance(up.invoke(patience=20)[0], int))
+        pid = up.invoke(patience=20)[0]
+        up.process.kill()
+        self.check("what is forked ends with lambda_local up", until(lambda: not lives(pid), 10))
+        up.end(None)
+
+    def test_kinds(self):
+        """Functions with other variables have other interpreters; one that has threads at its start forks nothing."""
+        two = [{**FUNCTION, "name": name, "environments": 2, "variables": {"PYTHONHASHSEED": seed}}
+               for name, seed in (("f", "1"), ("g", "2"))]
+        up = up_of(functions=two)
+        up.until("ready")
+        seeds = {name: {up.invoke(name, 20, do="random")[0][2] for _ in range(6)} for name in ("f", "g")}
+        self.check("each function has its own interpreter's seed", (len(seeds["f"]), len(seeds["g"]),
+                                                                    seeds["f"] != seeds["g"]),
+                   (1, 1, True))
+        up.end()
+        site = "import threading, time\nthreading.Thread(target=time.sleep, args=(600,), daemon=True).start()\n"
+        for name, text, count in (("that begins with threads", site, 0), ("with the function's own path", "", 2)):
+            up = Up(app=APP, functions=[{**FUNCTION, "environments": 2, "variables": {"PYTHONPATH": "site"}}],
+                    prepare=lambda at: (os.mkdir(f"{at}/site"), write(f"{at}/site/sitecustomize.py",
+                                                                      text)))  # noqa: B023
+            self.check(f"an interpreter {name}", (up.until("ready"), len(with_its_line(up))), (True, count))
+            path = up.invoke(patience=20, do="describe")[0]["path"]
+            self.check("its path", f"{up.at}/site" in path)
+            up.end()

@@ -1,46 +1,42 @@
-#!/usr/bin/env python3
 """Gives each reader of the tools bytes that nobody would write: UP.json, reports of failures, histories and scripts,
 templates, results of events, what functions print, and HTTP (tests/library/http_fuzz.py). A reader may refuse by its
 own fault, in words; nothing else may be raised, no line may have a control character, and none may take long. What a
 failure is minimised to is kept in tests/tools/fuzz.cases with its seed, and tried first from then on.
 
-usage: tests/tools/fuzz.py [--hours N] [--seed N] [PART ..]
-  --hours N  go on for so long (a minute); --seed N  begin with this seed (printed; the days since 1970)
-Without hypothesis (Debian: python3-hypothesis) only the kept cases are tried. Ends with 'N passed, M failed'."""
-import argparse
+Variables: FUZZ_HOURS is for how long all parts together go on (a minute), FUZZ_SEED the first seed (the days since
+1970; it is printed). Without hypothesis (Debian: python3-hypothesis) only the kept cases are tried."""
 import base64
 import contextlib
 import io
 import json
 import os
 import re
-import sys
 import tempfile
 import time
 
-ROOT = os.path.dirname(os.path.dirname(os.path.dirname(os.path.realpath(__file__))))
-sys.path[:0] = [os.path.join(ROOT, "tools"), os.path.join(ROOT, "tests", "library")]
-import counted  # noqa: E402
-import http_fuzz  # noqa: E402
-from counted import check  # noqa: E402
-from lambda_local import from_template, history, outgoing  # noqa: E402
-from lambda_local.configuration import explained, mistakes  # noqa: E402
-from lambda_local.from_template import command as template_command  # noqa: E402
-from lambda_local.from_template.telling import Fault as TemplateFault  # noqa: E402
-from lambda_local.front.events import in_json  # noqa: E402
-from lambda_local.front.payload import Unmappable, reply_of  # noqa: E402
-from lambda_local.json_reader import NotJson, read_json  # noqa: E402
-from lambda_local.life import Life  # noqa: E402
-from lambda_local.rerun import record  # noqa: E402
-from lambda_local.service import Fault  # noqa: E402
-from lambda_local.timeline import read as timeline_read  # noqa: E402
-from lambda_local.up import members, output, reports  # noqa: E402
+from lambda_local import from_template, history, outgoing
+from lambda_local.configuration import explained, mistakes
+from lambda_local.from_template import command as template_command
+from lambda_local.from_template.telling import Fault as TemplateFault
+from lambda_local.front.events import in_json
+from lambda_local.front.payload import Unmappable, reply_of
+from lambda_local.json_reader import NotJson, read_json
+from lambda_local.life import Life
+from lambda_local.rerun import record
+from lambda_local.service import Fault
+from lambda_local.timeline import read as timeline_read
+from lambda_local.up import members, output, reports
+from tests import ROOT
+from tests.library import http_fuzz
+from tests.library.cases import Case
 
 try:
     from hypothesis import HealthCheck, Phase, given, seed, settings
     from hypothesis import strategies as some
 except ImportError:
     some = None
+HOURS = float(os.environ.get("FUZZ_HOURS", "0")) or 1 / 60
+FIRST_SEED = int(os.environ.get("FUZZ_SEED") or time.time() // 86400)
 CASES = os.path.join(ROOT, "tests", "tools", "fuzz.cases")
 SHRINKING = 30.0  # seconds for making a failure small
 LONGEST_SECONDS = 20.0  # of one input, on a machine that does much else
@@ -63,9 +59,6 @@ REPORT = (b'{"errorType":"E","errorMessage":"m","stackTrace":["  File \\"app.py\
           b'["at f (a.js:1:2)",{"path":"m.go","line":3}]}')
 RESULT = (b'{"statusCode":200,"headers":{"a":"b"},"multiValueHeaders":{"c":["d"]},"cookies":["e=f"],"body":"x",'
           b'"isBase64Encoded":false}')
-
-
-# ---- the readers: each takes bytes, and raises nothing ---------------------------------------------------------------
 
 
 def is_a_line(text):
@@ -160,8 +153,6 @@ def fault_of(reader, data):
     return f"takes {took:.0f} s" if took > LONGEST_SECONDS else ""
 
 
-# ---- what they are given ---------------------------------------------------------------------------------------------
-
 WORDS = [b"\0", b"\r\n", b"\n", b"\x1b[2J", b'"\\ud83d"', b"\xff", b"\xc2\x9b", b"\xe2\x80\xae", b"[" * 200,
          b'{"a":' * 150, b"9" * 30, b"9" * 5000, b"-1", b"1e999", b"NaN", b"null", b"true", b"[]", b"{}", b'""', b"%",
          b"%0d%0a", b"%zz", b"# ", b"## ", b" ", b"=", b"-", b"<<: *f", b"&a [*a]", b"*f", b"!Sub ", b"!Ref ", b"${",
@@ -233,43 +224,32 @@ PARTS = {name: (reader, original, inputs_of(original)) for name, reader, origina
 PARTS.update(http_fuzz.parts(some, mutated))
 
 
-def fuzz(name, end, first_seed):
-    """Runs rounds with one seed after the other until the time is over. The number of inputs."""
-    reader, _, inputs = PARTS[name]
-    tried, number = 0, first_seed
-    while time.monotonic() < end:
-        seen = []
+def tried_with(number, reader, inputs, end):
+    """Runs a round with this seed until the time is over. How many inputs it was, and the shortest that breaks the
+    reader, with its fault."""
+    tried, seen = 0, []
 
-        @seed(number)
-        @settings(max_examples=100, deadline=None, database=None, suppress_health_check=list(HealthCheck),
-                  phases=(Phase.generate, Phase.shrink), print_blob=False)
-        @given(inputs)
-        def round_of_inputs(data):
-            nonlocal tried
-            if time.monotonic() > (end + SHRINKING if seen else end):
-                return
-            tried += 1
-            if fault := fault_of(reader, data):
-                seen.append((data, fault))
-                raise AssertionError(fault)
-        try:
-            round_of_inputs()
-        except Exception:  # (also hypothesis' own, if the time was over while it shrank)
-            if not seen:
-                raise
-            data, fault = min(seen, key=lambda one: len(one[0]))
-            keep(name, data, f"seed {number}: {fault}")
-            check(f"{name}, seed {number}: {data[:200]!r}", fault, "")
-            return tried
-        number += 1
-    check(f"{name}: {tried} inputs, seeds {first_seed} to {number - 1}", "", "")
-    return tried
+    @seed(number)
+    @settings(max_examples=100, deadline=None, database=None, suppress_health_check=list(HealthCheck),
+              phases=(Phase.generate, Phase.shrink), print_blob=False)
+    @given(inputs)
+    def round_of_inputs(data):
+        nonlocal tried
+        if time.monotonic() > (end + SHRINKING if seen else end):
+            return
+        tried += 1
+        if fault := fault_of(reader, data):
+            seen.append((data, fault))
+            raise AssertionError(fault)
+    try:
+        round_of_inputs()
+    except Exception:  # (also hypothesis' own, if the time was over while it shrank)
+        if not seen:
+            raise
+    return tried, min(seen, key=lambda one: len(one[0]), default=None)
 
 
-# ---- the cases that are kept -----------------------------------------------------------------------------------------
-
-
-def kept():
+def cases():
     """Each case of the file: the part, and its bytes."""
     if os.path.exists(CASES):
         with open(CASES, encoding="ascii") as file:
@@ -279,44 +259,65 @@ def kept():
                     yield name, base64.b64decode(data)
 
 
+def kept(name):
+    return [data for part, data in cases() if part == name]
+
+
 def keep(name, data, why):
-    if (name, data) not in list(kept()):
+    if data not in kept(name):
         with open(CASES, "a", encoding="ascii") as file:
             file.write(f"{name} {base64.b64encode(data).decode()}  {ascii(why)[1:100]}\n")
 
 
-def cases(names):
-    for name, data in kept():
-        if name in names:
-            check(f"{name}, kept: {data[:60]!r}", fault_of(PARTS[name][0], data), "")
+class Fuzz(Case):
+    """A test a reader."""
 
+    def fuzz(self, name):
+        """Tries what is right, the kept cases, and as many inputs as there is time for."""
+        reader, right, inputs = PARTS[name]
+        self.check(f"{name}: what is right is read", fault_of(reader, right), "")
+        for data in kept(name):
+            self.check(f"{name}, kept: {data[:60]!r}", fault_of(reader, data), "")
+        if some is None:
+            self.skipTest("hypothesis is not here (Debian: apt-get install python3-hypothesis): only the kept cases "
+                          "are tried")
+        tried, number, end = 0, FIRST_SEED, time.monotonic() + 3600 * HOURS / len(PARTS)
+        while time.monotonic() < end:
+            count, broken = tried_with(number, reader, inputs, end)
+            tried += count
+            if broken:
+                data, fault = broken
+                keep(name, data, f"seed {number}: {fault}")
+                return self.check(f"{name}, seed {number}: {data[:200]!r}", fault, "")
+            number += 1
+        self.check(f"{name}: {tried} inputs, seeds {FIRST_SEED} to {number - 1}", "", "")
 
-def arguments():
-    parser = argparse.ArgumentParser(description=__doc__, formatter_class=argparse.RawDescriptionHelpFormatter)
-    parser.add_argument("--hours", type=float, default=1 / 60)
-    parser.add_argument("--seed", type=int, default=int(time.time() // 86400))
-    parser.add_argument("parts", nargs="*", metavar="PART", help=", ".join(PARTS))
-    chosen = parser.parse_args()
-    for name in chosen.parts:
-        if name not in PARTS:
-            parser.error(f"there is no part {name}: there are {', '.join(PARTS)}")
-    return chosen
+    def test_up(self):
+        self.fuzz("up")
 
+    def test_reports(self):
+        self.fuzz("reports")
 
-def main():
-    chosen = arguments()
-    names = chosen.parts or list(PARTS)
-    for name in names:
-        check(f"{name}: what is right is read", fault_of(*PARTS[name][:2]), "")
-    cases(names)
-    if some is None:
-        print("hypothesis is not here (Debian: apt-get install python3-hypothesis): only the kept cases are tried")
-        return counted.end()
-    for left, name in zip(range(len(names), 0, -1), names):
-        share = 3600 * chosen.hours / len(names)
-        fuzz(name, time.monotonic() + share, chosen.seed)
-    return counted.end()
+    def test_histories(self):
+        self.fuzz("histories")
 
+    def test_templates(self):
+        self.fuzz("templates")
 
-if __name__ == "__main__":
-    sys.exit(main())
+    def test_results(self):
+        self.fuzz("results")
+
+    def test_output(self):
+        self.fuzz("output")
+
+    def test_requests(self):
+        self.fuzz("requests")
+
+    def test_responses(self):
+        self.fuzz("responses")
+
+    def test_chunks(self):
+        self.fuzz("chunks")
+
+    def test_written(self):
+        self.fuzz("written")

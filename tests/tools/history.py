@@ -1,44 +1,20 @@
-#!/usr/bin/env python3
 """Checks tools/lambda_local/history.py: entries of a text, and of a service as it goes on. The program is
-LAMBDA_LOCAL_PROGRAM, else ./lambda_local. Ends with 'N passed, M failed'."""
+LAMBDA_LOCAL_PROGRAM, else ./lambda_local."""
 import http.server
-import os
-import sys
 import threading
 
-ROOT = os.path.dirname(os.path.dirname(os.path.dirname(os.path.realpath(__file__))))
-sys.path[:0] = [os.path.join(ROOT, "tools"), os.path.join(ROOT, "tests", "library")]
-import counted  # noqa: E402
-from counted import check  # noqa: E402
-from lambda_local.history import (  # noqa: E402
+from lambda_local.history import (
     Answer, Entry, Follower, NotHistory, count_in, entries_of, opened, request_identifier)
-from lambda_local.json_reader import NotJson  # noqa: E402
-from lambda_local.rerun.record import parsed  # noqa: E402
-from lambda_local.service import Fault, Service, ask  # noqa: E402
+from lambda_local.json_reader import NotJson
+from lambda_local.rerun.record import parsed
+from lambda_local.service import Fault, Service, ask
+from tests.library.cases import Case
 
 REQUEST = "00000000-0000-8000-8001-000000000001"
 # One function, one environment: a poll, an invocation, its response, and the end of a Busy whose runtime does not ask
 # again.
 LINES = ['1 next 1', '5 invoke f - =Root=1%20 ={"a":%201}', f'# 1 0 deliver {REQUEST} 4000 ={{"a":%201}}',
          '9 response 1 1 ="ok"', '# 2 1 output ="ok"', '# 2 2 accepted', '## 4000 expire 1']
-
-
-def texts():
-    first, second, third, fourth = entries_of(LINES)
-    check("a poll that waits", (first, first.own, first.environment), (Entry(0, 1, "next", ("1",), ()), None, 1))
-    check("an invocation's name and payload", (second.function, second.body, second.environment),
-          ("f", b'{"a": 1}', None))
-    check("its delivery", (second.answers, second.answers[0].body),
-          ((Answer(0, "deliver", (REQUEST, "4000", '={"a":%201}')),), b'{"a": 1}'))
-    check("a response", (third.environment, third.count, third.body, third.own.kind), (1, 1, b'"ok"', "accepted"))
-    check("an expiry", (fourth.number, fourth.kind, fourth.environment, fourth.answers), (3, "expire", 1, ()))
-    check("the entries from a number on", [entry.number for entry in entries_of(LINES[3:], 2)], [2, 3])
-    configuration, entries = opened("\n".join(["form 2", '{"functions":[]}', *LINES, ""]))
-    check("a whole history", (configuration, len(list(entries))), ({"functions": []}, 4))
-    check("the count of an identifier", count_in(REQUEST), 1)
-    check("an identifier of a count", request_identifier(0, 1, 1), REQUEST)
-    check("the version takes the place of the salt's bits 12 to 15", request_identifier(0x0123456789ABCDEF, 2, 255),
-          "01234567-89ab-8def-8002-0000000000ff")
 
 
 def refused(read, *words):
@@ -62,32 +38,10 @@ WRONG_LINES = {"a call that is none": "1 dance 1", "no moment": "x next 1", "a f
                "an identifier that is none": "1 next 1\n# 0 0 registered x"}
 
 
-def wrong_histories():
-    for name, line in WRONG_LINES.items():
-        seen = refused(lambda text: list(entries_of(text.split("\n"))), line)
-        check(f"{name} is refused", seen.startswith("this is not a"), True)
-    check("a comment is none", [entry.number for entry in entries_of(["# 1", "1 next 1", "# 0", "#", "# x y z"])], [0])
-    for name, text in {"nothing": "", "5,000 levels": "form 2\n" + "[" * 5000, "a list": "form 2\n[]"}.items():
-        check(f"an opening of {name} is refused", refused(opened, text) != "is read", True)
-
-
 def recorded(line="", extensions='"x"', name="f"):
     """What is said of a recorded history with this line, or this configuration."""
     opening = CONFIGURATION.replace("EXTENSIONS", extensions).replace("NAME", name)
     return refused(parsed, f"form 2\n{opening}\n{line}\n".encode(), "F")
-
-
-def wrong_recordings():
-    served = "\n# 0 0 throttled X"
-    check("a recording with a trace", recorded("1 invoke f - =Root=1-2;Sampled=0 ={}" + served), "is read")
-    check("a trace that would be two headers", recorded("1 invoke f - =a%0d%0ab:%20c ={}" + served),
-          "F: entry 0: 'a\\r\\nb: c' is not a trace: no header has it")
-    shape = "F: configuration: BadShape: a member is missing or of another type; docs/formats.md lists them"
-    check("an extension that is a number", recorded(extensions="5"), shape)
-    check("half a character in a name", recorded(name="\\ud83d"), shape)
-    check("5,000 levels", recorded(extensions="[" * 5000 + "]" * 5000).startswith("F: configuration: NotJson"), True)
-    check("an answer that is none", recorded("1 tick\n# 0 0 dances"),
-          "F: this is not an answer of a history: '# 0 0 dances'")
 
 
 class Fake(http.server.BaseHTTPRequestHandler):
@@ -113,50 +67,93 @@ class Fake(http.server.BaseHTTPRequestHandler):
         pass
 
 
-def follows():
-    for knows_from in (True, False):
-        server = http.server.ThreadingHTTPServer(("127.0.0.1", 0), Fake)
-        server.daemon_threads = True
-        server.lines, server.knows_from, server.asked = LINES[:1], knows_from, []
-        threading.Thread(target=server.serve_forever, args=(0.05,)).start()
-        word = "a service that knows from" if knows_from else "a service that gives the whole"
+class History(Case):
+    def test_texts(self):
+        first, second, third, fourth = entries_of(LINES)
+        self.check("a poll that waits", (first, first.own, first.environment), (Entry(0, 1, "next", ("1",), ()), None,
+                                                                                1))
+        self.check("an invocation's name and payload", (second.function, second.body, second.environment),
+                   ("f", b'{"a": 1}', None))
+        self.check("its delivery", (second.answers, second.answers[0].body),
+                   ((Answer(0, "deliver", (REQUEST, "4000", '={"a":%201}')),), b'{"a": 1}'))
+        self.check("a response", (third.environment, third.count, third.body, third.own.kind),
+                   (1, 1, b'"ok"', "accepted"))
+        self.check("an expiry", (fourth.number, fourth.kind, fourth.environment, fourth.answers), (3, "expire", 1, ()))
+        self.check("the entries from a number on", [entry.number for entry in entries_of(LINES[3:], 2)], [2, 3])
+        configuration, entries = opened("\n".join(["form 2", '{"functions":[]}', *LINES, ""]))
+        self.check("a whole history", (configuration, len(list(entries))), ({"functions": []}, 4))
+        self.check("the count of an identifier", count_in(REQUEST), 1)
+        self.check("an identifier of a count", request_identifier(0, 1, 1), REQUEST)
+        self.check("the version takes the place of the salt's bits 12 to 15", request_identifier(0x0123456789ABCDEF, 2,
+                                                                                                 255),
+                   "01234567-89ab-8def-8002-0000000000ff")
+
+    def test_wrong_histories(self):
+        for name, line in WRONG_LINES.items():
+            seen = refused(lambda text: list(entries_of(text.split("\n"))), line)
+            self.check(f"{name} is refused", seen.startswith("this is not a"), True)
+        self.check("a comment is none", [entry.number for entry in entries_of(["# 1", "1 next 1", "# 0", "#",
+                                                                               "# x y z"])], [0])
+        for name, text in {"nothing": "", "5,000 levels": "form 2\n" + "[" * 5000, "a list": "form 2\n[]"}.items():
+            self.check(f"an opening of {name} is refused", refused(opened, text) != "is read", True)
+
+    def test_wrong_recordings(self):
+        served = "\n# 0 0 throttled X"
+        self.check("a recording with a trace", recorded("1 invoke f - =Root=1-2;Sampled=0 ={}" + served), "is read")
+        self.check("a trace that would be two headers", recorded("1 invoke f - =a%0d%0ab:%20c ={}" + served),
+                   "F: entry 0: 'a\\r\\nb: c' is not a trace: no header has it")
+        shape = "F: configuration: BadShape: a member is missing or of another type; docs/formats.md lists them"
+        self.check("an extension that is a number", recorded(extensions="5"), shape)
+        self.check("half a character in a name", recorded(name="\\ud83d"), shape)
+        self.check("5,000 levels", recorded(extensions="[" * 5000 + "]" * 5000).startswith("F: configuration: NotJson"),
+                   True)
+        self.check("an answer that is none", recorded("1 tick\n# 0 0 dances"),
+                   "F: this is not an answer of a history: '# 0 0 dances'")
+
+    def test_follows(self):
+        for knows_from in (True, False):
+            server = http.server.ThreadingHTTPServer(("127.0.0.1", 0), Fake)
+            server.daemon_threads = True
+            server.lines, server.knows_from, server.asked = LINES[:1], knows_from, []
+            threading.Thread(target=server.serve_forever, args=(0.05,)).start()
+            word = "a service that knows from" if knows_from else "a service that gives the whole"
+            try:
+                follower = Follower(server.server_address[1])
+                self.check(f"{word}: the first entry", [entry.number for entry in follower.read()], [0])
+                self.check(f"{word}: nothing new", follower.read(), [])
+                server.lines = LINES
+                self.check(f"{word}: what is new", follower.read(), list(entries_of(LINES))[1:])
+                self.check(f"{word}: nothing new again", (follower.read(), follower.next), ([], 4))
+                histories = [path for path in server.asked if path != "/_local/stats"]
+                self.check(f"{word}: what it is asked", histories,
+                           [f"/_local/history?from={n}" for n in ((0, 1, 1, 4) if knows_from else (0, 1))])
+                follower.close()
+            finally:
+                server.shutdown()
+                server.server_close()
+
+    def test_real(self):
+        service = Service({"account": "123456789012", "region": "us-east-1",
+                           "functions": [{"name": "f", "ports": [0]}]})
         try:
-            follower = Follower(server.server_address[1])
-            check(f"{word}: the first entry", [entry.number for entry in follower.read()], [0])
-            check(f"{word}: nothing new", follower.read(), [])
-            server.lines = LINES
-            check(f"{word}: what is new", follower.read(), list(entries_of(LINES))[1:])
-            check(f"{word}: nothing new again", (follower.read(), follower.next), ([], 4))
-            histories = [path for path in server.asked if path != "/_local/stats"]
-            check(f"{word}: what it is asked", histories,
-                  [f"/_local/history?from={n}" for n in ((0, 1, 1, 4) if knows_from else (0, 1))])
-            follower.close()
+            follower = Follower(service.port)
+            self.check("a new service has no entry", follower.read(), [])
+            answer = ask(service.port, "PUT", "/2017-10-31/functions/f/concurrency",
+                         '{"ReservedConcurrentExecutions":0}')
+            self.check("a reservation", answer[0], 200)
+            self.check("is an entry", [(entry.number, entry.kind, entry.fields, entry.own.kind)
+                                       for entry in follower.read()],
+                       [(0, "reserve", ("f", "0"), "reserved")])
+            for _ in range(3):
+                ask(service.port, "POST", "/2015-03-31/functions/f/invocations", "{}")
+            self.check("throttled invocations", [(entry.number, entry.function, entry.own.kind)
+                                                 for entry in follower.read()],
+                       [(n, "f", "throttled") for n in (1, 2, 3)])
+            self.check("nothing else", follower.read(), [])
+            configuration, entries = opened(service.history())
+            self.check("all of it at once", (configuration["functions"][0]["name"],
+                                             [entry.number for entry in entries]),
+                       ("f", [0, 1, 2, 3]))
         finally:
-            server.shutdown()
-            server.server_close()
-
-
-def real():
-    service = Service({"account": "123456789012", "region": "us-east-1", "functions": [{"name": "f", "ports": [0]}]})
-    try:
-        follower = Follower(service.port)
-        check("a new service has no entry", follower.read(), [])
-        answer = ask(service.port, "PUT", "/2017-10-31/functions/f/concurrency", '{"ReservedConcurrentExecutions":0}')
-        check("a reservation", answer[0], 200)
-        check("is an entry", [(entry.number, entry.kind, entry.fields, entry.own.kind) for entry in follower.read()],
-              [(0, "reserve", ("f", "0"), "reserved")])
-        for _ in range(3):
-            ask(service.port, "POST", "/2015-03-31/functions/f/invocations", "{}")
-        check("throttled invocations", [(entry.number, entry.function, entry.own.kind) for entry in follower.read()],
-              [(n, "f", "throttled") for n in (1, 2, 3)])
-        check("nothing else", follower.read(), [])
-        configuration, entries = opened(service.history())
-        check("all of it at once", (configuration["functions"][0]["name"], [entry.number for entry in entries]),
-              ("f", [0, 1, 2, 3]))
-    finally:
-        service.stop()
-    follower.close()
-
-
-if __name__ == "__main__":
-    sys.exit(counted.run(texts, wrong_histories, wrong_recordings, follows, real))
+            service.stop()
+        follower.close()

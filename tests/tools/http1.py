@@ -1,35 +1,32 @@
-#!/usr/bin/env python3
 """Checks the reader of HTTP/1.1: a table of RFC 9112's cases, requests that are nearly HTTP, which the service and
 `h11` read too, and what small pieces cost. Needs Debian's python3-h11 for one of them. The program is
-LAMBDA_LOCAL_PROGRAM, else ./lambda_local. Ends with 'N passed, M failed'.
+LAMBDA_LOCAL_PROGRAM, else ./lambda_local.
 
-usage: tests/tools/http1.py [--count N] [--seed N] [PART..]   (default: 10000 requests, another seed each time)"""
+Variables: HTTP1_COUNT is how many requests are made (10000), HTTP1_SEED their seed (another one each time)."""
 import concurrent.futures
 import json
 import os
 import random
 import re
 import subprocess
-import sys
 import tempfile
 import time
 import urllib.parse
 from collections import Counter
 
-ROOT = os.path.dirname(os.path.dirname(os.path.dirname(os.path.realpath(__file__))))
-sys.path[:0] = [os.path.join(ROOT, "tools"), os.path.join(ROOT, "tests", "library")]
-import counted  # noqa: E402
-from counted import check  # noqa: E402
-from events_kit import READY, READY_SECONDS, behind  # noqa: E402
-from h11_beside import compared  # noqa: E402
-from http_mutants import BROKEN, TAKEN, answers_to, messages_of, mutants, outcome_of, own_outcome  # noqa: E402
-from lambda_local.front.origins import refusal_of  # noqa: E402
-from lambda_local.http1 import (NEED_DATA, CutShort, Data, Malformed, Request, RequestReader, Response,  # noqa: E402
+from lambda_local.front.origins import refusal_of
+from lambda_local.http1 import (NEED_DATA, CutShort, Data, Malformed, Request, RequestReader, Response,
                                 ResponseReader, Unwritable, request_head, response_head)
-from lambda_local.service import free_ports  # noqa: E402
-from up_kit import Up  # noqa: E402
+from lambda_local.service import free_ports
+from tests import ROOT
+from tests.library.cases import Case
+from tests.library.events_kit import READY, READY_SECONDS, behind
+from tests.library.h11_beside import compared
+from tests.library.http_mutants import BROKEN, TAKEN, answers_to, messages_of, mutants, outcome_of, own_outcome
+from tests.library.up_kit import Up
 
-COUNT, SEED = 10_000, random.randrange(1 << 32)
+COUNT = int(os.environ.get("HTTP1_COUNT", "10000"))
+SEED = int(os.environ.get("HTTP1_SEED") or random.randrange(1 << 32))
 AT_ONCE = 8  # connections to the service
 MOST_SHOWN = 5
 APP = "def run(event, context): return event\n"
@@ -56,12 +53,6 @@ def made_of(data, sizes):
         elif not isinstance(body, CutShort):
             words.append(str(body.status))
     return ", ".join(words)
-
-
-def table():
-    for name, data, wanted in cases():
-        seen = {made_of(data, sizes) for sizes in ((len(data),), (1,), (2, 3), (7, 1))}
-        check(f"{name}, whole and in pieces", seen, {wanted})
 
 
 class Serving:
@@ -91,96 +82,11 @@ class Serving:
             yield from pool.map(lambda data: outcome_of(answers_to(self.port, data)), requests)
 
 
-def table_of_the_service():
-    """The service makes of each case of the table what it says."""
-    with Serving() as service:
-        names = list(cases())
-        for (name, data, _), seen in zip(names, service.outcomes([data for _, data, _ in names])):
-            check(f"the service: {name}", seen, own_outcome(data))
-
-
 # What the service takes, and our reader refuses, with its reason.
 OF_THE_SERVICE = (
     ("more than 16 KiB of zeros and blanks around the sizes of chunks: a line has a longest length",
      lambda data: re.search(rb"[0 \t]{1000}", data)),
 )
-
-
-def mutated():
-    """The service and our reader take the same of them, and refuse the same with the same status."""
-    requests, counts, wrong = mutants(COUNT, SEED), Counter(), []
-    with Serving() as service:
-        for data, seen in zip(requests, service.outcomes(requests)):
-            own = own_outcome(data)
-            listed = own != seen and next((reason for reason, applies in OF_THE_SERVICE if applies(data)), None)
-            counts["differ, listed" if listed else "differ" if own != seen else "taken" if own[:1] == [TAKEN]
-                   else "refused" if own else "cut"] += 1
-            if own != seen and not listed:
-                wrong.append((data, own, seen))
-    print(f"     {COUNT} requests, seed {SEED}: {dict(counts)}", flush=True)
-    check("the service and our reader agree", (len(wrong), wrong[:MOST_SHOWN]), (0, []))
-    check("both kinds are among them", min(counts["taken"], counts["refused"]) > COUNT / 10)
-
-
-def behind_the_front():
-    """What the front answers to them has the service's statuses."""
-    up = Up(*READY, functions=[{"name": "f", "runtime": "python", "handler": "app.run"}], app=APP,
-            whole={"asynchronous": True})
-    up.until("[up] ready", READY_SECONDS)
-    ports = [urllib.parse.urlsplit(address).port for address in (up.endpoint, behind(up))]
-    requests, wrong, counts = mutants(COUNT // 10, SEED + 1), [], Counter()
-    with concurrent.futures.ThreadPoolExecutor(AT_ONCE) as pool:
-        for data, seen in zip(requests, pool.map(lambda data: [outcome_of(answers_to(port, data)) for port in ports],
-                                                 requests)):
-            counts["taken" if seen[1][:1] == [TAKEN] else "refused" if seen[1] else "cut"] += 1
-            if seen[0] != seen[1]:
-                wrong.append((data, *seen))
-    print(f"     {COUNT // 10} requests: {dict(counts)}", flush=True)
-    check("the front answers them as the service", (len(wrong), wrong[:MOST_SHOWN]), (0, []))
-    check("it ends in order, and leaves nothing", up.end(), (0, []))
-
-
-# ---- h11 -------------------------------------------------------------------------------------------------------------
-
-
-def against_h11():
-    try:
-        import h11
-    except ImportError:
-        return print("skip there is no h11 (Debian: python3-h11)")
-    counts, wrong = Counter(), []
-    for data in mutants(COUNT, SEED + 2):
-        own, seen, listed = compared(h11, data)
-        counts[listed or ("differ" if own != seen else "taken" if own else "refused")] += 1
-        if own != seen and not listed:
-            wrong.append((data, own, seen))
-    print(f"     {COUNT} requests, seed {SEED + 2}: {counts.pop('taken')} taken, {counts.pop('refused')} refused, of "
-          f"both; the others: {json.dumps(counts, indent=1)}", flush=True)
-    check("h11 and our reader agree, but for what is listed", (len(wrong), wrong[:MOST_SHOWN]), (0, []))
-
-
-# ---- responses, writing, limits --------------------------------------------------------------------------------------
-
-
-def responses():
-    for name, method, data, wanted in (
-            ("a length", "GET", b"HTTP/1.1 200 OK\r\nContent-Length: 2\r\n\r\nhi", (200, b"hi", True)),
-            ("chunks", "GET", b"HTTP/1.1 200\r\nTransfer-Encoding: chunked\r\n\r\n2\r\nhi\r\n0\r\n\r\n",
-             (200, b"hi", True)),
-            ("until the end", "GET", b"HTTP/1.1 200 OK\r\n\r\nhi", (200, b"hi", False)),
-            ("no content", "GET", b"HTTP/1.1 204 No Content\r\n\r\n", (204, b"", True)),
-            ("to a HEAD", "HEAD", b"HTTP/1.1 200 OK\r\nContent-Length: 5\r\n\r\n", (200, b"", True)),
-            ("after 100 Continue", "GET",
-             b"HTTP/1.1 100 Continue\r\n\r\nHTTP/1.1 200 OK\r\nContent-Length: 0\r\n\r\n", (200, b"", True)),
-            ("one that ends the connection", "GET",
-             b"HTTP/1.1 200 OK\r\nConnection: close\r\nContent-Length: 0\r\n\r\n",
-             (200, b"", False)),
-            ("HTTP/1.0", "GET", b"HTTP/1.0 200 OK\r\nContent-Length: 0\r\n\r\n", (200, b"", False)),
-            ("cut in its body", "GET", b"HTTP/1.1 200 OK\r\nContent-Length: 5\r\n\r\nhi", "malformed"),
-            ("no status", "GET", b"HTTP/1.1 OK\r\n\r\n", "malformed"),
-            ("another protocol", "GET", b"SSH-2.0-OpenSSH_9.2\r\n\r\n", "malformed"),
-            ("a switch of protocols", "GET", b"HTTP/1.1 101 Switching\r\nUpgrade: h2c\r\n\r\n", "malformed")):
-        check(f"a response: {name}", {read_response(method, data, size) for size in (len(data), 1)}, {wanted})
 
 
 def read_response(method, data, size):
@@ -202,54 +108,12 @@ def read_response(method, data, size):
         return "malformed"
 
 
-def writing():
-    for name, value in (("X", "a\r\nY: b"), ("X", "a\nb"), ("X", "\0"), ("X\r\nY", "a"), ("X Y", "a"), ("", "a"),
-                        ("X", "a\r\n\r\nHTTP/1.1 200 OK"), ("X: a\r\nY", "b")):
-        for head in (lambda: request_head("GET", "/", [("Host", "a"), (name, value)]),
-                     lambda: response_head("HTTP/1.1", 200, "OK", [(name, value), ("Content-Length", "0")])):
-            check(f"{name!r}: {value!r} is not written", refuses(head))
-    for method, target in (("G T", "/"), ("GET", "/ HTTP/1.1\r\nX: y"), ("GET", ""), ("GET", "/a b"), ("", "/")):
-        check(f"{method!r} {target!r} is not written", refuses(lambda: request_head(method, target, [])))
-    check("what can be is", request_head("GET", "/x?y", [("Host", "a"), ("X", "\xe9")]),
-          b"GET /x?y HTTP/1.1\r\nHost: a\r\nX: \xe9\r\n\r\n")
-
-
 def refuses(head):
     try:
         head()
     except Unwritable:
         return True
     return False
-
-
-def limits():
-    """Those of the service: a head of 65,536 bytes and 100 fields; 16 KiB of extensions, and of trailers."""
-    line, chunked = b"GET /x HTTP/1.1\r\n", b"POST /x HTTP/1.1\r\nHost: a\r\nTransfer-Encoding: chunked\r\n\r\n"
-
-    def long(size):
-        return line + b"Host: a\r\nX: " + b"x" * (size - len(line) - len(b"Host: a\r\nX: \r\n\r\n")) + b"\r\n\r\n"
-
-    cases = [
-        ("a head of 65,536 bytes", long(65536), TAKEN), ("one byte more", long(65537), "431"),
-        ("a head that does not end", long(70000)[:-4], "431"),
-        ("100 fields", line + b"Host: a\r\n" + b"X: y\r\n" * 99 + b"\r\n", TAKEN),
-        ("101 fields", line + b"Host: a\r\n" + b"X: y\r\n" * 100 + b"\r\n", "431"),
-        ("a request line that does not end", b"GET /" + b"x" * 65536, "414"),
-        ("one that is too long", b"GET /" + b"x" * 65536 + b" HTTP/1.1\r\nHost: a\r\n\r\n", "414"),
-        ("empty lines without end", b"\r\n" * 40000, "414"),
-        ("16 KiB of extensions", chunked + b"1;" + b"x" * 16384 + b"\r\nx\r\n0\r\n\r\n", TAKEN),
-        ("one byte more of them", chunked + b"1;" + b"x" * 16384 + b"\r\nx\r\n0;y\r\n\r\n", BROKEN),
-        ("16 KiB of trailers", chunked + b"0\r\nX: " + b"x" * (16384 - 7) + b"\r\n\r\n", TAKEN),
-        ("one byte more of those", chunked + b"0\r\nX: " + b"x" * (16384 - 6) + b"\r\n\r\n", BROKEN),
-        ("101 trailers", chunked + b"0\r\n" + b"X: y\r\n" * 101 + b"\r\n", BROKEN)]
-    with Serving() as service:
-        for (name, data, wanted), seen in zip(cases, service.outcomes([data for _, data, _ in cases])):
-            check(name, (own_outcome(data), seen), ([wanted], [wanted]))
-    check("17 KiB of zeros before a size, which the service takes",
-          own_outcome(chunked + b"0" * 17000 + b"1\r\nx\r\n0\r\n\r\n"), [BROKEN])
-
-
-# ---- cost ------------------------------------------------------------------------------------------------------------
 
 
 def seconds_to_read(data, size):
@@ -262,60 +126,168 @@ def seconds_to_read(data, size):
     return time.process_time() - begun
 
 
-def linear():
-    """Four times as much takes some four times as long, whatever comes, and in the smallest pieces."""
-    chunked = b"POST /x HTTP/1.1\r\nHost: a\r\nTransfer-Encoding: chunked\r\n\r\n"
-    for name, made, count, size in (
-            ("chunks of one byte", lambda count: chunked + b"1\r\nx\r\n" * count, 50_000, 65536),
-            ("chunks of one and two bytes", lambda count: chunked + b"1\r\nx\r\n2\r\nyy\r\n" * count, 3_000, 65536),
-            ("chunks that come byte by byte", lambda count: chunked + b"1\r\nx\r\n" * count, 500, 1),
-            ("a long header byte by byte", lambda count: b"GET / HTTP/1.1\r\nX: " + b"x" * count, 3_000, 1),
-            ("empty headers byte by byte", lambda count: b"GET / HTTP/1.1\r\n" + b"a:\r\n" * count, 24, 1),
-            ("blanks in a header", lambda count: b"GET / HTTP/1.1\r\nHost: a\r\nX: a" + b" " * count + b"b\r\n\r\n",
-             15_000, 65536),
-            ("empty lines byte by byte", lambda count: b"\r\n" * count, 1_000, 1)):
-        small, large = (min(seconds_to_read(made(times * count), size) for _ in range(3)) for times in (1, 4))
-        check(f"{name}: {small * 1000:.1f} ms, four times as much {large * 1000:.1f} ms", large < 10 * small + 0.01)
-
-
-def small_chunks():
-    """A body in chunks of one byte through the front, beside the same body whole, and others meanwhile."""
-    up = Up(*READY, functions=[{"name": "f", "runtime": "python", "handler": "app.run"}], app=APP,
-            whole={"asynchronous": True})
-    up.until("[up] ready", READY_SECONDS)
-    size, port = 2_400_000, urllib.parse.urlsplit(up.endpoint).port
-    whole = b"POST /x HTTP/1.1\r\nHost: a\r\nContent-Length: %d\r\n\r\n" % size + b"x" * size
-    chunks = b"POST /x HTTP/1.1\r\nHost: a\r\nTransfer-Encoding: chunked\r\n\r\n" + b"1\r\nx\r\n" * size + b"0\r\n\r\n"
-    taken = {}
-    for name, data in (("whole", whole), ("in chunks", chunks)):
-        begun = processor_seconds(up.process.pid)
-        check(f"a body {name} is read", {outcome_of(answers_to(port, data))[0] for _ in range(10)}, {TAKEN})
-        taken[name] = processor_seconds(up.process.pid) - begun
-    print(f"     seconds of processor time for ten bodies of {size} bytes: {taken}", flush=True)
-    check("one-byte chunks take at most ten times as long", taken["in chunks"] <= 10 * max(taken["whole"], 0.05))
-    with concurrent.futures.ThreadPoolExecutor(4) as pool:
-        sending, longest = [pool.submit(answers_to, port, chunks) for _ in range(4)], 0.0
-        while not all(one.done() for one in sending):
-            begun = time.monotonic()
-            up.get("/_local/stats")
-            longest = max(longest, time.monotonic() - begun)
-    check(f"others are answered meanwhile, within {longest:.2f} s", longest < 3)
-    check("it ends in order, and leaves nothing", up.end(), (0, []))
-
-
 def processor_seconds(pid):
     with open(f"/proc/{pid}/stat") as file:
         words = file.read().rpartition(")")[2].split()
     return (int(words[11]) + int(words[12])) / os.sysconf("SC_CLK_TCK")
 
 
-if __name__ == "__main__":
-    parts = {part.__name__: part for part in (table, table_of_the_service, mutated, behind_the_front, against_h11,
-                                              responses, writing, limits, linear, small_chunks)}
-    words = sys.argv[1:]
-    for name in ("--count", "--seed"):
-        if name in words:
-            at = words.index(name)
-            globals()[name[2:].upper()] = int(words[at + 1])
-            del words[at:at + 2]
-    sys.exit(counted.run(*(parts[name] for name in words or parts)))
+class Http1(Case):
+    def test_table(self):
+        for name, data, wanted in cases():
+            seen = {made_of(data, sizes) for sizes in ((len(data),), (1,), (2, 3), (7, 1))}
+            self.check(f"{name}, whole and in pieces", seen, {wanted})
+
+    def test_table_of_the_service(self):
+        """The service makes of each case of the table what it says."""
+        with Serving() as service:
+            names = list(cases())
+            for (name, data, _), seen in zip(names, service.outcomes([data for _, data, _ in names])):
+                self.check(f"the service: {name}", seen, own_outcome(data))
+
+    def test_mutated(self):
+        """The service and our reader take the same of them, and refuse the same with the same status."""
+        requests, counts, wrong = mutants(COUNT, SEED), Counter(), []
+        with Serving() as service:
+            for data, seen in zip(requests, service.outcomes(requests)):
+                own = own_outcome(data)
+                listed = own != seen and next((reason for reason, applies in OF_THE_SERVICE if applies(data)), None)
+                counts["differ, listed" if listed else "differ" if own != seen else "taken" if own[:1] == [TAKEN]
+                       else "refused" if own else "cut"] += 1
+                if own != seen and not listed:
+                    wrong.append((data, own, seen))
+        print(f"     {COUNT} requests, seed {SEED}: {dict(counts)}", flush=True)
+        self.check("the service and our reader agree", (len(wrong), wrong[:MOST_SHOWN]), (0, []))
+        self.check("both kinds are among them", min(counts["taken"], counts["refused"]) > COUNT / 10)
+
+    def test_behind_the_front(self):
+        """What the front answers to them has the service's statuses."""
+        up = Up(*READY, functions=[{"name": "f", "runtime": "python", "handler": "app.run"}], app=APP,
+                whole={"asynchronous": True})
+        up.until("[up] ready", READY_SECONDS)
+        ports = [urllib.parse.urlsplit(address).port for address in (up.endpoint, behind(up))]
+        requests, wrong, counts = mutants(COUNT // 10, SEED + 1), [], Counter()
+        with concurrent.futures.ThreadPoolExecutor(AT_ONCE) as pool:
+            for data, seen in zip(requests, pool.map(lambda data: [outcome_of(answers_to(port, data))
+                                                                   for port in ports],
+                                                     requests)):
+                counts["taken" if seen[1][:1] == [TAKEN] else "refused" if seen[1] else "cut"] += 1
+                if seen[0] != seen[1]:
+                    wrong.append((data, *seen))
+        print(f"     {COUNT // 10} requests: {dict(counts)}", flush=True)
+        self.check("the front answers them as the service", (len(wrong), wrong[:MOST_SHOWN]), (0, []))
+        self.check("it ends in order, and leaves nothing", up.end(), (0, []))
+
+    def test_against_h11(self):
+        try:
+            import h11
+        except ImportError:
+            self.skipTest("there is no h11 (Debian: python3-h11)")
+        counts, wrong = Counter(), []
+        for data in mutants(COUNT, SEED + 2):
+            own, seen, listed = compared(h11, data)
+            counts[listed or ("differ" if own != seen else "taken" if own else "refused")] += 1
+            if own != seen and not listed:
+                wrong.append((data, own, seen))
+        print(f"     {COUNT} requests, seed {SEED + 2}: {counts.pop('taken')} taken, {counts.pop('refused')} refused, "
+              f"of both; the others: {json.dumps(counts, indent=1)}", flush=True)
+        self.check("h11 and our reader agree, but for what is listed", (len(wrong), wrong[:MOST_SHOWN]), (0, []))
+
+    def test_responses(self):
+        for name, method, data, wanted in (
+                ("a length", "GET", b"HTTP/1.1 200 OK\r\nContent-Length: 2\r\n\r\nhi", (200, b"hi", True)),
+                ("chunks", "GET", b"HTTP/1.1 200\r\nTransfer-Encoding: chunked\r\n\r\n2\r\nhi\r\n0\r\n\r\n",
+                 (200, b"hi", True)),
+                ("until the end", "GET", b"HTTP/1.1 200 OK\r\n\r\nhi", (200, b"hi", False)),
+                ("no content", "GET", b"HTTP/1.1 204 No Content\r\n\r\n", (204, b"", True)),
+                ("to a HEAD", "HEAD", b"HTTP/1.1 200 OK\r\nContent-Length: 5\r\n\r\n", (200, b"", True)),
+                ("after 100 Continue", "GET",
+                 b"HTTP/1.1 100 Continue\r\n\r\nHTTP/1.1 200 OK\r\nContent-Length: 0\r\n\r\n", (200, b"", True)),
+                ("one that ends the connection", "GET",
+                 b"HTTP/1.1 200 OK\r\nConnection: close\r\nContent-Length: 0\r\n\r\n",
+                 (200, b"", False)),
+                ("HTTP/1.0", "GET", b"HTTP/1.0 200 OK\r\nContent-Length: 0\r\n\r\n", (200, b"", False)),
+                ("cut in its body", "GET", b"HTTP/1.1 200 OK\r\nContent-Length: 5\r\n\r\nhi", "malformed"),
+                ("no status", "GET", b"HTTP/1.1 OK\r\n\r\n", "malformed"),
+                ("another protocol", "GET", b"SSH-2.0-OpenSSH_9.2\r\n\r\n", "malformed"),
+                ("a switch of protocols", "GET", b"HTTP/1.1 101 Switching\r\nUpgrade: h2c\r\n\r\n", "malformed")):
+            self.check(f"a response: {name}", {read_response(method, data, size) for size in (len(data), 1)}, {wanted})
+
+    def test_writing(self):
+        for name, value in (("X", "a\r\nY: b"), ("X", "a\nb"), ("X", "\0"), ("X\r\nY", "a"), ("X Y", "a"), ("", "a"),
+                            ("X", "a\r\n\r\nHTTP/1.1 200 OK"), ("X: a\r\nY", "b")):
+            for head in (lambda: request_head("GET", "/", [("Host", "a"), (name, value)]),
+                         lambda: response_head("HTTP/1.1", 200, "OK", [(name, value), ("Content-Length", "0")])):
+                self.check(f"{name!r}: {value!r} is not written", refuses(head))
+        for method, target in (("G T", "/"), ("GET", "/ HTTP/1.1\r\nX: y"), ("GET", ""), ("GET", "/a b"), ("", "/")):
+            self.check(f"{method!r} {target!r} is not written", refuses(lambda: request_head(method, target, [])))
+        self.check("what can be is", request_head("GET", "/x?y", [("Host", "a"), ("X", "\xe9")]),
+                   b"GET /x?y HTTP/1.1\r\nHost: a\r\nX: \xe9\r\n\r\n")
+
+    def test_limits(self):
+        """Those of the service: a head of 65,536 bytes and 100 fields; 16 KiB of extensions, and of trailers."""
+        line, chunked = b"GET /x HTTP/1.1\r\n", b"POST /x HTTP/1.1\r\nHost: a\r\nTransfer-Encoding: chunked\r\n\r\n"
+
+        def long(size):
+            return line + b"Host: a\r\nX: " + b"x" * (size - len(line) - len(b"Host: a\r\nX: \r\n\r\n")) + b"\r\n\r\n"
+
+        cases = [
+            ("a head of 65,536 bytes", long(65536), TAKEN), ("one byte more", long(65537), "431"),
+            ("a head that does not end", long(70000)[:-4], "431"),
+            ("100 fields", line + b"Host: a\r\n" + b"X: y\r\n" * 99 + b"\r\n", TAKEN),
+            ("101 fields", line + b"Host: a\r\n" + b"X: y\r\n" * 100 + b"\r\n", "431"),
+            ("a request line that does not end", b"GET /" + b"x" * 65536, "414"),
+            ("one that is too long", b"GET /" + b"x" * 65536 + b" HTTP/1.1\r\nHost: a\r\n\r\n", "414"),
+            ("empty lines without end", b"\r\n" * 40000, "414"),
+            ("16 KiB of extensions", chunked + b"1;" + b"x" * 16384 + b"\r\nx\r\n0\r\n\r\n", TAKEN),
+            ("one byte more of them", chunked + b"1;" + b"x" * 16384 + b"\r\nx\r\n0;y\r\n\r\n", BROKEN),
+            ("16 KiB of trailers", chunked + b"0\r\nX: " + b"x" * (16384 - 7) + b"\r\n\r\n", TAKEN),
+            ("one byte more of those", chunked + b"0\r\nX: " + b"x" * (16384 - 6) + b"\r\n\r\n", BROKEN),
+            ("101 trailers", chunked + b"0\r\n" + b"X: y\r\n" * 101 + b"\r\n", BROKEN)]
+        with Serving() as service:
+            for (name, data, wanted), seen in zip(cases, service.outcomes([data for _, data, _ in cases])):
+                self.check(name, (own_outcome(data), seen), ([wanted], [wanted]))
+        self.check("17 KiB of zeros before a size, which the service takes",
+                   own_outcome(chunked + b"0" * 17000 + b"1\r\nx\r\n0\r\n\r\n"), [BROKEN])
+
+    def test_linear(self):
+        """Four times as much takes some four times as long, whatever comes, and in the smallest pieces."""
+        chunked = b"POST /x HTTP/1.1\r\nHost: a\r\nTransfer-Encoding: chunked\r\n\r\n"
+        for name, made, count, size in (
+                ("chunks of one byte", lambda count: chunked + b"1\r\nx\r\n" * count, 50_000, 65536),
+                ("chunks of one and two bytes", lambda count: chunked + b"1\r\nx\r\n2\r\nyy\r\n" * count, 3_000, 65536),
+                ("chunks that come byte by byte", lambda count: chunked + b"1\r\nx\r\n" * count, 500, 1),
+                ("a long header byte by byte", lambda count: b"GET / HTTP/1.1\r\nX: " + b"x" * count, 3_000, 1),
+                ("empty headers byte by byte", lambda count: b"GET / HTTP/1.1\r\n" + b"a:\r\n" * count, 24, 1),
+                ("blanks in a header", lambda count: b"GET / HTTP/1.1\r\nHost: a\r\nX: a" + b" " * count + b"b\r\n\r\n",
+                 15_000, 65536),
+                ("empty lines byte by byte", lambda count: b"\r\n" * count, 1_000, 1)):
+            small, large = (min(seconds_to_read(made(times * count), size) for _ in range(3)) for times in (1, 4))
+            self.check(f"{name}: {small * 1000:.1f} ms, four times as much {large * 1000:.1f} ms", large < 10 * small
+                       + 0.01)
+
+    def test_small_chunks(self):
+        """A body in chunks of one byte through the front, beside the same body whole, and others meanwhile."""
+        up = Up(*READY, functions=[{"name": "f", "runtime": "python", "handler": "app.run"}], app=APP,
+                whole={"asynchronous": True})
+        up.until("[up] ready", READY_SECONDS)
+        size, port = 2_400_000, urllib.parse.urlsplit(up.endpoint).port
+        whole = b"POST /x HTTP/1.1\r\nHost: a\r\nContent-Length: %d\r\n\r\n" % size + b"x" * size
+        chunks = (b"POST /x HTTP/1.1\r\nHost: a\r\nTransfer-Encoding: chunked\r\n\r\n"
+                  + b"1\r\nx\r\n" * size + b"0\r\n\r\n")
+        taken = {}
+        for name, data in (("whole", whole), ("in chunks", chunks)):
+            begun = processor_seconds(up.process.pid)
+            self.check(f"a body {name} is read", {outcome_of(answers_to(port, data))[0] for _ in range(10)}, {TAKEN})
+            taken[name] = processor_seconds(up.process.pid) - begun
+        print(f"     seconds of processor time for ten bodies of {size} bytes: {taken}", flush=True)
+        self.check("one-byte chunks take at most ten times as long", taken["in chunks"] <= 10 * max(taken["whole"],
+                                                                                                    0.05))
+        with concurrent.futures.ThreadPoolExecutor(4) as pool:
+            sending, longest = [pool.submit(answers_to, port, chunks) for _ in range(4)], 0.0
+            while not all(one.done() for one in sending):
+                begun = time.monotonic()
+                up.get("/_local/stats")
+                longest = max(longest, time.monotonic() - begun)
+        self.check(f"others are answered meanwhile, within {longest:.2f} s", longest < 3)
+        self.check("it ends in order, and leaves nothing", up.end(), (0, []))

@@ -1,7 +1,6 @@
-#!/usr/bin/env python3
 """Checks Function URLs and HTTP routes: the events that requests become, the answers that results become, cross-origin
 requests, limits and malformed requests. Needs curl, and Chromium for one of them. The program is LAMBDA_LOCAL_PROGRAM,
-else ./lambda_local. Ends with 'N passed, M failed'."""
+else ./lambda_local."""
 import base64
 import contextlib
 import json
@@ -10,17 +9,14 @@ import re
 import shutil
 import socket
 import subprocess
-import sys
 import tempfile
 import time
 import urllib.parse
 
-ROOT = os.path.dirname(os.path.dirname(os.path.dirname(os.path.realpath(__file__))))
-sys.path[:0] = [os.path.join(ROOT, "tools"), os.path.join(ROOT, "tests", "library")]
-import counted  # noqa: E402
-from counted import check  # noqa: E402
-from events_kit import READY, READY_SECONDS, Caller  # noqa: E402
-from up_kit import Up, until  # noqa: E402
+from tests import ROOT
+from tests.library.cases import Case
+from tests.library.events_kit import READY, READY_SECONDS, Caller
+from tests.library.up_kit import Up, until
 
 # What it returns is in the query; without a query it is the event.
 APP = '''import json
@@ -38,136 +34,12 @@ CORS = {"allowOrigins": ["http://shop.example"], "allowMethods": ["GET", "POST"]
         "exposeHeaders": ["x-two"], "allowCredentials": True, "maxAge": 60}
 
 
-@contextlib.contextmanager
-def running(url=True, **whole):
-    up = Up(*READY, functions=[{"name": "f", "runtime": "python", "handler": "app.run", "environments": 2, "url": url,
-                                "timeout": 10},
-                       {"name": "g", "runtime": "python", "handler": "app.run"}], app=APP, whole=whole)
-    try:
-        up.until("[up] ready", READY_SECONDS)
-        with Caller(address(up, r"its URL is (\S+)/$")) as caller:
-            yield up, caller
-    finally:
-        if up.process.poll() is None:
-            check("it ends in order, and leaves nothing", up.end(), (0, []))
-
-
 def address(up, pattern):
     return next(found[1] for line in up.lines for found in [re.search(pattern, line)] if found)
 
 
 def giving(caller, result, method="GET"):
     return caller.ask(method, "/?" + urllib.parse.urlencode({"gives": json.dumps(result)}))
-
-
-def events():
-    with running() as (_, caller):
-        status, headers, body = caller.ask(
-            "POST", "/a%20b/c?one=1&one=2&two=x%20y&none=", b'{"a":"\xc3\xa9"}',
-            {"Content-Type": "application/json", "Cookie": "k=v; l=w", "X-Thing": "t", "User-Agent": "check"})
-        event = json.loads(body)
-        check("an event is answered as JSON", (status, headers["content-type"]), (200, "application/json"))
-        check("its version and route", (event["version"], event["routeKey"]), ("2.0", "$default"))
-        check("its path and query", (event["rawPath"], event["rawQueryString"], event["queryStringParameters"]),
-              ("/a%20b/c", "one=1&one=2&two=x%20y&none=", {"one": "1,2", "two": "x y", "none": ""}))
-        check("its cookies", (event["cookies"], "cookie" in event["headers"]), (["k=v", "l=w"], False))
-        check("its headers", (event["headers"]["x-thing"], event["headers"]["content-type"]), ("t", "application/json"))
-        check("its body", (event["body"], event["isBase64Encoded"]), ('{"a":"é"}', False))
-        context = event["requestContext"]
-        check("its request", context["http"],
-              {"method": "POST", "path": "/a%20b/c", "protocol": "HTTP/1.1", "sourceIp": "127.0.0.1",
-                                               "userAgent": "check"})
-        check("its context", sorted(context),
-              ["accountId", "apiId", "domainName", "domainPrefix", "http", "requestId", "routeKey", "stage",
-                                               "time", "timeEpoch"])
-        is_time = re.fullmatch(r"\d\d/[A-Z][a-z]{2}/\d{4}:\d\d:\d\d:\d\d \+0000", context["time"]) is not None
-        check("its times", (is_time, isinstance(context["timeEpoch"], int)), (True, True))
-        event = json.loads(caller.ask("GET", "/")[2])
-        check("a request with nothing",
-              [name in event for name in ("body", "cookies", "queryStringParameters", "pathParameters")], [False] * 4)
-        check("and an empty query", event["rawQueryString"], "")
-        for kind, is_text in (("text/plain; charset=utf-8", True), ("application/problem+json", True),
-                              ("image/png", False), ("application/x-www-form-urlencoded", False)):
-            event = json.loads(caller.ask("POST", "/", b"a=b", {"Content-Type": kind})[2])
-            check(f"a body of {kind}", (event["isBase64Encoded"], event["body"]),
-                  (not is_text, "a=b" if is_text else "YT1i"))
-
-
-def results():
-    with running() as (up, caller):
-        for result, wanted in (("hello", '"hello"'), ({"a": 1}, '{"a": 1}'), (None, "null"), ([1], "[1]"), (7, "7")):
-            status, headers, body = giving(caller, result)
-            check(f"a plain value: {result!r}", (status, headers["content-type"], json.loads(body)),
-                  (200, "application/json", json.loads(wanted)))
-        given = {"statusCode": 201, "headers": {"X-A": "b", "X-N": 1, "Content-Type": "text/html"}, "body": "<p>"}
-        status, headers, body = giving(caller, given)
-        check("status, headers and body", (status, headers["x-a"], headers["x-n"], headers["content-type"], body),
-              (201, "b", "1", "text/html", b"<p>"))
-        in_base64 = base64.b64encode(BINARY[:300]).decode()
-        check("a body in base64", giving(caller, {"statusCode": 200, "body": in_base64, "isBase64Encoded": True})[2],
-              BINARY[:300])
-        check("no body", giving(caller, {"statusCode": 204})[::2], (204, b""))
-        check("a redirect", giving(caller, {"statusCode": 302, "headers": {"location": "/x"}})[1]["location"], "/x")
-        given = json.dumps({"statusCode": 200, "cookies": ["a=1; Path=/", "b=2"]})
-        caller.connection.request("GET", "/?" + urllib.parse.urlencode({"gives": given}))
-        answer = caller.connection.getresponse()
-        answer.read()
-        check("cookies", answer.headers.get_all("set-cookie"), ["a=1; Path=/", "b=2"])
-        check("a HEAD has no body", giving(caller, {"statusCode": 200, "body": "x"}, "HEAD")[::2], (200, b""))
-        for number, wrong in enumerate((
-                {"statusCode": "x"}, {"statusCode": 99}, {"statusCode": 200, "body": {"a": 1}},
-                {"statusCode": 200, "headers": 1},
-                {"statusCode": 200, "headers": {"a b": "c"}}, {"statusCode": 200, "headers": {"a": "b\r\nc: d"}},
-                {"statusCode": 200, "cookies": "a"}, {"statusCode": 200, "body": "!", "isBase64Encoded": True}), 1):
-            check(f"what is no answer: {wrong}", giving(caller, wrong)[::2], (502, b"Internal Server Error"))
-            check("a line says why", until(lambda: up.count("its result cannot be mapped") == number, 5))
-        check("a function that fails", caller.ask("GET", "/fails")[::2], (502, b"Internal Server Error"))
-
-
-def by_curl():
-    with running() as (up, caller):
-        url = address(up, r"its URL is (\S+)/$")
-        path = os.path.join(up.at, "binary")
-        with open(path, "wb") as file:
-            file.write(BINARY)
-        done = subprocess.run(["curl", "-sS", "--data-binary", f"@{path}", "-H", "Content-Type: image/png",
-                               url + "/echo"],
-                              capture_output=True)
-        check("curl: binary in both directions", done.stdout, BINARY)
-        with open(path, "wb") as file:
-            file.write(BINARY * 300)
-        done = subprocess.run(["curl", "-sS", "-T", path, "-H", "Expect: 100-continue", "-H",
-                               "Transfer-Encoding: chunked", url + "/echo"],
-                              capture_output=True)
-        check("curl: 3 MB in chunks, of which it asks first", done.stdout == BINARY * 300)
-        check("6 MiB of text",
-              caller.ask("POST", "/echo", b"x" * ((6 << 20) - 2000), {"Content-Type": "text/plain"})[0] in (200, 502))
-        check("one byte more than a body may have", caller.ask("POST", "/", b"x" * ((6 << 20) + 1))[0], 413)
-        check("a line says so", until(lambda: up.has("413, its body has more than 6291456 bytes"), 5))
-        check("an event that becomes too large", caller.ask("POST", "/", b"\0" * (5 << 20))[0], 413)
-        check("the port is still there", caller.ask("GET", "/")[0], 200)
-
-
-def cross_origin():
-    with running(url={"cors": CORS}) as (_, caller):
-        asked = {"Origin": "http://shop.example", "Access-Control-Request-Method": "POST",
-                 "Access-Control-Request-Headers": "x-one"}
-        status, headers, body = caller.ask("OPTIONS", "/", None, asked)
-        of_cors = {name: value for name, value in headers.items() if name.startswith("access")}
-        check("a preflight", (status, body, of_cors), (200, b"", {
-            "access-control-allow-origin": "http://shop.example", "access-control-allow-methods": "GET,POST",
-            "access-control-allow-headers": "x-one", "access-control-allow-credentials": "true",
-            "access-control-max-age": "60", "access-control-expose-headers": "x-two"}))
-        _, headers, _ = caller.ask("OPTIONS", "/", None, {**asked, "Origin": "http://other.example"})
-        check("one of another site", [name for name in headers if name.startswith("access")], [])
-        for origin, wanted in (("http://shop.example", "http://shop.example"), ("http://other.example", None)):
-            headers = caller.ask("GET", "/", None, {"Origin": origin})[1]
-            check(f"an answer for {origin}", (headers.get("access-control-allow-origin"), headers["vary"]),
-                  (wanted, "Origin"))
-    with running() as (_, caller):
-        event = json.loads(
-            caller.ask("OPTIONS", "/", None, {"Origin": "http://a", "Access-Control-Request-Method": "GET"})[2])
-        check("without a configuration the function answers", event["requestContext"]["http"]["method"], "OPTIONS")
 
 
 OF_API = {"CorsConfiguration": {
@@ -187,49 +59,6 @@ def cors_in(headers):
             if name.startswith("access-control-")}
 
 
-def of_a_template():
-    """What a template says of cross-origin requests is what browsers are answered (API Gateway Developer Guide,
-    "Configure CORS for HTTP APIs"; Lambda Developer Guide, "Cross-origin resource sharing")."""
-    with tempfile.TemporaryDirectory() as folder:
-        template, output = (os.path.join(folder, name) for name in ("template.json", "up.json"))
-        with open(template, "w") as file:
-            json.dump(TEMPLATE, file)
-        subprocess.run([os.path.join(ROOT, "lambda_local"), "from_template", template, "-o", output],
-                       stderr=subprocess.DEVNULL, check=True)
-        with open(output) as file:
-            made = json.load(file)
-    up = Up(*READY, functions=[{**function, "runtime": "python"} for function in made.pop("functions")], app=APP,
-            whole=made)
-    up.until("[up] ready", READY_SECONDS)
-    simple = {"allow-origin": "https://shop.example", "allow-credentials": "true", "expose-headers": "x-two"}
-    with Caller(address(up, r"routes: (\S+)$")) as caller:
-        asked = {"Origin": "https://shop.example", "Access-Control-Request-Method": "POST",
-                 "Access-Control-Request-Headers": "x-one"}
-        status, headers, body = caller.ask("OPTIONS", "/orders", None, asked)
-        check("an API's preflight", (status, body, cors_in(headers)), (204, b"", {
-            **simple, "allow-methods": "GET,POST", "allow-headers": "x-one,content-type", "max-age": "60"}))
-        status, headers, _ = caller.ask("OPTIONS", "/nowhere", None, asked)
-        check("one for what no route takes", (status, headers.get("access-control-allow-origin")),
-              (204, "https://shop.example"))
-        status, headers, _ = caller.ask("OPTIONS", "/orders", None, {**asked, "Origin": "https://other.example"})
-        check("one of another site", (status, cors_in(headers)), (204, {}))
-        own = json.dumps(
-            {"statusCode": 200, "headers": {"Access-Control-Allow-Origin": "*", "x-two": "2"}, "body": "x"})
-        path = "/orders?" + urllib.parse.urlencode({"gives": own})
-        for origin, wanted in (("https://shop.example", simple), ("https://other.example", {}), (None, {})):
-            _, headers, body = caller.ask("GET", path, None, {"Origin": origin} if origin else {})
-            check(f"an API's answer for {origin}: the function's own headers do not count",
-                  (cors_in(headers), headers["x-two"], body), (wanted, "2", b"x"))
-        check("an OPTIONS that is no preflight has no route", caller.ask("OPTIONS", "/orders", None, {})[0], 404)
-    with Caller(address(up, r"its URL is (\S+)/$")) as caller:
-        asked = {"Origin": "http://any", "Access-Control-Request-Method": "PUT"}
-        status, headers, _ = caller.ask("OPTIONS", "/", None, asked)
-        check("a URL's preflight", (status, cors_in(headers)), (200, {"allow-origin": "*", "allow-methods": "PUT"}))
-        check("a URL's answer", cors_in(caller.ask("GET", "/", None, {"Origin": "http://any"})[1]),
-              {"allow-origin": "*"})
-    check("it ends in order, and leaves nothing", up.end(), (0, []))
-
-
 PAGE = '''def run(event, context):
     url = event.get("queryStringParameters", {}).get("to")
     return {"statusCode": 200, "headers": {"content-type": "text/html"}, "body": """<p id=x>waits</p><script>
@@ -238,52 +67,6 @@ fetch("%s/there", {method: "POST", headers: {"content-type": "application/json",
  .then(text => { document.getElementById("x").textContent = text })
 </script>""" % url}
 '''
-
-
-def in_a_browser():
-    """A page of one Function URL reads another one, which answers its preflight."""
-    browser = shutil.which("chromium") or shutil.which("google-chrome")
-    if not browser:
-        return print("skip there is no Chromium")
-    cors = {"allowOrigins": ["http://127.0.0.1:*"], "allowMethods": ["POST"], "allowHeaders": ["content-type", "x-one"]}
-    for given, wanted in (({"cors": cors}, "got /there"), (True, "TypeError: Failed to fetch")):
-        functions = [{"name": "f", "runtime": "python", "handler": "app.run", "url": given},
-                     {"name": "page", "runtime": "python", "handler": "page.run", "url": True}]
-        up = Up(*READY, functions=functions, app=APP, files={"page.py": PAGE})
-        up.until("[up] ready", READY_SECONDS)
-        to, page = (address(up, name + r": its URL is (\S+)/$") for name in (r"\bf", r"\bpage"))
-        done = subprocess.run([browser, "--headless", "--no-sandbox", "--disable-gpu",
-                               f"--user-data-dir={up.at}/profile",
-                               "--virtual-time-budget=5000", "--dump-dom", f"{page}/?to={to}"],
-                              stdout=subprocess.PIPE, stderr=subprocess.DEVNULL, text=True, timeout=READY_SECONDS)
-        shown = re.search('<p id="x">(.*?)</p>', done.stdout)
-        check(f"Chromium reads a URL with {given}", shown and shown[1], wanted)
-        check("it ends in order, and leaves nothing", up.end(), (0, []))
-
-
-def routes():
-    table = {"GET /orders/{id}": "f", "GET /orders/new": "g", "ANY /files/{path+}": "g", "POST /orders": "f",
-             "ANY /orders/{id}": "g"}
-    with running(routes=table,
-                 api={"cors": {"allowOrigins": ["*"]}}) as (up, _), Caller(address(up, r"routes: (\S+)$")) as caller:
-        for method, path, key, parameters in (
-                ("GET", "/orders/7", "GET /orders/{id}", {"id": "7"}),
-                ("GET", "/orders/a%2Fb", "GET /orders/{id}", {"id": "a/b"}),
-                ("GET", "/orders/new", "GET /orders/new", None), ("PUT", "/orders/7", "ANY /orders/{id}", {"id": "7"}),
-                ("DELETE", "/files/a/b.txt", "ANY /files/{path+}", {"path": "a/b.txt"}),
-                ("POST", "/orders", "POST /orders", None)):
-            status, headers, body = caller.ask(method, path, None, {"Origin": "http://a"})
-            event = json.loads(body)
-            check(f"{method} {path}",
-                  (status, event["routeKey"], event["requestContext"]["routeKey"], event.get("pathParameters")),
-                  (200, key, key, parameters))
-            check("any site may read it", headers["access-control-allow-origin"], "*")
-        check("no route", caller.ask("GET", "/orders")[::2], (404, b'{"message": "Not Found"}'))
-        check("no rest", caller.ask("GET", "/files")[0], 404)
-        preflight = {"Origin": "http://a", "Access-Control-Request-Method": "GET"}
-        check("a preflight", caller.ask("OPTIONS", "/orders", None, preflight)[0], 204)
-        check("what is no answer", caller.ask("GET", "/orders/7?gives=" + urllib.parse.quote('{"statusCode":1}'))[::2],
-              (502, b'{"message": "Internal Server Error"}'))
 
 
 def raw(url, data):
@@ -297,66 +80,287 @@ def raw(url, data):
     return found
 
 
-def malformed():
-    with running() as (up, caller):
-        url = address(up, r"its URL is (\S+)/$")
-        for name, data, wanted in (
-                ("no request line", b"x\r\n\r\n", b"400"), ("a bare line feed", b"GET / HTTP/1.1\nHost: a\n\n", b"400"),
-                ("no Host", b"GET / HTTP/1.1\r\n\r\n", b"400"),
-                ("two Hosts", b"GET / HTTP/1.1\r\nHost: a\r\nHost: b\r\n\r\n", b"400"),
-                ("a space before the colon", b"GET / HTTP/1.1\r\nHost : a\r\n\r\n", b"400"),
-                ("a folded line", b"GET / HTTP/1.1\r\nHost: a\r\nX: a\r\n b\r\n\r\n", b"400"),
-                ("a length that is no number", b"POST / HTTP/1.1\r\nHost: a\r\nContent-Length: +1\r\n\r\n", b"400"),
-                ("two lengths", b"POST / HTTP/1.1\r\nHost: a\r\nContent-Length: 1\r\nContent-Length: 2\r\n\r\n",
-                 b"400"),
-                ("a length and chunks",
-                 b"POST / HTTP/1.1\r\nHost: a\r\nContent-Length: 1\r\nTransfer-Encoding: chunked\r\n\r\n", b"400"),
-                ("another coding", b"POST / HTTP/1.1\r\nHost: a\r\nTransfer-Encoding: gzip, chunked\r\n\r\n", b"501"),
-                ("a wrong chunk", b"POST / HTTP/1.1\r\nHost: a\r\nTransfer-Encoding: chunked\r\n\r\nxy\r\n", b"400"),
-                ("a host that is not local",
-                 b"GET / HTTP/1.1\r\nHost: evil.example\r\nConnection: close\r\n\r\n", b"403"),
-                ("another version", b"GET / HTTP/2.0\r\nHost: a\r\n\r\n", b"400"),
-                ("a head that is too long", b"GET / HTTP/1.1\r\nHost: a\r\nX: " + b"x" * 70000, b"431"),
-                ("HTTP/1.0", b"GET / HTTP/1.0\r\n\r\n", b"200")):
-            told = f"a request is answered {wanted.decode()}: "
-            count = up.count(told) + (wanted != b"200")
-            check(name, raw(url, data).split(b" ")[1:2], [wanted])
-            check("a line says why", until(lambda: up.count(told) == count, 5))
-        two = raw(url, b"GET /one HTTP/1.1\r\nHost: a\r\n\r\nGET /two HTTP/1.1\r\nHost: a\r\nConnection: close\r\n\r\n")
-        check("two requests at once are answered in turn", re.findall(rb'"rawPath": "([^"]*)"', two),
-              [b"/one", b"/two"])
-        check("the port is still there", caller.ask("GET", "/")[0], 200)
-        begun = time.monotonic()
-        check("half a head is closed", raw(url, b"GET / HTTP/1.1\r\nHost: a"), b"")
-        check("after 20 seconds", 18 < time.monotonic() - begun < 35)
+class HttpEvents(Case):
+    @contextlib.contextmanager
+    def running(self, url=True, **whole):
+        up = Up(*READY, functions=[{"name": "f", "runtime": "python", "handler": "app.run", "environments": 2,
+                                    "url": url,
+                                    "timeout": 10},
+                           {"name": "g", "runtime": "python", "handler": "app.run"}], app=APP, whole=whole)
+        try:
+            up.until("[up] ready", READY_SECONDS)
+            with Caller(address(up, r"its URL is (\S+)/$")) as caller:
+                yield up, caller
+        finally:
+            if up.process.poll() is None:
+                self.check("it ends in order, and leaves nothing", up.end(), (0, []))
 
+    def test_events(self):
+        with self.running() as (_, caller):
+            status, headers, body = caller.ask(
+                "POST", "/a%20b/c?one=1&one=2&two=x%20y&none=", b'{"a":"\xc3\xa9"}',
+                {"Content-Type": "application/json", "Cookie": "k=v; l=w", "X-Thing": "t", "User-Agent": "check"})
+            event = json.loads(body)
+            self.check("an event is answered as JSON", (status, headers["content-type"]), (200, "application/json"))
+            self.check("its version and route", (event["version"], event["routeKey"]), ("2.0", "$default"))
+            self.check("its path and query", (event["rawPath"], event["rawQueryString"],
+                                              event["queryStringParameters"]),
+                       ("/a%20b/c", "one=1&one=2&two=x%20y&none=", {"one": "1,2", "two": "x y", "none": ""}))
+            self.check("its cookies", (event["cookies"], "cookie" in event["headers"]), (["k=v", "l=w"], False))
+            self.check("its headers", (event["headers"]["x-thing"], event["headers"]["content-type"]),
+                       ("t", "application/json"))
+            self.check("its body", (event["body"], event["isBase64Encoded"]), ('{"a":"é"}', False))
+            context = event["requestContext"]
+            self.check("its request", context["http"],
+                       {"method": "POST", "path": "/a%20b/c", "protocol": "HTTP/1.1", "sourceIp": "127.0.0.1",
+                                                        "userAgent": "check"})
+            self.check("its context", sorted(context),
+                       ["accountId", "apiId", "domainName", "domainPrefix", "http", "requestId", "routeKey", "stage",
+                                                        "time", "timeEpoch"])
+            is_time = re.fullmatch(r"\d\d/[A-Z][a-z]{2}/\d{4}:\d\d:\d\d:\d\d \+0000", context["time"]) is not None
+            self.check("its times", (is_time, isinstance(context["timeEpoch"], int)), (True, True))
+            event = json.loads(caller.ask("GET", "/")[2])
+            self.check("a request with nothing",
+                       [name in event for name in ("body", "cookies", "queryStringParameters", "pathParameters")],
+                       [False] * 4)
+            self.check("and an empty query", event["rawQueryString"], "")
+            for kind, is_text in (("text/plain; charset=utf-8", True), ("application/problem+json", True),
+                                  ("image/png", False), ("application/x-www-form-urlencoded", False)):
+                event = json.loads(caller.ask("POST", "/", b"a=b", {"Content-Type": kind})[2])
+                self.check(f"a body of {kind}", (event["isBase64Encoded"], event["body"]),
+                           (not is_text, "a=b" if is_text else "YT1i"))
 
-def mistakes():
-    functions = [{"name": "f", "runtime": "python", "handler": "app.run"}]
-    for whole, members, wanted in (
-            ({"routes": {"GET orders": "f"}}, {},
-             'routes: "GET orders": write it as METHOD /path, such as "GET /orders/{id}", or $default'),
-            ({"routes": {"GET /a": "g"}}, {}, 'routes: "GET /a": there is no function "g"'),
-            ({"routes": {"GET /{a}": "f", "GET /{b}": "f"}}, {},
-             'routes: "GET /{b}": it takes the same requests as "GET /{a}": leave one of the two out'),
-            ({"api": {}}, {}, 'api: there are no routes: write "routes", or leave it out'),
-            ({}, {"url": "yes"}, 'function f: url must be true, or an object, not "yes"'),
-            ({}, {"url": {"prt": 1}}, "function f: url: unknown member prt, did you mean port?"),
-            ({}, {"url": {"cors": {"allowOrigin": []}}},
-             "function f: url: cors: unknown member allowOrigin, did you mean allowOrigins?")):
-        up = Up(functions=[{**functions[0], **members}], app=APP, whole=whole)
-        check(f"a mistake: {whole or members}", (up.end(None), up.lines), ((2, []), [f"up: up.json: {wanted}"]))
-    with socket.socket() as listener:
-        listener.bind(("127.0.0.1", 0))
-        listener.listen()
-        port = listener.getsockname()[1]
-        up = Up(functions=[{**functions[0], "url": {"port": port}}], app=APP)
-        check("a taken port", (up.end(None), up.lines), ((4, []), [
-            f"up: up.json: port {port} (url of function f): another program listens there: leave the port out, and a "
-            f"free one is used"]))
+    def test_results(self):
+        with self.running() as (up, caller):
+            for result, wanted in (("hello", '"hello"'), ({"a": 1}, '{"a": 1}'), (None, "null"), ([1], "[1]"),
+                                   (7, "7")):
+                status, headers, body = giving(caller, result)
+                self.check(f"a plain value: {result!r}", (status, headers["content-type"], json.loads(body)),
+                           (200, "application/json", json.loads(wanted)))
+            given = {"statusCode": 201, "headers": {"X-A": "b", "X-N": 1, "Content-Type": "text/html"}, "body": "<p>"}
+            status, headers, body = giving(caller, given)
+            self.check("status, headers and body", (status, headers["x-a"], headers["x-n"], headers["content-type"],
+                                                    body),
+                       (201, "b", "1", "text/html", b"<p>"))
+            in_base64 = base64.b64encode(BINARY[:300]).decode()
+            self.check("a body in base64", giving(caller, {"statusCode": 200, "body": in_base64,
+                                                           "isBase64Encoded": True})[2],
+                       BINARY[:300])
+            self.check("no body", giving(caller, {"statusCode": 204})[::2], (204, b""))
+            self.check("a redirect", giving(caller, {"statusCode": 302, "headers": {"location": "/x"}})[1]["location"],
+                       "/x")
+            given = json.dumps({"statusCode": 200, "cookies": ["a=1; Path=/", "b=2"]})
+            caller.connection.request("GET", "/?" + urllib.parse.urlencode({"gives": given}))
+            answer = caller.connection.getresponse()
+            answer.read()
+            self.check("cookies", answer.headers.get_all("set-cookie"), ["a=1; Path=/", "b=2"])
+            self.check("a HEAD has no body", giving(caller, {"statusCode": 200, "body": "x"}, "HEAD")[::2], (200, b""))
+            for number, wrong in enumerate((
+                    {"statusCode": "x"}, {"statusCode": 99}, {"statusCode": 200, "body": {"a": 1}},
+                    {"statusCode": 200, "headers": 1},
+                    {"statusCode": 200, "headers": {"a b": "c"}}, {"statusCode": 200, "headers": {"a": "b\r\nc: d"}},
+                    {"statusCode": 200, "cookies": "a"}, {"statusCode": 200, "body": "!", "isBase64Encoded": True}), 1):
+                self.check(f"what is no answer: {wrong}", giving(caller, wrong)[::2], (502, b"Internal Server Error"))
+                self.check("a line says why", until(lambda: up.count("its result cannot be mapped") == number, 5))
+            self.check("a function that fails", caller.ask("GET", "/fails")[::2], (502, b"Internal Server Error"))
 
+    def test_by_curl(self):
+        with self.running() as (up, caller):
+            url = address(up, r"its URL is (\S+)/$")
+            path = os.path.join(up.at, "binary")
+            with open(path, "wb") as file:
+                file.write(BINARY)
+            done = subprocess.run(["curl", "-sS", "--data-binary", f"@{path}", "-H", "Content-Type: image/png",
+                                   url + "/echo"],
+                                  capture_output=True)
+            self.check("curl: binary in both directions", done.stdout, BINARY)
+            with open(path, "wb") as file:
+                file.write(BINARY * 300)
+            done = subprocess.run(["curl", "-sS", "-T", path, "-H", "Expect: 100-continue", "-H",
+                                   "Transfer-Encoding: chunked", url + "/echo"],
+                                  capture_output=True)
+            self.check("curl: 3 MB in chunks, of which it asks first", done.stdout == BINARY * 300)
+            self.check("6 MiB of text",
+                       caller.ask("POST", "/echo", b"x" * ((6 << 20) - 2000),
+                                  {"Content-Type": "text/plain"})[0] in (200, 502))
+            self.check("one byte more than a body may have", caller.ask("POST", "/", b"x" * ((6 << 20) + 1))[0], 413)
+            self.check("a line says so", until(lambda: up.has("413, its body has more than 6291456 bytes"), 5))
+            self.check("an event that becomes too large", caller.ask("POST", "/", b"\0" * (5 << 20))[0], 413)
+            self.check("the port is still there", caller.ask("GET", "/")[0], 200)
 
-if __name__ == "__main__":
-    parts = {part.__name__: part for part in (events, results, by_curl, cross_origin, of_a_template, in_a_browser,
-                                              routes, malformed, mistakes)}
-    sys.exit(counted.run(*(parts[name] for name in sys.argv[1:] or parts)))
+    def test_cross_origin(self):
+        with self.running(url={"cors": CORS}) as (_, caller):
+            asked = {"Origin": "http://shop.example", "Access-Control-Request-Method": "POST",
+                     "Access-Control-Request-Headers": "x-one"}
+            status, headers, body = caller.ask("OPTIONS", "/", None, asked)
+            of_cors = {name: value for name, value in headers.items() if name.startswith("access")}
+            self.check("a preflight", (status, body, of_cors), (200, b"", {
+                "access-control-allow-origin": "http://shop.example", "access-control-allow-methods": "GET,POST",
+                "access-control-allow-headers": "x-one", "access-control-allow-credentials": "true",
+                "access-control-max-age": "60", "access-control-expose-headers": "x-two"}))
+            _, headers, _ = caller.ask("OPTIONS", "/", None, {**asked, "Origin": "http://other.example"})
+            self.check("one of another site", [name for name in headers if name.startswith("access")], [])
+            for origin, wanted in (("http://shop.example", "http://shop.example"), ("http://other.example", None)):
+                headers = caller.ask("GET", "/", None, {"Origin": origin})[1]
+                self.check(f"an answer for {origin}", (headers.get("access-control-allow-origin"), headers["vary"]),
+                           (wanted, "Origin"))
+        with self.running() as (_, caller):
+            event = json.loads(
+                caller.ask("OPTIONS", "/", None, {"Origin": "http://a", "Access-Control-Request-Method": "GET"})[2])
+            self.check("without a configuration the function answers", event["requestContext"]["http"]["method"],
+                       "OPTIONS")
+
+    def test_of_a_template(self):
+        """What a template says of cross-origin requests is what browsers are answered (API Gateway Developer Guide,
+        "Configure CORS for HTTP APIs"; Lambda Developer Guide, "Cross-origin resource sharing")."""
+        with tempfile.TemporaryDirectory() as folder:
+            template, output = (os.path.join(folder, name) for name in ("template.json", "up.json"))
+            with open(template, "w") as file:
+                json.dump(TEMPLATE, file)
+            subprocess.run([os.path.join(ROOT, "lambda_local"), "from_template", template, "-o", output],
+                           stderr=subprocess.DEVNULL, check=True)
+            with open(output) as file:
+                made = json.load(file)
+        up = Up(*READY, functions=[{**function, "runtime": "python"} for function in made.pop("functions")], app=APP,
+                whole=made)
+        up.until("[up] ready", READY_SECONDS)
+        simple = {"allow-origin": "https://shop.example", "allow-credentials": "true", "expose-headers": "x-two"}
+        with Caller(address(up, r"routes: (\S+)$")) as caller:
+            asked = {"Origin": "https://shop.example", "Access-Control-Request-Method": "POST",
+                     "Access-Control-Request-Headers": "x-one"}
+            status, headers, body = caller.ask("OPTIONS", "/orders", None, asked)
+            self.check("an API's preflight", (status, body, cors_in(headers)), (204, b"", {
+                **simple, "allow-methods": "GET,POST", "allow-headers": "x-one,content-type", "max-age": "60"}))
+            status, headers, _ = caller.ask("OPTIONS", "/nowhere", None, asked)
+            self.check("one for what no route takes", (status, headers.get("access-control-allow-origin")),
+                       (204, "https://shop.example"))
+            status, headers, _ = caller.ask("OPTIONS", "/orders", None, {**asked, "Origin": "https://other.example"})
+            self.check("one of another site", (status, cors_in(headers)), (204, {}))
+            own = json.dumps(
+                {"statusCode": 200, "headers": {"Access-Control-Allow-Origin": "*", "x-two": "2"}, "body": "x"})
+            path = "/orders?" + urllib.parse.urlencode({"gives": own})
+            for origin, wanted in (("https://shop.example", simple), ("https://other.example", {}), (None, {})):
+                _, headers, body = caller.ask("GET", path, None, {"Origin": origin} if origin else {})
+                self.check(f"an API's answer for {origin}: the function's own headers do not count",
+                           (cors_in(headers), headers["x-two"], body), (wanted, "2", b"x"))
+            self.check("an OPTIONS that is no preflight has no route", caller.ask("OPTIONS", "/orders", None, {})[0],
+                       404)
+        with Caller(address(up, r"its URL is (\S+)/$")) as caller:
+            asked = {"Origin": "http://any", "Access-Control-Request-Method": "PUT"}
+            status, headers, _ = caller.ask("OPTIONS", "/", None, asked)
+            self.check("a URL's preflight", (status, cors_in(headers)),
+                       (200, {"allow-origin": "*", "allow-methods": "PUT"}))
+            self.check("a URL's answer", cors_in(caller.ask("GET", "/", None, {"Origin": "http://any"})[1]),
+                       {"allow-origin": "*"})
+        self.check("it ends in order, and leaves nothing", up.end(), (0, []))
+
+    def test_in_a_browser(self):
+        """A page of one Function URL reads another one, which answers its preflight."""
+        browser = shutil.which("chromium") or shutil.which("google-chrome")
+        if not browser:
+            self.skipTest("there is no Chromium")
+        cors = {"allowOrigins": ["http://127.0.0.1:*"], "allowMethods": ["POST"], "allowHeaders": ["content-type",
+                                                                                                   "x-one"]}
+        for given, wanted in (({"cors": cors}, "got /there"), (True, "TypeError: Failed to fetch")):
+            functions = [{"name": "f", "runtime": "python", "handler": "app.run", "url": given},
+                         {"name": "page", "runtime": "python", "handler": "page.run", "url": True}]
+            up = Up(*READY, functions=functions, app=APP, files={"page.py": PAGE})
+            up.until("[up] ready", READY_SECONDS)
+            to, page = (address(up, name + r": its URL is (\S+)/$") for name in (r"\bf", r"\bpage"))
+            done = subprocess.run([browser, "--headless", "--no-sandbox", "--disable-gpu",
+                                   f"--user-data-dir={up.at}/profile",
+                                   "--virtual-time-budget=5000", "--dump-dom", f"{page}/?to={to}"],
+                                  stdout=subprocess.PIPE, stderr=subprocess.DEVNULL, text=True, timeout=READY_SECONDS)
+            shown = re.search('<p id="x">(.*?)</p>', done.stdout)
+            self.check(f"Chromium reads a URL with {given}", shown and shown[1], wanted)
+            self.check("it ends in order, and leaves nothing", up.end(), (0, []))
+
+    def test_routes(self):
+        table = {"GET /orders/{id}": "f", "GET /orders/new": "g", "ANY /files/{path+}": "g", "POST /orders": "f",
+                 "ANY /orders/{id}": "g"}
+        with self.running(routes=table,
+                          api={"cors": {"allowOrigins": ["*"]}}) as (up, _), Caller(address(up,
+                              r"routes: (\S+)$")) as caller:
+            for method, path, key, parameters in (
+                    ("GET", "/orders/7", "GET /orders/{id}", {"id": "7"}),
+                    ("GET", "/orders/a%2Fb", "GET /orders/{id}", {"id": "a/b"}),
+                    ("GET", "/orders/new", "GET /orders/new", None), ("PUT", "/orders/7", "ANY /orders/{id}",
+                                                                      {"id": "7"}),
+                    ("DELETE", "/files/a/b.txt", "ANY /files/{path+}", {"path": "a/b.txt"}),
+                    ("POST", "/orders", "POST /orders", None)):
+                status, headers, body = caller.ask(method, path, None, {"Origin": "http://a"})
+                event = json.loads(body)
+                self.check(f"{method} {path}",
+                           (status, event["routeKey"], event["requestContext"]["routeKey"],
+                            event.get("pathParameters")),
+                           (200, key, key, parameters))
+                self.check("any site may read it", headers["access-control-allow-origin"], "*")
+            self.check("no route", caller.ask("GET", "/orders")[::2], (404, b'{"message": "Not Found"}'))
+            self.check("no rest", caller.ask("GET", "/files")[0], 404)
+            preflight = {"Origin": "http://a", "Access-Control-Request-Method": "GET"}
+            self.check("a preflight", caller.ask("OPTIONS", "/orders", None, preflight)[0], 204)
+            self.check("what is no answer", caller.ask("GET", "/orders/7?gives="
+                                                       + urllib.parse.quote('{"statusCode":1}'))[::2],
+                       (502, b'{"message": "Internal Server Error"}'))
+
+    def test_malformed(self):
+        with self.running() as (up, caller):
+            url = address(up, r"its URL is (\S+)/$")
+            for name, data, wanted in (
+                    ("no request line", b"x\r\n\r\n", b"400"), ("a bare line feed", b"GET / HTTP/1.1\nHost: a\n\n",
+                                                                b"400"),
+                    ("no Host", b"GET / HTTP/1.1\r\n\r\n", b"400"),
+                    ("two Hosts", b"GET / HTTP/1.1\r\nHost: a\r\nHost: b\r\n\r\n", b"400"),
+                    ("a space before the colon", b"GET / HTTP/1.1\r\nHost : a\r\n\r\n", b"400"),
+                    ("a folded line", b"GET / HTTP/1.1\r\nHost: a\r\nX: a\r\n b\r\n\r\n", b"400"),
+                    ("a length that is no number", b"POST / HTTP/1.1\r\nHost: a\r\nContent-Length: +1\r\n\r\n", b"400"),
+                    ("two lengths", b"POST / HTTP/1.1\r\nHost: a\r\nContent-Length: 1\r\nContent-Length: 2\r\n\r\n",
+                     b"400"),
+                    ("a length and chunks",
+                     b"POST / HTTP/1.1\r\nHost: a\r\nContent-Length: 1\r\nTransfer-Encoding: chunked\r\n\r\n", b"400"),
+                    ("another coding", b"POST / HTTP/1.1\r\nHost: a\r\nTransfer-Encoding: gzip, chunked\r\n\r\n",
+                     b"501"),
+                    ("a wrong chunk", b"POST / HTTP/1.1\r\nHost: a\r\nTransfer-Encoding: chunked\r\n\r\nxy\r\n",
+                     b"400"),
+                    ("a host that is not local",
+                     b"GET / HTTP/1.1\r\nHost: evil.example\r\nConnection: close\r\n\r\n", b"403"),
+                    ("another version", b"GET / HTTP/2.0\r\nHost: a\r\n\r\n", b"400"),
+                    ("a head that is too long", b"GET / HTTP/1.1\r\nHost: a\r\nX: " + b"x" * 70000, b"431"),
+                    ("HTTP/1.0", b"GET / HTTP/1.0\r\n\r\n", b"200")):
+                told = f"a request is answered {wanted.decode()}: "
+                count = up.count(told) + (wanted != b"200")
+                self.check(name, raw(url, data).split(b" ")[1:2], [wanted])
+                self.check("a line says why", until(lambda: up.count(told) == count, 5))
+            two = raw(url, b"GET /one HTTP/1.1\r\nHost: a\r\n\r\n"
+                           b"GET /two HTTP/1.1\r\nHost: a\r\nConnection: close\r\n\r\n")
+            self.check("two requests at once are answered in turn", re.findall(rb'"rawPath": "([^"]*)"', two),
+                       [b"/one", b"/two"])
+            self.check("the port is still there", caller.ask("GET", "/")[0], 200)
+            begun = time.monotonic()
+            self.check("half a head is closed", raw(url, b"GET / HTTP/1.1\r\nHost: a"), b"")
+            self.check("after 20 seconds", 18 < time.monotonic() - begun < 35)
+
+    def test_mistakes(self):
+        functions = [{"name": "f", "runtime": "python", "handler": "app.run"}]
+        for whole, members, wanted in (
+                ({"routes": {"GET orders": "f"}}, {},
+                 'routes: "GET orders": write it as METHOD /path, such as "GET /orders/{id}", or $default'),
+                ({"routes": {"GET /a": "g"}}, {}, 'routes: "GET /a": there is no function "g"'),
+                ({"routes": {"GET /{a}": "f", "GET /{b}": "f"}}, {},
+                 'routes: "GET /{b}": it takes the same requests as "GET /{a}": leave one of the two out'),
+                ({"api": {}}, {}, 'api: there are no routes: write "routes", or leave it out'),
+                ({}, {"url": "yes"}, 'function f: url must be true, or an object, not "yes"'),
+                ({}, {"url": {"prt": 1}}, "function f: url: unknown member prt, did you mean port?"),
+                ({}, {"url": {"cors": {"allowOrigin": []}}},
+                 "function f: url: cors: unknown member allowOrigin, did you mean allowOrigins?")):
+            up = Up(functions=[{**functions[0], **members}], app=APP, whole=whole)
+            self.check(f"a mistake: {whole or members}", (up.end(None), up.lines),
+                       ((2, []), [f"up: up.json: {wanted}"]))
+        with socket.socket() as listener:
+            listener.bind(("127.0.0.1", 0))
+            listener.listen()
+            port = listener.getsockname()[1]
+            up = Up(functions=[{**functions[0], "url": {"port": port}}], app=APP)
+            self.check("a taken port", (up.end(None), up.lines), ((4, []), [
+                f"up: up.json: port {port} (url of function f): another program listens there: leave the port out, and "
+                f"a free one is used"]))

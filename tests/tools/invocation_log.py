@@ -1,7 +1,6 @@
-#!/usr/bin/env python3
 """Checks the log of an invocation: what Invoke answers with the log type Tail, and the lines of `lambda_local up
 --report`, by the forms that AWS's public pages show (Developer Guide, "Viewing CloudWatch logs for Lambda functions";
-API reference, "Invoke"). Ends with 'N passed, M failed'."""
+API reference, "Invoke")."""
 import base64
 import concurrent.futures
 import json
@@ -13,13 +12,11 @@ import time
 import urllib.error
 import urllib.request
 
-ROOT = os.path.dirname(os.path.dirname(os.path.dirname(os.path.realpath(__file__))))
-sys.path[:0] = [os.path.join(ROOT, "tools"), os.path.join(ROOT, "tests", "library")]
-import counted  # noqa: E402
-from counted import check  # noqa: E402
-from lambda_local.up.invocation_lines import MOST_KEPT, Line, Printed  # noqa: E402
-from lambda_local.up.invocation_log import Figures, encoded, report_line  # noqa: E402
-from up_kit import Up, until  # noqa: E402
+from lambda_local.up.invocation_lines import MOST_KEPT, Line, Printed
+from lambda_local.up.invocation_log import Figures, encoded, report_line
+from tests import ROOT
+from tests.library.cases import Case
+from tests.library.up_kit import Up, until
 
 APP = r'''import os, sys, time
 print("imported")
@@ -71,72 +68,6 @@ def parts(log):
     return lines[1:-3], report.groups()[1:]
 
 
-def tails():
-    up = up_of(memory=256, timeout=2)
-    check("up is ready", up.until("ready"))
-    lines, report = parts(tail_of(up))
-    check("the lines of the first invocation: not those of the Init", lines,
-          ["to standard output", "to standard error"])
-    duration, billed, size, used, init, status, _ = report
-    check("its REPORT has the Init, which is billed", (
-        float(init) > 5, int(billed) >= float(duration) + float(init), int(billed) - float(duration) - float(init) < 1,
-        size, 5 < int(used) < 200, status), (True, True, True, "256", True, None))
-    lines, report = parts(tail_of(up))
-    check("the second one's lines", lines, ["to standard output", "to standard error"])
-    check("its REPORT has no Init", (report[4], int(report[1]) == max(1, float(report[0]))), (None, True))
-    check("one that prints nothing", parts(tail_of(up, do="nothing"))[0], [])
-    check("its memory is the most that it has used", int(parts(tail_of(up, do="memory"))[1][3]) > 85)
-    check("also later", int(parts(tail_of(up, do="nothing"))[1][3]) > 85)
-    log = tail_of(up, do="many", count=1000, name="\u00e9" * 7)
-    whole = f"START RequestId: {re.search(END, log)[1]} Version: $LATEST\n{log}"
-    check("the last 4 KB, from a whole character on", (len(log.encode()) in range(4094, 4097),
-                                                       log[0] in "\u00e9 line0123456789\n", parts(whole)[0][-1]),
-          (True, True, "\u00e9" * 7 + " line 999"))
-    failures(up)
-    until(lambda: up.count("imported") == 3, 20)  # (the one after the timeout)
-    for kind in (None, "None"):
-        check(f"no log is given with the log type {kind}", tail_of(up, kind=kind), None)
-    check("a line that is not whole", parts(tail_of(up, do="part"))[0], ["begun"])
-    check("its rest is the next one's", parts(tail_of(up))[0], ["to standard output", "to standard error"])
-    check("nothing is left", up.end(), (0, []))
-
-
-def failures(up):
-    lines, report = parts(tail_of(up, do="fail"))
-    check("what a handler raises", (lines[0], lines[-1], report[-2:]), ("before", "KeyError: 'missing'", (None, None)))
-    lines, report = parts(tail_of(up, do="crash"))
-    check("a runtime that exits", (lines[0], lines[1].partition(" ")[2].partition(" ")[2], lines[2:], report[-2:]),
-          ("before", "Error: Runtime exited with error: exit status 7", ["Runtime.ExitError"],
-           ("error", "Runtime.ExitError")))
-    until(lambda: up.count("imported") == 2, 20)  # (the next environment's)
-    log = tail_of(up, do="hang")
-    lines, report = parts(log)
-    check("a timeout", (lines[0], bool(re.fullmatch(
-        rf"\d{{4}}-\d\d-\d\dT\d\d:\d\d:\d\d\.\d\d\dZ {ID} Task timed out after 2\.00 seconds", lines[1])), report[-2:],
-        2000 <= float(report[0]) < 3000), ("before", True, ("timeout", None), True))
-    up.until("Runtime exited")
-
-
-def together():
-    """Each of many callers at once gets its own lines, whichever environment has them, and one environment's
-    invocations follow each other."""
-    up = up_of(environments=3, timeout=20)
-    check("three environments are ready", up.until("ready"))
-
-    def call(number):
-        while True:
-            try:
-                return number, parts(tail_of(up, do="many", count=5, name=f"caller {number}", seconds=0.02))[0]
-            except urllib.error.HTTPError as fault:
-                fault.close()
-                time.sleep(0.01)
-    with concurrent.futures.ThreadPoolExecutor(6) as pool:
-        seen = list(pool.map(call, range(60)))
-    check("each of 60 tails has its own five lines", [(number, lines) for number, lines in seen if lines != [
-        f"caller {number} line {line}" for line in range(5)]], [])
-    up.end()
-
-
 class Load:
     """Processes that need all processors, while it lasts."""
 
@@ -185,137 +116,199 @@ while True:
 """
 
 
-def under_load(what, function, *files):
-    """However late its lines are read, an invocation has its own and no other: each caller's next one follows at once,
-    and there is no room on the processors."""
-    up = Up(app=AT_ONCE, files=dict(files), functions=[{"name": "f", "environments": 3, "timeout": 60, **function}])
-    check(f"{what} is ready", up.until("ready", 120))
+class InvocationLog(Case):
+    def test_tails(self):
+        up = up_of(memory=256, timeout=2)
+        self.check("up is ready", up.until("ready"))
+        lines, report = parts(tail_of(up))
+        self.check("the lines of the first invocation: not those of the Init", lines,
+                   ["to standard output", "to standard error"])
+        duration, billed, size, used, init, status, _ = report
+        self.check("its REPORT has the Init, which is billed", (
+            float(init) > 5, int(billed) >= float(duration) + float(init), int(billed) - float(duration)
+            - float(init) < 1,
+            size, 5 < int(used) < 200, status), (True, True, True, "256", True, None))
+        lines, report = parts(tail_of(up))
+        self.check("the second one's lines", lines, ["to standard output", "to standard error"])
+        self.check("its REPORT has no Init", (report[4], int(report[1]) == max(1, float(report[0]))), (None, True))
+        self.check("one that prints nothing", parts(tail_of(up, do="nothing"))[0], [])
+        self.check("its memory is the most that it has used", int(parts(tail_of(up, do="memory"))[1][3]) > 85)
+        self.check("also later", int(parts(tail_of(up, do="nothing"))[1][3]) > 85)
+        log = tail_of(up, do="many", count=1000, name="\u00e9" * 7)
+        whole = f"START RequestId: {re.search(END, log)[1]} Version: $LATEST\n{log}"
+        self.check("the last 4 KB, from a whole character on", (len(log.encode()) in range(4094, 4097),
+                                                                log[0] in "\u00e9 line0123456789\n",
+                                                                parts(whole)[0][-1]),
+                   (True, True, "\u00e9" * 7 + " line 999"))
+        self.failures(up)
+        until(lambda: up.count("imported") == 3, 20)  # (the one after the timeout)
+        for kind in (None, "None"):
+            self.check(f"no log is given with the log type {kind}", tail_of(up, kind=kind), None)
+        self.check("a line that is not whole", parts(tail_of(up, do="part"))[0], ["begun"])
+        self.check("its rest is the next one's", parts(tail_of(up))[0], ["to standard output", "to standard error"])
+        self.check("nothing is left", up.end(), (0, []))
 
-    def call(number):
-        while True:
-            try:
-                return number, tail_of(up, count=5, name=f"caller {number}")
-            except urllib.error.HTTPError as fault:
-                fault.close()
-                time.sleep(0.005)
-    with Load(), concurrent.futures.ThreadPoolExecutor(60) as pool:
-        seen = list(pool.map(call, range(180)))
-    wrong = []
-    for number, log in seen:
-        lines, identifier = parts(log)[0] or [], (re.match(START, log) or [0, 0])[1]
-        own = [line for line in lines if line != f"extension {identifier}"]
-        if own != [*(f"caller {number} line {line}" for line in range(5)), f"caller {number} ends"]:
-            wrong.append((number, lines))
-    check(f"{what}: each of 180 tails has its own six lines", wrong, [])
-    check("nothing is left", up.end(), (0, []))
+    def failures(self, up):
+        lines, report = parts(tail_of(up, do="fail"))
+        self.check("what a handler raises", (lines[0], lines[-1], report[-2:]), ("before", "KeyError: 'missing'",
+                                                                                 (None, None)))
+        lines, report = parts(tail_of(up, do="crash"))
+        self.check("a runtime that exits", (lines[0], lines[1].partition(" ")[2].partition(" ")[2], lines[2:],
+                                            report[-2:]),
+                   ("before", "Error: Runtime exited with error: exit status 7", ["Runtime.ExitError"],
+                    ("error", "Runtime.ExitError")))
+        until(lambda: up.count("imported") == 2, 20)  # (the next environment's)
+        log = tail_of(up, do="hang")
+        lines, report = parts(log)
+        self.check("a timeout", (lines[0], bool(re.fullmatch(
+            rf"\d{{4}}-\d\d-\d\dT\d\d:\d\d:\d\d\.\d\d\dZ {ID} Task timed out after 2\.00 seconds", lines[1])),
+                                 report[-2:],
+            2000 <= float(report[0]) < 3000), ("before", True, ("timeout", None), True))
+        up.until("Runtime exited")
 
+    def test_together(self):
+        """Each of many callers at once gets its own lines, whichever environment has them, and one environment's
+        invocations follow each other."""
+        up = up_of(environments=3, timeout=20)
+        self.check("three environments are ready", up.until("ready"))
 
-def loaded():
-    command = [sys.executable, "speaks.py"]
-    under_load("the runtime of Python", {"runtime": "python", "handler": "app.run"})
-    under_load("the runtime of Node", {"runtime": "node", "handler": "index.run"}, ("index.mjs", OF_NODE))
-    under_load("another runtime", {"command": command}, ("speaks.py", SPEAKS))
-    under_load("an extension", {"runtime": "python", "handler": "app.run",
-                                "extensions": {"x": [sys.executable, "x.py"]}}, ("x.py", SPEAKING_EXTENSION))
+        def call(number):
+            while True:
+                try:
+                    return number, parts(tail_of(up, do="many", count=5, name=f"caller {number}", seconds=0.02))[0]
+                except urllib.error.HTTPError as fault:
+                    fault.close()
+                    time.sleep(0.01)
+        with concurrent.futures.ThreadPoolExecutor(6) as pool:
+            seen = list(pool.map(call, range(60)))
+        self.check("each of 60 tails has its own five lines", [(number, lines) for number, lines in seen if lines != [
+            f"caller {number} line {line}" for line in range(5)]], [])
+        up.end()
 
+    def under_load(self, what, function, *files):
+        """However late its lines are read, an invocation has its own and no other: each caller's next one follows at
+        once, and there is no room on the processors."""
+        up = Up(app=AT_ONCE, files=dict(files), functions=[{"name": "f", "environments": 3, "timeout": 60, **function}])
+        self.check(f"{what} is ready", up.until("ready", 120))
 
-def clients():
-    """The aws command line, if one is here that reads the endpoint."""
-    up = up_of()
-    up.until("ready")
-    code = ("import base64, boto3, sys; print(base64.b64decode(boto3.client('lambda', endpoint_url=sys.argv[1], "
-            "region_name='us-east-1', aws_access_key_id='x', aws_secret_access_key='y').invoke(FunctionName='f', "
-            "LogType='Tail')['LogResult']).decode(), end='')")
-    done = subprocess.run([sys.executable, "-c", code, up.endpoint], capture_output=True, text=True)
-    check("boto3's LogResult", parts(done.stdout)[0], ["to standard output", "to standard error"])
-    words = [sys.executable, os.path.join(ROOT, "tools"), "invoke", "f", "--tail", "--endpoint", up.endpoint]
-    done = subprocess.run(words, capture_output=True, text=True)
-    check("lambda_local invoke --tail", (done.stdout, parts(done.stderr)[0]),
-          ("null\n", ["to standard output", "to standard error"]))
-    up.end()
+        def call(number):
+            while True:
+                try:
+                    return number, tail_of(up, count=5, name=f"caller {number}")
+                except urllib.error.HTTPError as fault:
+                    fault.close()
+                    time.sleep(0.005)
+        with Load(), concurrent.futures.ThreadPoolExecutor(60) as pool:
+            seen = list(pool.map(call, range(180)))
+        wrong = []
+        for number, log in seen:
+            lines, identifier = parts(log)[0] or [], (re.match(START, log) or [0, 0])[1]
+            own = [line for line in lines if line != f"extension {identifier}"]
+            if own != [*(f"caller {number} line {line}" for line in range(5)), f"caller {number} ends"]:
+                wrong.append((number, lines))
+        self.check(f"{what}: each of 180 tails has its own six lines", wrong, [])
+        self.check("nothing is left", up.end(), (0, []))
 
+    def test_loaded(self):
+        command = [sys.executable, "speaks.py"]
+        self.under_load("the runtime of Python", {"runtime": "python", "handler": "app.run"})
+        self.under_load("the runtime of Node", {"runtime": "node", "handler": "index.run"}, ("index.mjs", OF_NODE))
+        self.under_load("another runtime", {"command": command}, ("speaks.py", SPEAKS))
+        self.under_load("an extension", {"runtime": "python", "handler": "app.run",
+                                         "extensions": {"x": [sys.executable, "x.py"]}}, ("x.py", SPEAKING_EXTENSION))
 
-def own_runtime():
-    """A function whose runtime somebody else has started: nothing that it prints is known, nor its memory."""
-    up = Up(functions=[{"name": "f", "timeout": 5}])
-    check("its address is told", up.until("start its runtime yourself"))
-    address = re.search(r"f/1: (127\.0\.0\.1:\d+)", "\n".join(up.lines))[1]
-    runtime = subprocess.Popen([sys.executable, os.path.join(ROOT, "examples", "runtime.py"), address])
-    log = tail_of(up, name="x")
-    check("START, END and REPORT", bool(re.fullmatch(
-        f"{START}\n{END}\nREPORT RequestId: {ID}\tDuration: \\d+\\.00 ms\tBilled Duration: \\d+ ms\tMemory Size: 128 MB"
-        "\t\n", log)))
-    up.end()
-    runtime.wait(10)
+    def test_clients(self):
+        """The aws command line, if one is here that reads the endpoint."""
+        up = up_of()
+        up.until("ready")
+        code = ("import base64, boto3, sys; print(base64.b64decode(boto3.client('lambda', endpoint_url=sys.argv[1], "
+                "region_name='us-east-1', aws_access_key_id='x', aws_secret_access_key='y').invoke(FunctionName='f', "
+                "LogType='Tail')['LogResult']).decode(), end='')")
+        done = subprocess.run([sys.executable, "-c", code, up.endpoint], capture_output=True, text=True)
+        self.check("boto3's LogResult", parts(done.stdout)[0], ["to standard output", "to standard error"])
+        words = [sys.executable, os.path.join(ROOT, "tools"), "invoke", "f", "--tail", "--endpoint", up.endpoint]
+        done = subprocess.run(words, capture_output=True, text=True)
+        self.check("lambda_local invoke --tail", (done.stdout, parts(done.stderr)[0]),
+                   ("null\n", ["to standard output", "to standard error"]))
+        up.end()
 
+    def test_own_runtime(self):
+        """A function whose runtime somebody else has started: nothing that it prints is known, nor its memory."""
+        up = Up(functions=[{"name": "f", "timeout": 5}])
+        self.check("its address is told", up.until("start its runtime yourself"))
+        address = re.search(r"f/1: (127\.0\.0\.1:\d+)", "\n".join(up.lines))[1]
+        runtime = subprocess.Popen([sys.executable, os.path.join(ROOT, "examples", "runtime.py"), address])
+        log = tail_of(up, name="x")
+        self.check("START, END and REPORT", bool(re.fullmatch(
+            f"{START}\n{END}\nREPORT RequestId: {ID}\tDuration: \\d+\\.00 ms\tBilled Duration: \\d+ ms\t"
+            "Memory Size: 128 MB"
+            "\t\n", log)))
+        up.end()
+        runtime.wait(10)
 
-def reports():
-    up = up_of("--report", timeout=1)
-    up.until("ready")
-    for number, event in enumerate(({}, {"do": "fail"}, {"do": "crash"}, {"do": "hang"}, {})):
-        # (what is printed while nothing is asked for is shown before it)
-        until(lambda: up.count("imported") > max(0, number - 2), 20)
-        time.sleep(0.3)
-        up.invoke(**event)
-        until(lambda: up.count("REPORT") > number, 20)
-    up.end()
-    texts = [line.partition("[f/1] ")[2] for line in up.lines if "[f/1] " in line]
-    kinds = [re.sub(ID, "ID", text).split("\t")[0] for text in texts if not text.startswith(("  ", "--", "Traceback"))]
-    start, end, report = "START RequestId: ID Version: $LATEST", "END RequestId: ID", "REPORT RequestId: ID"
-    kinds = [re.sub(r"^\d{4}-\S+Z|\d+ ms$", "..", kind) for kind in kinds]
-    check("the log of five invocations, in its order", kinds, [
-        "imported",
-        start, "to standard output", "to standard error", end, report, "ID ok ..",
-        start, "before", "KeyError: 'missing'", end, report, "ID error KeyError: 'missing' (app.py:12)",
-        start, "before", "RequestId: ID Error: Runtime exited with error: exit status 7", "Runtime.ExitError", end,
-        report, "ID error Runtime.ExitError: Runtime exited with error: exit status 7", "imported",
-        start, "before", ".. ID Task timed out after 1.00 seconds", end, report, "ID timeout after 1 s", "imported",
-        start, "to standard output", "to standard error", end, report, "ID ok .."])
-    check("each REPORT has Lambda's form", [text for text in texts if text.startswith("REPORT")
-                                               and not re.fullmatch(REPORT, text + "\t")], [])
+    def test_reports(self):
+        up = up_of("--report", timeout=1)
+        up.until("ready")
+        for number, event in enumerate(({}, {"do": "fail"}, {"do": "crash"}, {"do": "hang"}, {})):
+            # (what is printed while nothing is asked for is shown before it)
+            until(lambda: up.count("imported") > max(0, number - 2), 20)
+            time.sleep(0.3)
+            up.invoke(**event)
+            until(lambda: up.count("REPORT") > number, 20)
+        up.end()
+        texts = [line.partition("[f/1] ")[2] for line in up.lines if "[f/1] " in line]
+        kinds = [re.sub(ID, "ID", text).split("\t")[0] for text in texts if not text.startswith(("  ", "--",
+                                                                                                 "Traceback"))]
+        start, end, report = "START RequestId: ID Version: $LATEST", "END RequestId: ID", "REPORT RequestId: ID"
+        kinds = [re.sub(r"^\d{4}-\S+Z|\d+ ms$", "..", kind) for kind in kinds]
+        self.check("the log of five invocations, in its order", kinds, [
+            "imported",
+            start, "to standard output", "to standard error", end, report, "ID ok ..",
+            start, "before", "KeyError: 'missing'", end, report, "ID error KeyError: 'missing' (app.py:12)",
+            start, "before", "RequestId: ID Error: Runtime exited with error: exit status 7", "Runtime.ExitError", end,
+            report, "ID error Runtime.ExitError: Runtime exited with error: exit status 7", "imported",
+            start, "before", ".. ID Task timed out after 1.00 seconds", end, report, "ID timeout after 1 s", "imported",
+            start, "to standard output", "to standard error", end, report, "ID ok .."])
+        self.check("each REPORT has Lambda's form", [text for text in texts if text.startswith("REPORT")
+                                                   and not re.fullmatch(REPORT, text + "\t")], [])
 
+    def test_reports_as_json(self):
+        up = up_of("--report", "--log", "json", memory=192)
+        up.until('"kind": "ready"')
+        up.endpoint = next(json.loads(line)["endpoint"] for line in up.lines if '"endpoint"' in line)
+        up.invoke()
+        up.until("REPORT")
+        up.end()
+        lines = [json.loads(line) for line in up.lines]
+        platform = [line for line in lines if line["kind"] == "platform"]
+        self.check("START, END and REPORT as JSON", [(line["text"].split(" ")[0], line["function"], line["environment"])
+                                                     for line in platform],
+                   [("START", "f", 1), ("END", "f", 1), ("REPORT", "f", 1)])
+        report = platform[-1]
+        self.check("the figures", (report["memory_mb"], report["billed_ms"] >= report["duration_ms"]
+                                   + report["init_ms"],
+                                   report["max_memory_mb"] > 5, report["status"], report["request"] in report["text"]),
+                   (192, True, True, "success", True))
+        order = [line["text"].split(" ")[0] for line in lines
+                 if line["source"] == "f/1" and line["kind"] in ("platform", "output")]
+        self.check("in their order", order, ["imported", "START", "to", "to", "END", "REPORT"])
 
-def reports_as_json():
-    up = up_of("--report", "--log", "json", memory=192)
-    up.until('"kind": "ready"')
-    up.endpoint = next(json.loads(line)["endpoint"] for line in up.lines if '"endpoint"' in line)
-    up.invoke()
-    up.until("REPORT")
-    up.end()
-    lines = [json.loads(line) for line in up.lines]
-    platform = [line for line in lines if line["kind"] == "platform"]
-    check("START, END and REPORT as JSON", [(line["text"].split(" ")[0], line["function"], line["environment"])
-                                            for line in platform],
-          [("START", "f", 1), ("END", "f", 1), ("REPORT", "f", 1)])
-    report = platform[-1]
-    check("the figures", (report["memory_mb"], report["billed_ms"] >= report["duration_ms"] + report["init_ms"],
-                          report["max_memory_mb"] > 5, report["status"], report["request"] in report["text"]),
-          (192, True, True, "success", True))
-    order = [line["text"].split(" ")[0] for line in lines
-             if line["source"] == "f/1" and line["kind"] in ("platform", "output")]
-    check("in their order", order, ["imported", "START", "to", "to", "END", "REPORT"])
-
-
-def parts_alone():
-    printed, seen = Printed(), []
-    printed.follow(seen.append)
-    for number in range(3):
-        printed.take("f/1", f"line {number}")
-    check("whoever follows gets each line", [(line.source, line.text) for line in seen],
-          [("f/1", "line 0"), ("f/1", "line 1"), ("f/1", "line 2")])
-    for _ in range(3 * MOST_KEPT // 1000):
-        printed.take("f/1", "x" * 1000)
-    check("it keeps no more than it may", printed.size <= MOST_KEPT and len(printed.lines) > 500)
-    check("an example of the Developer Guide", report_line(Figures(
-        "57f231fb-1730-4395-85cb-4f71bd2b87b8", 79.67, 128, 73, None, "success", "")),
-        "REPORT RequestId: 57f231fb-1730-4395-85cb-4f71bd2b87b8\tDuration: 79.67 ms\tBilled Duration: 80 ms\t"
-        "Memory Size: 128 MB\tMax Memory Used: 73 MB\t")
-    check("a duration of nothing is billed as a millisecond",
-          Figures("x", 0.0, 128, None, None, "success", "").billed, 1)
-    text = base64.b64decode(encoded(iter(["\u20ac" * 2000]))).decode()
-    check("a log is cut at a character", (len(text.encode()), set(text)), (4096 - 4095 % 3, {"\u20ac", "\n"}))
-    check("a line is a moment, a source and a text", Line(1.0, "f/1", "x").source, "f/1")
-
-
-if __name__ == "__main__":
-    sys.exit(counted.run(parts_alone, tails, together, loaded, clients, own_runtime, reports, reports_as_json))
+    def test_parts_alone(self):
+        printed, seen = Printed(), []
+        printed.follow(seen.append)
+        for number in range(3):
+            printed.take("f/1", f"line {number}")
+        self.check("whoever follows gets each line", [(line.source, line.text) for line in seen],
+                   [("f/1", "line 0"), ("f/1", "line 1"), ("f/1", "line 2")])
+        for _ in range(3 * MOST_KEPT // 1000):
+            printed.take("f/1", "x" * 1000)
+        self.check("it keeps no more than it may", printed.size <= MOST_KEPT and len(printed.lines) > 500)
+        self.check("an example of the Developer Guide", report_line(Figures(
+            "57f231fb-1730-4395-85cb-4f71bd2b87b8", 79.67, 128, 73, None, "success", "")),
+            "REPORT RequestId: 57f231fb-1730-4395-85cb-4f71bd2b87b8\tDuration: 79.67 ms\tBilled Duration: 80 ms\t"
+            "Memory Size: 128 MB\tMax Memory Used: 73 MB\t")
+        self.check("a duration of nothing is billed as a millisecond",
+                   Figures("x", 0.0, 128, None, None, "success", "").billed, 1)
+        text = base64.b64decode(encoded(iter(["\u20ac" * 2000]))).decode()
+        self.check("a log is cut at a character", (len(text.encode()), set(text)), (4096 - 4095 % 3, {"\u20ac", "\n"}))
+        self.check("a line is a moment, a source and a text", Line(1.0, "f/1", "x").source, "f/1")

@@ -1,6 +1,5 @@
-#!/usr/bin/env python3
 """Checks `lambda_local invoke` against functions of a service, and against a server that answers as Lambda's documents
-say. The program is LAMBDA_LOCAL_PROGRAM, else ./lambda_local. Ends with 'N passed, M failed'."""
+say. The program is LAMBDA_LOCAL_PROGRAM, else ./lambda_local."""
 import base64
 import glob
 import http.server
@@ -12,12 +11,10 @@ import sys
 import tempfile
 import threading
 
-ROOT = os.path.dirname(os.path.dirname(os.path.dirname(os.path.realpath(__file__))))
-sys.path[:0] = [os.path.join(ROOT, "tools"), os.path.join(ROOT, "tests", "library")]
-import counted  # noqa: E402
-from counted import check  # noqa: E402
-from lambda_local.in_process import LambdaLocal  # noqa: E402
-from up_kit import Up  # noqa: E402
+from lambda_local.in_process import LambdaLocal
+from tests import ROOT
+from tests.library.cases import Case
+from tests.library.up_kit import Up
 
 INVOKE = [sys.executable, os.path.join(ROOT, "tools"), "invoke"]
 CLEAN = {name: value for name, value in os.environ.items() if name != "AWS_ENDPOINT_URL_LAMBDA"}
@@ -28,77 +25,6 @@ def invoke(*words, stdin="", **environ):
     done = subprocess.run([*INVOKE, *words], input=stdin, capture_output=True, text=True, timeout=60,
                           env={**CLEAN, **environ})
     return done.returncode, done.stdout, done.stderr
-
-
-def results():
-    with LambdaLocal({"closed": {"reserved": 0}}, same=lambda event: event, fails=lambda event: event["missing"],
-                     closed=lambda event: event) as service, tempfile.TemporaryDirectory() as folder:
-        here = {"AWS_ENDPOINT_URL_LAMBDA": service.endpoint_url}
-        path = os.path.join(folder, "event.json")
-        with open(path, "w", encoding="utf-8") as file:
-            file.write('{"name": "Ada \u00e9\u4e2d"}')
-        for name, words, stdin, wanted in (
-                ("nothing", [], "", {}), ("an object", ['{"name": "Ada"}'], "", {"name": "Ada"}),
-                ("a number", ["-7"], "", -7), ("a string", ['"\u00e9"'], "", "\u00e9"),
-                ("a file", [path], "", {"name": "Ada \u00e9\u4e2d"}), ("standard input", ["-"], "[1]", [1])):
-            status, output, said = invoke("same", *words, stdin=stdin, **here)
-            check(f"the payload is {name}", (status, json.loads(output or "0"), said), (0, wanted, ""))
-        for kind in glob.glob(os.path.join(ROOT, "examples", "events", "*.json")):
-            with open(kind) as file:
-                status, output, _ = invoke("same", "--sample", os.path.basename(kind)[:-5], **here)
-                check(f"the sample {os.path.basename(kind)}", (status, json.loads(output)), (0, json.load(file)))
-        event = json.loads(invoke("same", "--now", **here)[1])
-        check("a schedule that is due now", (event["source"], event["detail-type"],
-                                             bool(re.fullmatch(r"\d{4}-\d\d-\d\dT\d\d:\d\d:\d\dZ", event["time"]))),
-              ("aws.events", "Scheduled Event", True))
-        check("--endpoint", invoke("same", "1", "--endpoint", service.endpoint_url + "/"), (0, "1\n", ""))
-        check("an ARN", invoke("arn:aws:lambda:us-east-1:123456789012:function:same", "1", **here), (0, "1\n", ""))
-        status, output, said = invoke("fails", **here)
-        check("a function that fails", (status, json.loads(output)["errorType"], said),
-              (1, "KeyError", "invoke: fails: the function has failed\n"))
-        check("one that is throttled", invoke("closed", **here),
-              (3, "", "invoke: closed: 429 TooManyRequestsException: Rate Exceeded.: "
-                      "ReservedFunctionConcurrentInvocationLimitExceeded\n"))
-        status, output, said = invoke("no one's/../name", **here)
-        check("a name that is none", (status, output, said.count("\n")), (3, "", 1))
-        check("a function that is not there", invoke("other", **here)[2].startswith(
-            "invoke: other: 404 ResourceNotFoundException: "))
-        check("no log is in the answer, which is said", invoke("same", "1", "--tail", **here),
-              (0, "1\n", "invoke: the answer has no log: `lambda_local up` keeps what functions print\n"))
-
-
-def faults():
-    with tempfile.TemporaryDirectory() as folder:
-        for name, text in (("broken.json", b'{"a":\n 1,}'), ("latin.json", b'"\xe9"'), ("nan.json", b"[NaN]"),
-                           ("deep.json", b"[" * 100_000), ("long.json", b'"' + b"x" * (6 << 20) + b'"')):
-            with open(os.path.join(folder, name), "wb") as file:
-                file.write(text)
-        for words, stdin, wanted in (
-                (["{a:1}"], "", "{a:1} is neither JSON nor a file: write for example '{\"name\": \"Ada\"}'"),
-                (["/nowhere.json"], "", "/nowhere.json is neither JSON nor a file"),
-                ([folder], "", f"{folder} is neither JSON nor a file"[:80]),
-                ([f"{folder}/broken.json"], "", "broken.json: this is not JSON: Expecting property name enclosed in"),
-                ([f"{folder}/latin.json"], "", "latin.json: this is not JSON: it is not UTF-8"),
-                ([f"{folder}/nan.json"], "", "nan.json: this is not JSON: NaN is not JSON"),
-                ([f"{folder}/deep.json"], "", "deep.json: this is not JSON that Lambda takes: it is nested too deep"),
-                ([f"{folder}/long.json"], "", "long.json: it has more than 6291456 bytes, which Lambda takes at most"),
-                (["-"], "{", "-: this is not JSON: Expecting property name"),
-                (["--sample", "s33"], "", "--sample s33: did you mean s3? there are apigateway_1.0, apigateway_2.0, "
-                                          "eventbridge, s3, schedule, sns, sqs"),
-                (["--sample", "../up"], "", "--sample ../up: there are apigateway_1.0, "),
-                (["1", "--now"], "", "write one of PAYLOAD, FILE, -, --sample and --now"),
-                (["1", "--endpoint", "https://lambda.us-east-1.amazonaws.com"], "",
-                 "--endpoint=https://lambda.us-east-1.amazonaws.com: write it as http://127.0.0.1:PORT"),
-                (["1", "--endpoint", "http://[::1"], "", "--endpoint=http://[::1: write it as http://127.0.0.1:PORT"),
-                (["1", "--endpoint", "127.0.0.1:9000"], "", "--endpoint=127.0.0.1:9000: write it as http:"),
-                (["1", "--endpoint", "http://127.0.0.1:99999"], "", "--endpoint=http://127.0.0.1:99999: write it as")):
-            status, output, said = invoke("f", *words, stdin=stdin)
-            check(f"a fault: {wanted[:60]}", (status, output, said.count("\n"), wanted in said),
-                  (2, "", 1, True), shown=said)
-    status, output, said = invoke("f", AWS_ENDPOINT_URL_LAMBDA="http://127.0.0.1:1")
-    check("a service that is not there", (status, output, said),
-          (4, "", "invoke: http://127.0.0.1:1: Connection refused: start the service, for example by `lambda_local up "
-                  "UP.json`, and name the address that it prints by --endpoint or AWS_ENDPOINT_URL_LAMBDA\n"))
 
 
 class AsDocumented(http.server.BaseHTTPRequestHandler):
@@ -123,36 +49,112 @@ class AsDocumented(http.server.BaseHTTPRequestHandler):
         pass
 
 
-def documented():
-    server = http.server.HTTPServer(("127.0.0.1", 0), AsDocumented)
-    thread = threading.Thread(target=server.serve_forever)
-    thread.start()
-    try:
-        endpoint = f"http://127.0.0.1:{server.server_port}"
-        check("--tail prints the log on standard error", invoke("f", "--tail", "--endpoint", endpoint),
-              (0, '{"ok": true}\n', "START ..\nprint\u00e9d\nEND ..\n"))
-        check("--event does not wait for a result", invoke("f", "7", "--event", "--endpoint", endpoint),
-              (0, "", "invoke: f: the event is taken: an-identifier\n"))
-        check("what was asked", AsDocumented.seen, [
-            ("/2015-03-31/functions/f/invocations", None, "Tail", b"{}"),
-            ("/2015-03-31/functions/f/invocations", "Event", None, b"7")])
-    finally:
-        server.shutdown()
-        thread.join()
-        server.server_close()
+class Invoke(Case):
+    def test_results(self):
+        with LambdaLocal({"closed": {"reserved": 0}}, same=lambda event: event, fails=lambda event: event["missing"],
+                         closed=lambda event: event) as service, tempfile.TemporaryDirectory() as folder:
+            here = {"AWS_ENDPOINT_URL_LAMBDA": service.endpoint_url}
+            path = os.path.join(folder, "event.json")
+            with open(path, "w", encoding="utf-8") as file:
+                file.write('{"name": "Ada \u00e9\u4e2d"}')
+            for name, words, stdin, wanted in (
+                    ("nothing", [], "", {}), ("an object", ['{"name": "Ada"}'], "", {"name": "Ada"}),
+                    ("a number", ["-7"], "", -7), ("a string", ['"\u00e9"'], "", "\u00e9"),
+                    ("a file", [path], "", {"name": "Ada \u00e9\u4e2d"}), ("standard input", ["-"], "[1]", [1])):
+                status, output, said = invoke("same", *words, stdin=stdin, **here)
+                self.check(f"the payload is {name}", (status, json.loads(output or "0"), said), (0, wanted, ""))
+            for kind in glob.glob(os.path.join(ROOT, "examples", "events", "*.json")):
+                with open(kind) as file:
+                    status, output, _ = invoke("same", "--sample", os.path.basename(kind)[:-5], **here)
+                    self.check(f"the sample {os.path.basename(kind)}", (status, json.loads(output)),
+                               (0, json.load(file)))
+            event = json.loads(invoke("same", "--now", **here)[1])
+            self.check("a schedule that is due now", (event["source"], event["detail-type"],
+                                                      bool(re.fullmatch(r"\d{4}-\d\d-\d\dT\d\d:\d\d:\d\dZ",
+                                                                        event["time"]))),
+                       ("aws.events", "Scheduled Event", True))
+            self.check("--endpoint", invoke("same", "1", "--endpoint", service.endpoint_url + "/"), (0, "1\n", ""))
+            self.check("an ARN", invoke("arn:aws:lambda:us-east-1:123456789012:function:same", "1", **here),
+                       (0, "1\n", ""))
+            status, output, said = invoke("fails", **here)
+            self.check("a function that fails", (status, json.loads(output)["errorType"], said),
+                       (1, "KeyError", "invoke: fails: the function has failed\n"))
+            self.check("one that is throttled", invoke("closed", **here),
+                       (3, "", "invoke: closed: 429 TooManyRequestsException: Rate Exceeded.: "
+                               "ReservedFunctionConcurrentInvocationLimitExceeded\n"))
+            status, output, said = invoke("no one's/../name", **here)
+            self.check("a name that is none", (status, output, said.count("\n")), (3, "", 1))
+            self.check("a function that is not there", invoke("other", **here)[2].startswith(
+                "invoke: other: 404 ResourceNotFoundException: "))
+            self.check("no log is in the answer, which is said", invoke("same", "1", "--tail", **here),
+                       (0, "1\n", "invoke: the answer has no log: `lambda_local up` keeps what functions print\n"))
 
+    def test_faults(self):
+        with tempfile.TemporaryDirectory() as folder:
+            for name, text in (("broken.json", b'{"a":\n 1,}'), ("latin.json", b'"\xe9"'), ("nan.json", b"[NaN]"),
+                               ("deep.json", b"[" * 100_000), ("long.json", b'"' + b"x" * (6 << 20) + b'"')):
+                with open(os.path.join(folder, name), "wb") as file:
+                    file.write(text)
+            for words, stdin, wanted in (
+                    (["{a:1}"], "", "{a:1} is neither JSON nor a file: write for example '{\"name\": \"Ada\"}'"),
+                    (["/nowhere.json"], "", "/nowhere.json is neither JSON nor a file"),
+                    ([folder], "", f"{folder} is neither JSON nor a file"[:80]),
+                    ([f"{folder}/broken.json"], "",
+                     "broken.json: this is not JSON: Expecting property name enclosed in"),
+                    ([f"{folder}/latin.json"], "", "latin.json: this is not JSON: it is not UTF-8"),
+                    ([f"{folder}/nan.json"], "", "nan.json: this is not JSON: NaN is not JSON"),
+                    ([f"{folder}/deep.json"], "",
+                     "deep.json: this is not JSON that Lambda takes: it is nested too deep"),
+                    ([f"{folder}/long.json"], "",
+                     "long.json: it has more than 6291456 bytes, which Lambda takes at most"),
+                    (["-"], "{", "-: this is not JSON: Expecting property name"),
+                    (["--sample", "s33"], "",
+                     "--sample s33: did you mean s3? there are apigateway_1.0, apigateway_2.0, "
+                                              "eventbridge, s3, schedule, sns, sqs"),
+                    (["--sample", "../up"], "", "--sample ../up: there are apigateway_1.0, "),
+                    (["1", "--now"], "", "write one of PAYLOAD, FILE, -, --sample and --now"),
+                    (["1", "--endpoint", "https://lambda.us-east-1.amazonaws.com"], "",
+                     "--endpoint=https://lambda.us-east-1.amazonaws.com: write it as http://127.0.0.1:PORT"),
+                    (["1", "--endpoint", "http://[::1"], "",
+                     "--endpoint=http://[::1: write it as http://127.0.0.1:PORT"),
+                    (["1", "--endpoint", "127.0.0.1:9000"], "", "--endpoint=127.0.0.1:9000: write it as http:"),
+                    (["1", "--endpoint", "http://127.0.0.1:99999"], "",
+                     "--endpoint=http://127.0.0.1:99999: write it as")):
+                status, output, said = invoke("f", *words, stdin=stdin)
+                self.check(f"a fault: {wanted[:60]}", (status, output, said.count("\n"), wanted in said),
+                           (2, "", 1, True), shown=said)
+        status, output, said = invoke("f", AWS_ENDPOINT_URL_LAMBDA="http://127.0.0.1:1")
+        self.check("a service that is not there", (status, output, said),
+                   (4, "", "invoke: http://127.0.0.1:1: Connection refused: start the service, for example by "
+                           "`lambda_local up UP.json`, and name the address that it prints by --endpoint or "
+                           "AWS_ENDPOINT_URL_LAMBDA\n"))
 
-def under_up():
-    up = Up(command=["--", *INVOKE, "f", '{"do":"name"}'])
-    status, left = up.end(None)
-    check("the command of lambda_local up is led to its functions", (status, left, json.loads(up.output or "0")),
-          (0, [], ["f", "index.handler", "hello"]))
-    up = Up(command=["--", *INVOKE, "f", "--event"], whole={"asynchronous": True})
-    check("an event is taken", (up.end(None)[0], up.has("the event is taken: ")), (0, True))
-    up = Up(command=["--", os.path.join(ROOT, "examples", "invoke.sh"), "f", '{"do":"name"}'])
-    check("examples/invoke.sh is led there too", (up.end(None)[0], up.output.split("\n")[-1]),
-          (0, '["f", "index.handler", "hello"]'))
+    def test_documented(self):
+        server = http.server.HTTPServer(("127.0.0.1", 0), AsDocumented)
+        thread = threading.Thread(target=server.serve_forever)
+        thread.start()
+        try:
+            endpoint = f"http://127.0.0.1:{server.server_port}"
+            self.check("--tail prints the log on standard error", invoke("f", "--tail", "--endpoint", endpoint),
+                       (0, '{"ok": true}\n', "START ..\nprint\u00e9d\nEND ..\n"))
+            self.check("--event does not wait for a result", invoke("f", "7", "--event", "--endpoint", endpoint),
+                       (0, "", "invoke: f: the event is taken: an-identifier\n"))
+            self.check("what was asked", AsDocumented.seen, [
+                ("/2015-03-31/functions/f/invocations", None, "Tail", b"{}"),
+                ("/2015-03-31/functions/f/invocations", "Event", None, b"7")])
+        finally:
+            server.shutdown()
+            thread.join()
+            server.server_close()
 
-
-if __name__ == "__main__":
-    sys.exit(counted.run(results, faults, documented, under_up))
+    def test_under_up(self):
+        up = Up(command=["--", *INVOKE, "f", '{"do":"name"}'])
+        status, left = up.end(None)
+        self.check("the command of lambda_local up is led to its functions",
+                   (status, left, json.loads(up.output or "0")),
+                   (0, [], ["f", "index.handler", "hello"]))
+        up = Up(command=["--", *INVOKE, "f", "--event"], whole={"asynchronous": True})
+        self.check("an event is taken", (up.end(None)[0], up.has("the event is taken: ")), (0, True))
+        up = Up(command=["--", os.path.join(ROOT, "examples", "invoke.sh"), "f", '{"do":"name"}'])
+        self.check("examples/invoke.sh is led there too", (up.end(None)[0], up.output.split("\n")[-1]),
+                   (0, '["f", "index.handler", "hello"]'))

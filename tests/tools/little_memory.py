@@ -1,28 +1,24 @@
-#!/usr/bin/env python3
 """Checks what a service does that may have little memory: how the launcher finds out how much, which limit it sets, and
 that a service of 200 MB refuses what it has no room for, 64 connections with bodies of 5 MB notwithstanding: it is not
 killed, counts each call once, and stops by itself; its history replays; lambda_local up says when nine tenths are used.
-If this user may make control groups of version 1, the service runs in one of 200 MB, else with LAMBDA_LOCAL_MEMORY=200.
-Ends with 'N passed, M failed'."""
+If this user may make control groups of version 1, the service runs in one of 200 MB, else with
+LAMBDA_LOCAL_MEMORY=200."""
 import contextlib
 import http.client
 import json
 import os
 import resource
 import subprocess
-import sys
 import tempfile
 import threading
 import time
 import urllib.request
 from typing import Dict, Iterator, List, Optional, Tuple
 
-ROOT = os.path.dirname(os.path.dirname(os.path.dirname(os.path.realpath(__file__))))
-sys.path[:0] = [os.path.join(ROOT, "tests", "library")]
-import counted  # noqa: E402
-from counted import check  # noqa: E402
-from ports import free_range  # noqa: E402
-from up_kit import Up  # noqa: E402
+from tests import ROOT
+from tests.library.cases import Case
+from tests.library.ports import free_range
+from tests.library.up_kit import Up
 
 LAUNCHER = os.path.join(ROOT, "lambda_local")
 LIMITS = os.path.join(ROOT, "tools", "lambda_local", "limits.sh")
@@ -60,18 +56,6 @@ FOUND = (
 )
 
 
-def finds() -> None:
-    for name, groups, files, wanted in FOUND:
-        with tempfile.TemporaryDirectory() as folder:
-            for path, text in {"groups": groups, **files}.items():
-                os.makedirs(os.path.dirname(os.path.join(folder, path)), exist_ok=True)
-                with open(os.path.join(folder, path), "w", encoding="ascii") as file:
-                    file.write(text + "\n" if path != "groups" and text else text)
-            find = '. "$0"; find_allowed "$1/groups" "$1"; echo "$allowed"'
-            done = subprocess.run(["sh", "-uc", find, LIMITS, folder], capture_output=True, text=True)
-            check(f"found: {name}", (done.stdout, done.stderr), (wanted + "\n", ""))
-
-
 def limit_with(words: str, command: str = "serve", **variables: str) -> Tuple[int, str, str]:
     """What the launcher's limit is if LAMBDA_LOCAL_PROGRAM is a shell that prints it: status and both streams."""
     with tempfile.TemporaryDirectory() as folder:
@@ -84,22 +68,6 @@ def limit_with(words: str, command: str = "serve", **variables: str) -> Tuple[in
                               stdin=subprocess.DEVNULL,
                               env={**os.environ, "LAMBDA_LOCAL_PROGRAM": program, **variables})
         return done.returncode, done.stdout, done.stderr
-
-
-def limits() -> None:
-    check("LAMBDA_LOCAL_MEMORY", limit_with("", LAMBDA_LOCAL_MEMORY="200"), (0, f"{LIMIT >> 10}\n", ""))
-    check("a little of it", limit_with("", LAMBDA_LOCAL_MEMORY="16"), (0, f"{limit_of(16)}\n", ""))
-    check("a lower limit of the shell stays", limit_with("ulimit -d 50000;", LAMBDA_LOCAL_MEMORY="200"),
-          (0, "50000\n", ""))
-    check("a higher one does not", limit_with("ulimit -S -d 900000;", LAMBDA_LOCAL_MEMORY="200"),
-          (0, f"{LIMIT >> 10}\n", ""))
-    before = limit_with("", "replay")[1]
-    check("unlimited", limit_with("", LAMBDA_LOCAL_MEMORY="unlimited"), (0, before, ""))
-    check("a replay has no limit", limit_with("", "replay", LAMBDA_LOCAL_MEMORY="200"), (0, before, ""))
-    for wrong in ("0", "15", "-1", "1.5", "200M", "x", " 200", "010", "10000000", "99999999999999999999"):
-        status, output, said = limit_with("", LAMBDA_LOCAL_MEMORY=wrong)
-        check(f"LAMBDA_LOCAL_MEMORY={wrong!r} is refused with a line",
-              (status, output, said.count("\n"), f"LAMBDA_LOCAL_MEMORY is '{wrong}'" in said), (2, "", 1, True))
 
 
 @contextlib.contextmanager
@@ -213,58 +181,84 @@ def started(folder: str, port: int, group_folder: Optional[str]) -> "subprocess.
     return subprocess.Popen(words, env=settings, stdout=subprocess.PIPE, stderr=subprocess.PIPE, text=True)
 
 
-def fills() -> None:
-    with tempfile.TemporaryDirectory() as folder, group() as group_folder:
-        print("     (in a control group)" if group_folder else "     (with LAMBDA_LOCAL_MEMORY)")
-        port = free_range(SIDES + 1)
-        service = started(folder, port, group_folder)
-        assert service.stderr
-        line = service.stderr.readline()
-        while line and "listening" not in line:
+class LittleMemory(Case):
+    def test_finds(self) -> None:
+        for name, groups, files, wanted in FOUND:
+            with tempfile.TemporaryDirectory() as folder:
+                for path, text in {"groups": groups, **files}.items():
+                    os.makedirs(os.path.dirname(os.path.join(folder, path)), exist_ok=True)
+                    with open(os.path.join(folder, path), "w", encoding="ascii") as file:
+                        file.write(text + "\n" if path != "groups" and text else text)
+                find = '. "$0"; find_allowed "$1/groups" "$1"; echo "$allowed"'
+                done = subprocess.run(["sh", "-uc", find, LIMITS, folder], capture_output=True, text=True)
+                self.check(f"found: {name}", (done.stdout, done.stderr), (wanted + "\n", ""))
+
+    def test_limits(self) -> None:
+        self.check("LAMBDA_LOCAL_MEMORY", limit_with("", LAMBDA_LOCAL_MEMORY="200"), (0, f"{LIMIT >> 10}\n", ""))
+        self.check("a little of it", limit_with("", LAMBDA_LOCAL_MEMORY="16"), (0, f"{limit_of(16)}\n", ""))
+        self.check("a lower limit of the shell stays", limit_with("ulimit -d 50000;", LAMBDA_LOCAL_MEMORY="200"),
+                   (0, "50000\n", ""))
+        self.check("a higher one does not", limit_with("ulimit -S -d 900000;", LAMBDA_LOCAL_MEMORY="200"),
+                   (0, f"{LIMIT >> 10}\n", ""))
+        before = limit_with("", "replay")[1]
+        self.check("unlimited", limit_with("", LAMBDA_LOCAL_MEMORY="unlimited"), (0, before, ""))
+        self.check("a replay has no limit", limit_with("", "replay", LAMBDA_LOCAL_MEMORY="200"), (0, before, ""))
+        for wrong in ("0", "15", "-1", "1.5", "200M", "x", " 200", "010", "10000000", "99999999999999999999"):
+            status, output, said = limit_with("", LAMBDA_LOCAL_MEMORY=wrong)
+            self.check(f"LAMBDA_LOCAL_MEMORY={wrong!r} is refused with a line",
+                       (status, output, said.count("\n"), f"LAMBDA_LOCAL_MEMORY is '{wrong}'" in said),
+                       (2, "", 1, True))
+
+    def test_fills(self) -> None:
+        with tempfile.TemporaryDirectory() as folder, group() as group_folder:
+            print("     (in a control group)" if group_folder else "     (with LAMBDA_LOCAL_MEMORY)")
+            port = free_range(SIDES + 1)
+            service = started(folder, port, group_folder)
+            assert service.stderr
             line = service.stderr.readline()
-        check("its limit", resource.prlimit(service.pid, resource.RLIMIT_DATA)[0], LIMIT)
-        load = Load(port)
-        load.run()
-        seen = load.seen
-        print("    ", seen, f"{most_used(service) // MEGABYTE} MB")
-        check("some invocations were served, others refused", (seen.get("right", 0) > 0, seen.get("refused", 0) > 0),
-              (True, True))
-        check("no answer was wrong", [it for it in seen if it.startswith("wrong")], [])
-        check("it runs, within its memory", (service.poll(), most_used(service) < ALLOWED * MEGABYTE), (None, True))
-        time.sleep(6)  # until what was delivered has timed out
-        status, body = in_words(port, "GET", "/_local/stats")
-        check("the counts are shown", status, 200)
-        counts = json.loads(body)
-        answered = counts["admitted"] - counts["failed"]
-        # (of a response that got no answer, only the service knows whether it was taken)
-        told, lost = seen.get("response 202", 0), seen.get("response lost", 0)
-        check("each call was counted once: answered, or failed", told <= answered <= told + lost)
-        check("no caller has an output that was not", seen.get("right", 0) <= answered)
-        load.ended.set()
-        resource.prlimit(service.pid, resource.RLIMIT_DATA, (LIMIT + MORE, -1))
-        status, history = in_words(port, "GET", "/_local/history")
-        check("with a higher limit the history is read", status, 200)
-        check("it is stopped", in_words(port, "POST", "/_local/stop")[0], 202)
-        output, said = service.communicate(timeout=30)
-        check("and ends with its line", (service.returncode, output),
-              (0, f"admitted {counts['admitted']} throttled {counts['throttled']} failed {counts['failed']}\n"))
-        done = subprocess.run([LAUNCHER, "replay"], input=history, capture_output=True)
-        check("its history replays", (done.returncode, done.stderr), (0, b""))
-        check("with an output for each", done.stdout.count(b" output "), answered)
+            while line and "listening" not in line:
+                line = service.stderr.readline()
+            self.check("its limit", resource.prlimit(service.pid, resource.RLIMIT_DATA)[0], LIMIT)
+            load = Load(port)
+            load.run()
+            seen = load.seen
+            print("    ", seen, f"{most_used(service) // MEGABYTE} MB")
+            self.check("some invocations were served, others refused", (seen.get("right", 0) > 0,
+                                                                        seen.get("refused", 0) > 0),
+                       (True, True))
+            self.check("no answer was wrong", [it for it in seen if it.startswith("wrong")], [])
+            self.check("it runs, within its memory", (service.poll(), most_used(service) < ALLOWED * MEGABYTE),
+                       (None, True))
+            time.sleep(6)  # until what was delivered has timed out
+            status, body = in_words(port, "GET", "/_local/stats")
+            self.check("the counts are shown", status, 200)
+            counts = json.loads(body)
+            answered = counts["admitted"] - counts["failed"]
+            # (of a response that got no answer, only the service knows whether it was taken)
+            told, lost = seen.get("response 202", 0), seen.get("response lost", 0)
+            self.check("each call was counted once: answered, or failed", told <= answered <= told + lost)
+            self.check("no caller has an output that was not", seen.get("right", 0) <= answered)
+            load.ended.set()
+            resource.prlimit(service.pid, resource.RLIMIT_DATA, (LIMIT + MORE, -1))
+            status, history = in_words(port, "GET", "/_local/history")
+            self.check("with a higher limit the history is read", status, 200)
+            self.check("it is stopped", in_words(port, "POST", "/_local/stop")[0], 202)
+            output, said = service.communicate(timeout=30)
+            self.check("and ends with its line", (service.returncode, output),
+                       (0, "admitted {admitted} throttled {throttled} failed {failed}\n".format(**counts)))
+            done = subprocess.run([LAUNCHER, "replay"], input=history, capture_output=True)
+            self.check("its history replays", (done.returncode, done.stderr), (0, b""))
+            self.check("with an output for each", done.stdout.count(b" output "), answered)
 
-
-def tells() -> None:
-    """What lambda_local up says of a service that has little memory."""
-    up = Up(environ={**os.environ, "LAMBDA_LOCAL_MEMORY": "32"})
-    up.until("AWS_ENDPOINT_URL_LAMBDA")
-    payload = json.dumps({"x": 1_000_000 * "x"}).encode()
-    for _ in range(20):
-        with contextlib.suppress(OSError, http.client.HTTPException):
-            urllib.request.urlopen(f"{up.endpoint}/2015-03-31/functions/f/invocations", payload, timeout=10).close()
-    check("nine tenths of the service's memory are told",
-          up.until(f"MB of {limit_of(32) >> 10} MB are used of the service's memory (LAMBDA_LOCAL_MEMORY)", 20), True)
-    check("and TERM ends it, with nothing left", up.end()[1], [])
-
-
-if __name__ == "__main__":
-    sys.exit(counted.run(finds, limits, fills, tells))
+    def test_tells(self) -> None:
+        """What lambda_local up says of a service that has little memory."""
+        up = Up(environ={**os.environ, "LAMBDA_LOCAL_MEMORY": "32"})
+        up.until("AWS_ENDPOINT_URL_LAMBDA")
+        payload = json.dumps({"x": 1_000_000 * "x"}).encode()
+        for _ in range(20):
+            with contextlib.suppress(OSError, http.client.HTTPException):
+                urllib.request.urlopen(f"{up.endpoint}/2015-03-31/functions/f/invocations", payload, timeout=10).close()
+        self.check("nine tenths of the service's memory are told",
+                   up.until(f"MB of {limit_of(32) >> 10} MB are used of the service's memory (LAMBDA_LOCAL_MEMORY)",
+                            20), True)
+        self.check("and TERM ends it, with nothing left", up.end()[1], [])

@@ -1,21 +1,18 @@
-#!/usr/bin/env python3
 """Checks a queue of moto's server as an event source: batches, failures in a batch, and what the queue itself does with
 them. It needs a Python on PATH that has moto's server and boto3 (pip install 'moto[server]' boto3), and says so if none
-has. Ends with 'N passed, M failed'."""
+has."""
 import contextlib
 import json
 import os
 import subprocess
 import sys
 import time
+import unittest
 import urllib.request
 
-ROOT = os.path.dirname(os.path.dirname(os.path.dirname(os.path.realpath(__file__))))
-sys.path[:0] = [os.path.join(ROOT, "tools"), os.path.join(ROOT, "tests", "library")]
-import counted  # noqa: E402
-from counted import check  # noqa: E402
-from lambda_local.service import free_ports  # noqa: E402
-from up_kit import Up, until  # noqa: E402
+from lambda_local.service import free_ports
+from tests.library.cases import Case
+from tests.library.up_kit import Up, until
 
 APP = '''import json
 def run(event, context):
@@ -57,60 +54,52 @@ def python_with_moto():
     return None
 
 
-@contextlib.contextmanager
-def moto(program):
-    """The endpoint of a server of moto's."""
-    port, = free_ports(1, ())
-    child = subprocess.Popen([program, "-c", "import sys; from moto.server import main; main(sys.argv[1:])", "-H",
-                              "127.0.0.1", "-p", str(port)], stdout=subprocess.DEVNULL, stderr=subprocess.DEVNULL)
-    endpoint = f"http://127.0.0.1:{port}"
-
-    def answers():
-        with contextlib.suppress(OSError):
-            urllib.request.urlopen(endpoint + "/moto-api/", timeout=5).close()
-            return True
-        return False
-    try:
-        check("moto's server answers", until(answers, 60))
-        yield endpoint
-    finally:
-        child.terminate()
-        child.wait(20)
+PYTHON = python_with_moto()
 
 
-def asked(program, endpoint, *words):
-    done = subprocess.run([program, "-c", CLIENT, endpoint, *words], capture_output=True, text=True)
+def asked(endpoint, *words):
+    done = subprocess.run([PYTHON, "-c", CLIENT, endpoint, *words], capture_output=True, text=True)
     return json.loads(done.stdout or "null") if done.returncode == 0 else done.stderr
 
 
-def a_queue(program):
-    with moto(program) as endpoint:
-        queue, dead = asked(program, endpoint, "make")
-        up = Up(app=APP, functions=[{"name": "f", "runtime": "python", "handler": "app.run", "queue": {
-            "url": queue, "batchSize": 5, "window": 1}}], environ={
-                **os.environ, "PATH": os.path.dirname(program) + os.pathsep + os.environ["PATH"]})
-        check("up is ready", up.until("ready"))
-        check("the queue is empty in the end, and the message that fails is a dead letter", until(
-            lambda: asked(program, endpoint, "count", queue, dead) == [0, 1], 90))
-        time.sleep(0.5)
-        with open(os.path.join(up.at, "batches.txt")) as file:
-            batches = [json.loads(line) for line in file]
-        up.end()
-        bodies = [body for _, several in batches for body in several]
-        check("each batch is of SQS, and has at most five", [one for one in batches if one[0] != "aws:sqs"
-                                                             or not 0 < len(one[1]) <= 5], [])
-        check("each job came once", sorted(body for body in bodies if body != "bad"),
-              sorted(f"job {number}" for number in range(11)))
-        check("the one that fails came as often as the queue lets it", bodies.count("bad"), 2)
+@unittest.skipIf(PYTHON is None, "no Python on PATH has moto's server and boto3: pip install 'moto[server]' boto3")
+class MotoQueue(Case):
+    @contextlib.contextmanager
+    def moto(self):
+        """The endpoint of a server of moto's."""
+        port, = free_ports(1, ())
+        child = subprocess.Popen([PYTHON, "-c", "import sys; from moto.server import main; main(sys.argv[1:])", "-H",
+                                  "127.0.0.1", "-p", str(port)], stdout=subprocess.DEVNULL, stderr=subprocess.DEVNULL)
+        endpoint = f"http://127.0.0.1:{port}"
 
+        def answers():
+            with contextlib.suppress(OSError):
+                urllib.request.urlopen(endpoint + "/moto-api/", timeout=5).close()
+                return True
+            return False
+        try:
+            self.check("moto's server answers", until(answers, 60))
+            yield endpoint
+        finally:
+            child.terminate()
+            child.wait(20)
 
-def main():
-    program = python_with_moto()
-    if program is None:
-        print("note no Python on PATH has moto's server and boto3: pip install 'moto[server]' boto3")
-        return counted.run()
-    return counted.run(lambda: a_queue(program))
-
-
-if __name__ == "__main__":
-    sys.exit(main())
+    def test_a_queue(self):
+        with self.moto() as endpoint:
+            queue, dead = asked(endpoint, "make")
+            up = Up(app=APP, functions=[{"name": "f", "runtime": "python", "handler": "app.run", "queue": {
+                "url": queue, "batchSize": 5, "window": 1}}], environ={
+                    **os.environ, "PATH": os.path.dirname(PYTHON) + os.pathsep + os.environ["PATH"]})
+            self.check("up is ready", up.until("ready"))
+            self.check("the queue is empty in the end, and the message that fails is a dead letter", until(
+                lambda: asked(endpoint, "count", queue, dead) == [0, 1], 90))
+            time.sleep(0.5)
+            with open(os.path.join(up.at, "batches.txt")) as file:
+                batches = [json.loads(line) for line in file]
+            up.end()
+            bodies = [body for _, several in batches for body in several]
+            self.check("each batch is of SQS, and has at most five", [one for one in batches if one[0] != "aws:sqs"
+                                                                      or not 0 < len(one[1]) <= 5], [])
+            self.check("each job came once", sorted(body for body in bodies if body != "bad"),
+                       sorted(f"job {number}" for number in range(11)))
+            self.check("the one that fails came as often as the queue lets it", bodies.count("bad"), 2)

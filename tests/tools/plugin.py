@@ -1,6 +1,5 @@
-#!/usr/bin/env python3
 """Checks the pytest plugin, by itself and, if a Python on this machine has pytest, under it. The program is
-LAMBDA_LOCAL_PROGRAM, else ./lambda_local. Ends with 'N passed, M failed'."""
+LAMBDA_LOCAL_PROGRAM, else ./lambda_local."""
 import contextlib
 import io
 import os
@@ -11,12 +10,9 @@ import tempfile
 import threading
 import time
 
-ROOT = os.path.dirname(os.path.dirname(os.path.dirname(os.path.realpath(__file__))))
-TOOLS = os.path.join(ROOT, "tools")
-sys.path[:0] = [TOOLS, os.path.join(ROOT, "tests", "library")]
-import counted  # noqa: E402
-from counted import check  # noqa: E402
-from pytest_lambda_local import FunctionError, LambdaLocal  # noqa: E402
+from pytest_lambda_local import FunctionError, LambdaLocal
+from tests import ROOT, TOOLS
+from tests.library.cases import Case
 
 # What a user's tests may be like: those that are named so fail, the others hold.
 TESTS = '''import os, sys, threading, time
@@ -92,100 +88,10 @@ def test_whose_service_dies(lambda_local):
 '''
 
 
-def by_itself():
-    with LambdaLocal(double=lambda event: event * 2) as service:
-        check("handlers in the test's process", [service.invoke("double", number) for number in range(5)],
-              [0, 2, 4, 6, 8])
-        check("it settles", (service.settled(), service.stats()["admitted"]), (True, 5))
-        check("the history is there", service.history().startswith("form 2\n"))
-        if folder_of("boto3", sys.executable):
-            answer = service.client().invoke(FunctionName="double", Payload=b"21")
-            check("a client of boto3", (answer["StatusCode"], answer["Payload"].read()), (200, b"42"))
-        else:
-            try:
-                service.client()
-            except RuntimeError as fault:
-                check("boto3 is not here, and the fault says so", "pip install boto3" in str(fault))
-    check("the service has ended", service.service.process.returncode, 0)
-    check("its history is kept", service.history().startswith("form 2\n"))
-    check("an invoke after its end", fault_of(service.invoke, "double"), "RuntimeError: the service was stopped")
-
-
 def fails(event):
     if event == "exit":
         sys.exit(3)
     return {1, 2} if event == "set" else event["missing"]
-
-
-def reports():
-    """What the handler raised comes as Lambda's Python runtime reports it, and as the cause."""
-    with LambdaLocal(fails=fails) as service, contextlib.redirect_stderr(io.StringIO()) as printed:
-        try:
-            service.invoke("fails", {})
-            check("a handler's fault is raised", False)
-        except FunctionError as fault:
-            told = dict(fault.report)
-            check("a handler's fault is raised",
-                  (told.pop("errorMessage"), told.pop("errorType"), len(told.pop("requestId"))),
-                  ("'missing'", "KeyError", 36))
-            # (newer Pythons mark the place)
-            stack = [re.sub(r"\n\s+[\^~]+\n", "\n", line) for line in told.pop("stackTrace")]
-            line = fails.__code__.co_firstlineno + 3
-            check("its stack, as traceback.format_list gives it", stack,
-                  [f'  File "{__file__}", line {line}, in fails\n    return {{1, 2}} if event == "set" else '
-                   f'event["missing"]\n'])
-            check("no other member", told, {})
-            check("from what the handler raised", repr(fault.__cause__), "KeyError('missing')")
-        check("the trace is printed",
-              ("Traceback (most recent call last):" in printed.getvalue(), "in_process.py" in printed.getvalue(),
-                                       printed.getvalue().endswith("KeyError: 'missing'\n")), (True, False, True))
-        try:
-            service.invoke("fails", "set")
-        except FunctionError as fault:
-            check("an output that is no JSON", (str(fault), type(fault.__cause__)),
-                  ("Runtime.MarshalError: Unable to marshal response: Object of type set is not JSON serializable",
-                   TypeError))
-        try:
-            service.invoke("fails", "exit")
-        except FunctionError as fault:
-            check("a handler that exits", repr(fault.__cause__), "SystemExit(3)")
-        check("a function that is not there", fault_of(service.invoke, "other")[:40],
-              "FunctionError: ResourceNotFoundException")
-
-
-def contexts():
-    seen = []
-    with LambdaLocal({"f": {"memory": 256, "timeout": 60}}, f=lambda event, context: seen.append(context)) as service:
-        service.invoke("f")
-        context = vars(seen[0])
-        left, request, _ = context.pop("get_remaining_time_in_millis")(), context.pop("aws_request_id"), context.pop(
-            "log")
-        check("the time that is left, the request and the trace", (0 < left <= 60000, len(request),
-                "Lambda-Runtime-Trace-Id" in context.pop("headers")), (True, 36, True))
-        check("the identity", vars(context.pop("identity")),
-              {"cognito_identity_id": None, "cognito_identity_pool_id": None})
-        check("the rest of the context", context, {
-            "invoked_function_arn": "arn:aws:lambda:us-east-1:123456789012:function:f", "function_name": "f",
-            "function_version": "$LATEST",
-            "memory_limit_in_mb": "256", "log_group_name": "/aws/lambda/f", "log_stream_name": "local/[$LATEST]1",
-            "client_context": None})
-    with LambdaLocal(one=lambda *given: len(given), two=lambda event, context=None: context is not None) as service:
-        check("a handler of any arguments gets both, as does one with a default",
-              (service.invoke("one"), service.invoke("two")), (2, True))
-
-
-def environments():
-    """Three environments are three threads, which run at once."""
-    meet = threading.Barrier(3)
-    with LambdaLocal({"f": {"environments": 3}},
-                     f=lambda event: (meet.wait(10), threading.current_thread().name)[1]) as service:
-        names = []
-        callers = [threading.Thread(target=lambda: names.append(service.invoke("f"))) for _ in range(3)]
-        for caller in callers:
-            caller.start()
-        for caller in callers:
-            caller.join()
-        check("three environments run at once", len(set(names)), 3)
 
 
 def fault_of(call, *words, **named):
@@ -194,71 +100,6 @@ def fault_of(call, *words, **named):
     except Exception as fault:
         return f"{type(fault).__name__}: {fault}"
     return None
-
-
-def wrong_uses():
-    unstarted = LambdaLocal()
-    for name, call in (("invoke", lambda: unstarted.invoke("f")), ("stats", unstarted.stats),
-                       ("client", unstarted.client), ("settled", unstarted.settled)):
-        check(f"{name} before start", fault_of(call),
-              "RuntimeError: no function is started yet: call start(NAME=handler) first")
-    check("a history before start is empty", unstarted.history(), "")
-    check("a start without a function", fault_of(unstarted.start),
-          "ValueError: start() needs a function: start(NAME=handler)")
-    for members, handler, wanted in (
-            ({"timeuot": 5}, fails, "function f: unknown member timeuot, did you mean timeout?"),
-            ({"zzz": 5}, fails,
-             "function f: unknown member zzz; there are environments, extensions, handler, memory, ports, reserved, "
-             "timeout, variables"),
-            ({"variables": ["A"]}, fails,
-             'function f: variables must be an object of strings, numbers, true or false, not ["A"]'),
-            ({"environments": "2"}, fails, "function f: environments must be a whole number from 1 to 256, not \"2\""),
-            ({"environments": 0}, fails, "function f: environments must be a whole number from 1 to 256, not 0"),
-            ({"environments": 2, "ports": [0, 0]}, fails,
-             "function f: it has ports and environments: leave one of the two out"),
-            (5, fails, "function f: its members are 5: give a dict, such as {\"timeout\": 5}"),
-            ({}, "app.handler", "function f: its handler is 'app.handler': give a function of an event, or of an event "
-                                "and its context")):
-        check(f"wrong: {wanted}", fault_of(LambdaLocal, {"f": members}, f=handler), f"ValueError: {wanted}")
-    with LambdaLocal(f=fails) as service:
-        check("a second start", fault_of(service.start, g=fails),
-              "RuntimeError: it has been started: name all functions in one start(), or make another LambdaLocal()")
-
-
-def launcher():
-    """The launcher is asked once a process for its program."""
-    from lambda_local import service as service_module
-    own = os.path.join(ROOT, "lambda_local")
-    if not os.access(own, os.X_OK):
-        return print("skip there is no launcher here")
-    with tempfile.TemporaryDirectory() as folder:
-        # (as the repository's: one that notes each start, and says the program)
-        program = os.environ.get("LAMBDA_LOCAL_PROGRAM") or subprocess.run(
-            [own, "path"], stdout=subprocess.PIPE, text=True).stdout.strip()
-        fake = os.path.join(folder, "lambda_local")
-        with open(fake, "w") as file:
-            file.write(f'#!/bin/sh\necho "$1" >> "$0.started"\n[ "$1" = path ] && echo {program} && exit\nexec '
-                       f'{program} "$@"\n')
-        os.chmod(fake, 0o755)
-        before, service_module.LAUNCHER = service_module.LAUNCHER, os.path.realpath(fake)
-        given = os.environ.pop("LAMBDA_LOCAL_PROGRAM", None)
-        try:
-            os.environ["LAMBDA_LOCAL_PROGRAM"] = fake
-            times = []
-            for _ in range(5):
-                begun = time.monotonic()
-                with LambdaLocal(double=lambda event: event * 2) as service:
-                    service.invoke("double", 1)
-                times.append(time.monotonic() - begun)
-            with open(fake + ".started") as file:
-                check("the launcher is asked once", file.read().split(), ["path"])
-            print(f"     a service, a call and a stop take {1000 * sorted(times)[2]:.0f} ms (median of five)")
-        finally:
-            service_module.LAUNCHER = before
-            if given:
-                os.environ["LAMBDA_LOCAL_PROGRAM"] = given
-            else:
-                del os.environ["LAMBDA_LOCAL_PROGRAM"]
 
 
 def folder_of(module, python):
@@ -295,47 +136,199 @@ def pytest_over(python, folder, tests=TESTS, lent=None, **environ):
     return done.returncode, done.stdout, counts
 
 
-def under_pytest():
-    python = python_with_pytest()
-    if python is None:
-        return print("skip no Python here has pytest")
-    with tempfile.TemporaryDirectory() as folder:
-        status, output, counts = pytest_over(python, folder)
-        has_boto3 = bool(folder_of("boto3", sys.executable) or folder_of("boto3", python))
-        check("which tests pass and fail", (status, counts),
-              (1, {"failed": 5, "error": 1, "passed": 7} if has_boto3 else
-                                                              {"failed": 5, "error": 1, "passed": 6, "skipped": 1}))
-        if counted.failed:
-            print(output)
-        parts = re.split(r"^_{3,} ((?:ERROR at teardown of )?test_\w+) _{3,}$", output, flags=re.M)
-        reports = dict(zip(parts[1::2], parts[2::2]))
-        first = reports.get("test_that_fails", "")
-        found = re.search(r"-+ lambda_local history: (\S+) -+\nform 2\n.*?\n# \d+ \d+ deliver .*?\n-+ lambda_local "
-                          r"timeline: (\S+) -+\n"
-                          r"(?=.*caller 1: invoke double)(?=.*: output 4)", first, re.S)
-        check("the report has the history and its timeline", bool(found), shown=first)
-        if found:
-            with open(found[1]) as history, open(found[2]) as page:
-                check("both stand whole in files",
-                      (history.read().startswith("form 2\n"), page.read().startswith("<!DOCTYPE html>")), (True, True))
-        many = reports.get("test_that_fails_after_many", "")
-        check("of a long history the end is shown", bool(re.search(r"\.\. \d+ lines before these: \S+history.txt\n",
-                many)) and ".. " in many.split("timeline:")[-1], shown=many)
-        handler = reports.get("test_whose_handler_fails", "")
-        check("a handler's own exception is shown as the cause", all(text in handler for text in (
-            'return event["missing"]', "KeyError: 'missing'", "The above exception was the direct cause",
-            "FunctionError: KeyError: 'missing'")), shown=handler)
-        check("and what it printed", "said by the handler" in handler and "Captured stderr call" in handler)
-        check("pytest.fail in a handler", "not like this" in reports.get("test_that_fails_in_its_handler", ""))
-        check("the session's service is in the report",
-              "lambda_local history" in reports.get("test_session_that_fails", ""))
-        check("each report has its history once",
-              [name for name, text in reports.items() if text.count(" lambda_local history: ") > 1], [])
-        check("a service that died fails its test",
-              "the service has ended" in reports.get("ERROR at teardown of test_whose_service_dies",
-                ""))
-        check("a test that passes has no history in the output", "test_in_this_process" not in reports)
+class Plugin(Case):
+    def test_by_itself(self):
+        with LambdaLocal(double=lambda event: event * 2) as service:
+            self.check("handlers in the test's process", [service.invoke("double", number) for number in range(5)],
+                       [0, 2, 4, 6, 8])
+            self.check("it settles", (service.settled(), service.stats()["admitted"]), (True, 5))
+            self.check("the history is there", service.history().startswith("form 2\n"))
+            if folder_of("boto3", sys.executable):
+                answer = service.client().invoke(FunctionName="double", Payload=b"21")
+                self.check("a client of boto3", (answer["StatusCode"], answer["Payload"].read()), (200, b"42"))
+            else:
+                try:
+                    service.client()
+                except RuntimeError as fault:
+                    self.check("boto3 is not here, and the fault says so", "pip install boto3" in str(fault))
+        self.check("the service has ended", service.service.process.returncode, 0)
+        self.check("its history is kept", service.history().startswith("form 2\n"))
+        self.check("an invoke after its end", fault_of(service.invoke, "double"),
+                   "RuntimeError: the service was stopped")
 
+    def test_reports(self):
+        """What the handler raised comes as Lambda's Python runtime reports it, and as the cause."""
+        with LambdaLocal(fails=fails) as service, contextlib.redirect_stderr(io.StringIO()) as printed:
+            try:
+                service.invoke("fails", {})
+                self.check("a handler's fault is raised", False)
+            except FunctionError as fault:
+                told = dict(fault.report)
+                self.check("a handler's fault is raised",
+                           (told.pop("errorMessage"), told.pop("errorType"), len(told.pop("requestId"))),
+                           ("'missing'", "KeyError", 36))
+                # (newer Pythons mark the place)
+                stack = [re.sub(r"\n\s+[\^~]+\n", "\n", line) for line in told.pop("stackTrace")]
+                line = fails.__code__.co_firstlineno + 3
+                self.check("its stack, as traceback.format_list gives it", stack,
+                           [f'  File "{__file__}", line {line}, in fails\n    return {{1, 2}} if event == "set" else '
+                            f'event["missing"]\n'])
+                self.check("no other member", told, {})
+                self.check("from what the handler raised", repr(fault.__cause__), "KeyError('missing')")
+            self.check("the trace is printed",
+                       ("Traceback (most recent call last):" in printed.getvalue(),
+                        "in_process.py" in printed.getvalue(),
+                                                printed.getvalue().endswith("KeyError: 'missing'\n")),
+                       (True, False, True))
+            try:
+                service.invoke("fails", "set")
+            except FunctionError as fault:
+                self.check("an output that is no JSON", (str(fault), type(fault.__cause__)),
+                           ("Runtime.MarshalError: Unable to marshal response: Object of type set is not JSON "
+                            "serializable", TypeError))
+            try:
+                service.invoke("fails", "exit")
+            except FunctionError as fault:
+                self.check("a handler that exits", repr(fault.__cause__), "SystemExit(3)")
+            self.check("a function that is not there", fault_of(service.invoke, "other")[:40],
+                       "FunctionError: ResourceNotFoundException")
 
-if __name__ == "__main__":
-    sys.exit(counted.run(by_itself, reports, contexts, environments, wrong_uses, launcher, under_pytest))
+    def test_contexts(self):
+        seen = []
+        with LambdaLocal({"f": {"memory": 256, "timeout": 60}}, f=lambda event,
+                         context: seen.append(context)) as service:
+            service.invoke("f")
+            context = vars(seen[0])
+            left, request, _ = context.pop("get_remaining_time_in_millis")(), context.pop("aws_request_id"), \
+                context.pop("log")
+            self.check("the time that is left, the request and the trace", (0 < left <= 60000, len(request),
+                    "Lambda-Runtime-Trace-Id" in context.pop("headers")), (True, 36, True))
+            self.check("the identity", vars(context.pop("identity")),
+                       {"cognito_identity_id": None, "cognito_identity_pool_id": None})
+            self.check("the rest of the context", context, {
+                "invoked_function_arn": "arn:aws:lambda:us-east-1:123456789012:function:f", "function_name": "f",
+                "function_version": "$LATEST",
+                "memory_limit_in_mb": "256", "log_group_name": "/aws/lambda/f", "log_stream_name": "local/[$LATEST]1",
+                "client_context": None})
+        with LambdaLocal(one=lambda *given: len(given), two=lambda event, context=None: context is not None) as service:
+            self.check("a handler of any arguments gets both, as does one with a default",
+                       (service.invoke("one"), service.invoke("two")), (2, True))
+
+    def test_environments(self):
+        """Three environments are three threads, which run at once."""
+        meet = threading.Barrier(3)
+        with LambdaLocal({"f": {"environments": 3}},
+                         f=lambda event: (meet.wait(10), threading.current_thread().name)[1]) as service:
+            names = []
+            callers = [threading.Thread(target=lambda: names.append(service.invoke("f"))) for _ in range(3)]
+            for caller in callers:
+                caller.start()
+            for caller in callers:
+                caller.join()
+            self.check("three environments run at once", len(set(names)), 3)
+
+    def test_wrong_uses(self):
+        unstarted = LambdaLocal()
+        for name, call in (("invoke", lambda: unstarted.invoke("f")), ("stats", unstarted.stats),
+                           ("client", unstarted.client), ("settled", unstarted.settled)):
+            self.check(f"{name} before start", fault_of(call),
+                       "RuntimeError: no function is started yet: call start(NAME=handler) first")
+        self.check("a history before start is empty", unstarted.history(), "")
+        self.check("a start without a function", fault_of(unstarted.start),
+                   "ValueError: start() needs a function: start(NAME=handler)")
+        for members, handler, wanted in (
+                ({"timeuot": 5}, fails, "function f: unknown member timeuot, did you mean timeout?"),
+                ({"zzz": 5}, fails,
+                 "function f: unknown member zzz; there are environments, extensions, handler, memory, ports, "
+                 "reserved, timeout, variables"),
+                ({"variables": ["A"]}, fails,
+                 'function f: variables must be an object of strings, numbers, true or false, not ["A"]'),
+                ({"environments": "2"}, fails,
+                 "function f: environments must be a whole number from 1 to 256, not \"2\""),
+                ({"environments": 0}, fails, "function f: environments must be a whole number from 1 to 256, not 0"),
+                ({"environments": 2, "ports": [0, 0]}, fails,
+                 "function f: it has ports and environments: leave one of the two out"),
+                (5, fails, "function f: its members are 5: give a dict, such as {\"timeout\": 5}"),
+                ({}, "app.handler", "function f: its handler is 'app.handler': give a function of an event, or of an "
+                                    "event and its context")):
+            self.check(f"wrong: {wanted}", fault_of(LambdaLocal, {"f": members}, f=handler), f"ValueError: {wanted}")
+        with LambdaLocal(f=fails) as service:
+            self.check("a second start", fault_of(service.start, g=fails),
+                       "RuntimeError: it has been started: name all functions in one start(), or make another "
+                       "LambdaLocal()")
+
+    def test_launcher(self):
+        """The launcher is asked once a process for its program."""
+        from lambda_local import service as service_module
+        own = os.path.join(ROOT, "lambda_local")
+        if not os.access(own, os.X_OK):
+            self.skipTest("there is no launcher here")
+        with tempfile.TemporaryDirectory() as folder:
+            # (as the repository's: one that notes each start, and says the program)
+            program = os.environ.get("LAMBDA_LOCAL_PROGRAM") or subprocess.run(
+                [own, "path"], stdout=subprocess.PIPE, text=True).stdout.strip()
+            fake = os.path.join(folder, "lambda_local")
+            with open(fake, "w") as file:
+                file.write(f'#!/bin/sh\necho "$1" >> "$0.started"\n[ "$1" = path ] && echo {program} && exit\nexec '
+                           f'{program} "$@"\n')
+            os.chmod(fake, 0o755)
+            before, service_module.LAUNCHER = service_module.LAUNCHER, os.path.realpath(fake)
+            given = os.environ.pop("LAMBDA_LOCAL_PROGRAM", None)
+            try:
+                os.environ["LAMBDA_LOCAL_PROGRAM"] = fake
+                times = []
+                for _ in range(5):
+                    begun = time.monotonic()
+                    with LambdaLocal(double=lambda event: event * 2) as service:
+                        service.invoke("double", 1)
+                    times.append(time.monotonic() - begun)
+                with open(fake + ".started") as file:
+                    self.check("the launcher is asked once", file.read().split(), ["path"])
+                print(f"     a service, a call and a stop take {1000 * sorted(times)[2]:.0f} ms (median of five)")
+            finally:
+                service_module.LAUNCHER = before
+                if given:
+                    os.environ["LAMBDA_LOCAL_PROGRAM"] = given
+                else:
+                    del os.environ["LAMBDA_LOCAL_PROGRAM"]
+
+    def test_under_pytest(self):
+        python = python_with_pytest()
+        if python is None:
+            self.skipTest("no Python here has pytest")
+        with tempfile.TemporaryDirectory() as folder:
+            status, output, counts = pytest_over(python, folder)
+            has_boto3 = bool(folder_of("boto3", sys.executable) or folder_of("boto3", python))
+            self.check("which tests pass and fail", (status, counts),
+                       (1, {"failed": 5, "error": 1, "passed": 7} if has_boto3
+                        else {"failed": 5, "error": 1, "passed": 6, "skipped": 1}), shown=output)
+            parts = re.split(r"^_{3,} ((?:ERROR at teardown of )?test_\w+) _{3,}$", output, flags=re.M)
+            reports = dict(zip(parts[1::2], parts[2::2]))
+            first = reports.get("test_that_fails", "")
+            found = re.search(r"-+ lambda_local history: (\S+) -+\nform 2\n.*?\n# \d+ \d+ deliver .*?\n-+ lambda_local "
+                              r"timeline: (\S+) -+\n"
+                              r"(?=.*caller 1: invoke double)(?=.*: output 4)", first, re.S)
+            self.check("the report has the history and its timeline", bool(found), shown=first)
+            if found:
+                with open(found[1]) as history, open(found[2]) as page:
+                    self.check("both stand whole in files",
+                               (history.read().startswith("form 2\n"), page.read().startswith("<!DOCTYPE html>")),
+                               (True, True))
+            many = reports.get("test_that_fails_after_many", "")
+            self.check("of a long history the end is shown",
+                       bool(re.search(r"\.\. \d+ lines before these: \S+history.txt\n",
+                    many)) and ".. " in many.split("timeline:")[-1], shown=many)
+            handler = reports.get("test_whose_handler_fails", "")
+            self.check("a handler's own exception is shown as the cause", all(text in handler for text in (
+                'return event["missing"]', "KeyError: 'missing'", "The above exception was the direct cause",
+                "FunctionError: KeyError: 'missing'")), shown=handler)
+            self.check("and what it printed", "said by the handler" in handler and "Captured stderr call" in handler)
+            self.check("pytest.fail in a handler", "not like this" in reports.get("test_that_fails_in_its_handler", ""))
+            self.check("the session's service is in the report",
+                       "lambda_local history" in reports.get("test_session_that_fails", ""))
+            self.check("each report has its history once",
+                       [name for name, text in reports.items() if text.count(" lambda_local history: ") > 1], [])
+            self.check("a service that died fails its test",
+                       "the service has ended" in reports.get("ERROR at teardown of test_whose_service_dies",
+                         ""))
+            self.check("a test that passes has no history in the output", "test_in_this_process" not in reports)

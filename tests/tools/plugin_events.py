@@ -1,21 +1,15 @@
-#!/usr/bin/env python3
 """Checks invocations of the type Event in the pytest plugin: retries, a record of what has failed, and what is left at
-the end. The program is LAMBDA_LOCAL_PROGRAM, else ./lambda_local. Ends with 'N passed, M failed'."""
+the end. The program is LAMBDA_LOCAL_PROGRAM, else ./lambda_local."""
 import contextlib
 import io
-import os
-import sys
 import threading
 import time
 import urllib.error
 import urllib.request
 
-ROOT = os.path.dirname(os.path.dirname(os.path.dirname(os.path.realpath(__file__))))
-sys.path[:0] = [os.path.join(ROOT, "tools"), os.path.join(ROOT, "tests", "library")]
-import counted  # noqa: E402
-from counted import check  # noqa: E402
-from plugin import fault_of  # noqa: E402
-from pytest_lambda_local import LambdaLocal  # noqa: E402
+from pytest_lambda_local import LambdaLocal
+from tests.library.cases import Case
+from tests.tools.plugin import fault_of
 
 
 def send(service, name, body=b"{}"):
@@ -30,58 +24,54 @@ def send(service, name, body=b"{}"):
         return fault.code
 
 
-def taken():
-    seen, records = [], []
+class PluginEvents(Case):
+    def test_taken(self):
+        seen, records = [], []
 
-    def flaky(event):
-        seen.append(event)
-        if len(seen) < 3:
-            raise KeyError("not yet")
+        def flaky(event):
+            seen.append(event)
+            if len(seen) < 3:
+                raise KeyError("not yet")
 
-    def broken(_event):
-        raise KeyError("never")
+        def broken(_event):
+            raise KeyError("never")
 
-    given = {"delays": [0.05], "onFailure": "records"}
-    with contextlib.redirect_stderr(io.StringIO()), LambdaLocal(
-            {"flaky": {}, "broken": {}, "records": {}}, asynchronous=given, flaky=flaky, broken=broken,
-            records=records.append) as service:
-        check("an event is taken", send(service, "flaky", b'{"order": 7}'), 202)
-        check("it is waited for", service.settled(30))
-        check("and tried three times", seen, 3 * [{"order": 7}])
-        check("a plain invocation is as before", service.invoke("records", 1), None)
-        records.clear()
-        send(service, "broken", b'{"order": 8}')
-        check("what fails each time is recorded", (service.settled(30), [
-            (record["requestPayload"], record["requestContext"]["approximateInvokeCount"],
-             record["responsePayload"]["errorType"]) for record in records]), (True, [({"order": 8}, 3, "KeyError")]))
-        check("an unknown function", send(service, "nothing"), 404)
+        given = {"delays": [0.05], "onFailure": "records"}
+        with contextlib.redirect_stderr(io.StringIO()), LambdaLocal(
+                {"flaky": {}, "broken": {}, "records": {}}, asynchronous=given, flaky=flaky, broken=broken,
+                records=records.append) as service:
+            self.check("an event is taken", send(service, "flaky", b'{"order": 7}'), 202)
+            self.check("it is waited for", service.settled(30))
+            self.check("and tried three times", seen, 3 * [{"order": 7}])
+            self.check("a plain invocation is as before", service.invoke("records", 1), None)
+            records.clear()
+            send(service, "broken", b'{"order": 8}')
+            self.check("what fails each time is recorded", (service.settled(30), [
+                (record["requestPayload"], record["requestContext"]["approximateInvokeCount"],
+                 record["responsePayload"]["errorType"]) for record in records]),
+                       (True, [({"order": 8}, 3, "KeyError")]))
+            self.check("an unknown function", send(service, "nothing"), 404)
 
+    def test_at_the_end(self):
+        begun, over = threading.Event(), []
 
-def at_the_end():
-    begun, over = threading.Event(), []
+        def slow(_event):
+            begun.set()
+            time.sleep(1)
+            over.append(1)
 
-    def slow(_event):
-        begun.set()
-        time.sleep(1)
-        over.append(1)
+        with LambdaLocal(asynchronous=True, slow=slow) as service:
+            send(service, "slow")
+            begun.wait(20)
+        self.check("an event that runs is waited for at the end", over, [1])
+        with LambdaLocal(f=lambda event: event) as service:
+            self.check("without asynchronous it is refused", send(service, "f"), 400)
 
-    with LambdaLocal(asynchronous=True, slow=slow) as service:
-        send(service, "slow")
-        begun.wait(20)
-    check("an event that runs is waited for at the end", over, [1])
-    with LambdaLocal(f=lambda event: event) as service:
-        check("without asynchronous it is refused", send(service, "f"), 400)
-
-
-def wrong():
-    f = {"f": lambda event: event}
-    for given, wanted in (
-            (5, 'asynchronous must be True, or a dict such as {"retries": 0}, not 5'),
-            ({"retires": 1}, "asynchronous: unknown member retires, did you mean retries?"),
-            ({"retries": 7}, "asynchronous: retries must be a whole number from 0 to 2, not 7"),
-            ({"onFailure": "g"}, 'asynchronous: onFailure: there is no function "g"')):
-        check(f"wrong: {wanted}", fault_of(LambdaLocal, asynchronous=given, **f), f"ValueError: {wanted}")
-
-
-if __name__ == "__main__":
-    sys.exit(counted.run(taken, at_the_end, wrong))
+    def test_wrong(self):
+        f = {"f": lambda event: event}
+        for given, wanted in (
+                (5, 'asynchronous must be True, or a dict such as {"retries": 0}, not 5'),
+                ({"retires": 1}, "asynchronous: unknown member retires, did you mean retries?"),
+                ({"retries": 7}, "asynchronous: retries must be a whole number from 0 to 2, not 7"),
+                ({"onFailure": "g"}, 'asynchronous: onFailure: there is no function "g"')):
+            self.check(f"wrong: {wanted}", fault_of(LambdaLocal, asynchronous=given, **f), f"ValueError: {wanted}")

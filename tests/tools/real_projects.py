@@ -1,21 +1,17 @@
-#!/usr/bin/env python3
 """Checks a project of each kind, written as such projects are: a SAM template, a serverless.yml, and what `cdk synth`
 writes, each with routes, a layer, a schedule and variables, taken by from_template and served unchanged by tools/up. A
-template of YAML needs PyYAML. Ends with 'N passed, M failed'."""
+template of YAML needs PyYAML."""
 import importlib.util
 import json
 import os
 import re
 import subprocess
-import sys
 import tempfile
 import urllib.request
 
-ROOT = os.path.dirname(os.path.dirname(os.path.dirname(os.path.realpath(__file__))))
-sys.path[:0] = [os.path.join(ROOT, "tools"), os.path.join(ROOT, "tests", "library")]
-import counted  # noqa: E402
-from counted import check  # noqa: E402
-from up_kit import Up  # noqa: E402
+from tests import ROOT
+from tests.library.cases import Case
+from tests.library.up_kit import Up
 
 HAS_YAML = bool(importlib.util.find_spec("yaml"))
 # A handler of REST events and one of HTTP events, over a module that a layer has; and one of a schedule.
@@ -135,42 +131,37 @@ def made_of(template, name):
     return made, said[0], prepare
 
 
-def a_project(kind, template, name, front, wanted):
-    made, (status, said), prepare = made_of(template, name)
-    check(f"{kind}: it is taken", (status, len(made.get("functions", []))), (0, 2))
-    print("\n".join(f"     {line}" for line in said.splitlines()))
-    nightly = next(function["name"] for function in made["functions"] if "schedule" in function)
-    up = Up("--report", functions=made["functions"], whole={name: value for name, value in made.items()
-                                                              if name != "functions"}, prepare=prepare)
-    check(f"{kind}: it is ready", up.until("ready"))
-    address = re.search(r"routes: (http://[0-9.:]+)", "\n".join(up.lines))
-    with urllib.request.urlopen(address[1] + front, timeout=30) as answer:
-        check(f"{kind}: its route answers", json.load(answer), wanted)
-    with open(os.path.join(ROOT, "examples", "events", "schedule.json")) as file:
-        check(f"{kind}: what a schedule invokes", up.invoke(nightly, 20, **json.load(file))[0],
-              {"kind": "Scheduled Event", "left": True})
-    check(f"{kind}: its log has what the handler logs, as Lambda writes it", up.until("REPORT RequestId: ") and bool(
-        up.count(r"\[INFO\]\t\d{4}-\d\d-\d\dT\d\d:\d\d:\d\d\.\d{3}Z\t[0-9a-f-]{36}\tasked by GET$")))
-    print("\n".join(f"     {line}" for line in up.lines))
-    check(f"{kind}: it ends", up.end()[0], 0)
+class RealProjects(Case):
+    def a_project(self, kind, template, name, front, wanted):
+        made, (status, said), prepare = made_of(template, name)
+        self.check(f"{kind}: it is taken", (status, len(made.get("functions", []))), (0, 2))
+        print("\n".join(f"     {line}" for line in said.splitlines()))
+        nightly = next(function["name"] for function in made["functions"] if "schedule" in function)
+        up = Up("--report", functions=made["functions"], whole={name: value for name, value in made.items()
+                                                                  if name != "functions"}, prepare=prepare)
+        self.check(f"{kind}: it is ready", up.until("ready"))
+        address = re.search(r"routes: (http://[0-9.:]+)", "\n".join(up.lines))
+        with urllib.request.urlopen(address[1] + front, timeout=30) as answer:
+            self.check(f"{kind}: its route answers", json.load(answer), wanted)
+        with open(os.path.join(ROOT, "examples", "events", "schedule.json")) as file:
+            self.check(f"{kind}: what a schedule invokes", up.invoke(nightly, 20, **json.load(file))[0],
+                       {"kind": "Scheduled Event", "left": True})
+        self.check(f"{kind}: its log has what the handler logs, as Lambda writes it", up.until("REPORT RequestId: ")
+                   and bool(
+            up.count(r"\[INFO\]\t\d{4}-\d\d-\d\dT\d\d:\d\d:\d\d\.\d{3}Z\t[0-9a-f-]{36}\tasked by GET$")))
+        print("\n".join(f"     {line}" for line in up.lines))
+        self.check(f"{kind}: it ends", up.end()[0], 0)
 
+    def test_sam(self):
+        if HAS_YAML:
+            self.a_project("SAM", SAM, "template.yaml", "/greet/Ada",
+                           {"said": "Hello, Ada!", "stage": "Prod", "table": "orders-dev"})
 
-def sam():
-    if HAS_YAML:
-        a_project("SAM", SAM, "template.yaml", "/greet/Ada",
-                  {"said": "Hello, Ada!", "stage": "Prod", "table": "orders-dev"})
+    def test_serverless(self):
+        if HAS_YAML:
+            self.a_project("Serverless", SERVERLESS, "serverless.yml", "/greet/Ada",
+                           {"said": "Hello, Ada!", "stage": "dev", "table": "orders-dev"})
 
-
-def serverless():
-    if HAS_YAML:
-        a_project("Serverless", SERVERLESS, "serverless.yml", "/greet/Ada",
-                  {"said": "Hello, Ada!", "stage": "dev", "table": "orders-dev"})
-
-
-def cdk():
-    a_project("CDK", json.dumps(CDK), "Stack.template.json", "/greet/Ada",
-              {"said": "Hello, Ada!", "table": "orders-dev"})
-
-
-if __name__ == "__main__":
-    sys.exit(counted.run(sam, serverless, cdk))
+    def test_cdk(self):
+        self.a_project("CDK", json.dumps(CDK), "Stack.template.json", "/greet/Ada",
+                       {"said": "Hello, Ada!", "table": "orders-dev"})

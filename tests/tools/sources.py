@@ -1,28 +1,24 @@
-#!/usr/bin/env python3
 """Checks queues and schedules as sources of invocations: expressions (EventBridge User Guide, "Schedule expressions"),
 the events of both, batches, messages that fail, and what a wrong queue does. Queues need boto3. The program is
-LAMBDA_LOCAL_PROGRAM, else ./lambda_local. Ends with 'N passed, M failed'."""
+LAMBDA_LOCAL_PROGRAM, else ./lambda_local."""
 import contextlib
 import importlib.util
 import json
 import os
 import re
-import sys
 import time
+import unittest
 from datetime import datetime, timedelta, timezone
 
-ROOT = os.path.dirname(os.path.dirname(os.path.dirname(os.path.realpath(__file__))))
-sys.path[:0] = [os.path.join(ROOT, "tools"), os.path.join(ROOT, "tests", "library")]
-import counted  # noqa: E402
-from counted import check  # noqa: E402
-from events_kit import READY, READY_SECONDS  # noqa: E402
-from lambda_local.up import sources  # noqa: E402
-from lambda_local.up.expressions import WrongExpression, cron_of, expression_of, rate_of  # noqa: E402
-from lambda_local.up.queues import failures_in  # noqa: E402
-from sqs_server import Server  # noqa: E402
-from up_kit import Up, until  # noqa: E402
+from lambda_local.up import sources
+from lambda_local.up.expressions import WrongExpression, cron_of, expression_of, rate_of
+from lambda_local.up.queues import failures_in
+from tests.library.cases import Case
+from tests.library.events_kit import READY, READY_SECONDS
+from tests.library.sqs_server import Server
+from tests.library.up_kit import Up, until
 
-HAS_BOTO3 = bool(importlib.util.find_spec("boto3"))
+WITH_BOTO3 = unittest.skipUnless(importlib.util.find_spec("boto3"), "boto3 is not here: queues")
 APP = '''import json, time
 def run(event, context):
     with open("seen", "a") as file: file.write(json.dumps(event) + "\\n")
@@ -76,95 +72,6 @@ WRONG = ("cron(* * * * * *)", "cron(* * ? * ? *)", "cron(0 12 * * ?)", "cron()",
          "5 minutes", "cron" + "(" * 100, "cron(" + "1," * 200 + "1 * * * ? *)")
 
 
-def expressions():
-    for text, after, wanted in FIRES:
-        expression, seen = cron_of(text), []
-        for _ in wanted:
-            seen.append(expression.next_after(seen[-1] if seen else after))
-        check(f"cron({text})", seen, wanted)
-    for text, wanted in (("rate(1 minute)", 60), ("rate(5 minutes)", 300), ("rate(1 hour)", 3600),
-                         ("rate(12 hours)", 43200), ("rate(1 day)", 86400), ("rate(7 days)", 604800)):
-        check(text, rate_of(text).next_after(utc(2026, 1, 1)), utc(2026, 1, 1) + timedelta(seconds=wanted))
-    for text in WRONG:
-        begun = time.process_time()
-        try:
-            expression_of(text)
-            seen = "taken"
-        except WrongExpression as fault:
-            seen = "refused" if str(fault) else "without a word"
-        check(f"wrong: {text[:40]}", (seen, time.process_time() - begun < 5), ("refused", True))
-
-
-def mistakes():
-    url = "http://127.0.0.1:9324/0/q"
-    for members, wanted in (
-            ({"queue": {}}, "queue: there is no url, which must be"),
-            ({"queue": {"url": 5}}, "queue: url must be a string"),
-            ({"queue": {"url": url, "batch": 5}}, "queue: unknown member batch, did you mean batchSize?"),
-            ({"queue": {"url": url, "batchSize": 0}}, "queue: batchSize must be a whole number from 1 to 10000, not 0"),
-            ({"queue": {"url": url, "window": 301}}, "queue: window must be"),
-            ({"queue": {"url": url, "batchSize": 11}}, "queue: batchSize: more than 10 messages need a window"),
-            ({"queue": {"url": url + ".fifo", "batchSize": 11, "window": 1}},
-             "queue: batchSize: a FIFO queue gives 10"),
-            ({"schedule": "cron(* * * * * *)"}, 'schedule: "cron(* * * * * *)": one of day-of-month and'),
-            ({"schedule": ["rate(1 minute)", "x"]}, 'schedule: number 2: "x": write "rate(5 minutes)" or'),
-            ({"schedule": {"expresion": "x"}}, "schedule: unknown member expresion, did you mean expression?"),
-            ({"schedule": {"expression": 5}}, "schedule: expression must be a string")):
-        seen = next(sources.mistakes({"functions": [{"name": "f", **members}]}), "")
-        check(f"a mistake: {members}", seen[:len("function f: " + wanted)], "function f: " + wanted)
-    for wrong in ("", "x", "file:///etc/passwd", "http://", "http://h", "http://h/", "ftp://h/q", "http://a b/q",
-                  "http://user:word@h/q", "http://h:0/q", "http://h:99999/q", "http://h/q?x", "http://h/q#x",
-                  "http://[/q", "http://h/q\r\nX: y", "http://h/" + "q" * 2000, "http://h/\u00e9"):
-        seen = next(sources.mistakes({"functions": [{"name": "f", "queue": {"url": wrong}}]}), "")
-        check(f"no address: {wrong[:30]!r}", "must be the address of a queue" in seen)
-    for given in ({"schedule": "rate(1 minute)"},
-                  {"schedule": ["rate(1 minute)", {"expression": "rate(1 day)", "input": 1}]},
-                  {"queue": {"url": url, "batchSize": 100, "window": 1}}):
-        check(f"what is right: {given}", list(sources.mistakes({"functions": [{"name": "f", **given}]})), [])
-    off = {"asynchronous": False, "functions": [{"name": "f", "schedule": "rate(1 minute)"}]}
-    check("a schedule without events", "leave one of the two out" in next(sources.mistakes(off)))
-    kinds = sources.OF_FUNCTION["schedule"]
-    others = ([], 5, None, True, [5], ["rate(1 day)"] * 101)
-    check("other types", [kinds.accepts(value) for value in others], [False] * 6)
-
-
-def of_aws():
-    """No queue of AWS is read with a user's own messages in it, unless they say so."""
-    for host in ("sqs.eu-west-1.amazonaws.com", "SQS.US-EAST-1.AMAZONAWS.COM", "eu-west-1.queue.amazonaws.com",
-                 "sqs.cn-north-1.amazonaws.com.cn", "sqs.eu-west-1.api.aws", "sqs.eu-west-1.amazonaws.com.",
-                 "sqs-fips.us-east-1.amazonaws.com", "vpce-1.sqs.us-east-1.vpce.amazonaws.com"):
-        queue = {"url": f"https://{host}/123456789012/orders"}
-        up = Up(functions=[{"name": "f", "runtime": "python", "handler": "app.run", "queue": queue}], app=APP)
-        check(f"{host} is refused", (up.end(None), "is AWS itself" in up.lines[-1]), ((2, []), True))
-
-
-def failures():
-    """Developer Guide, "Implementing partial batch responses": which results are successes, and which fail all."""
-    for result, wanted in (
-            ('{"batchItemFailures":[{"itemIdentifier":"a"}]}', ["a"]), ('{"batchItemFailures":[]}', []),
-            ('{"batchItemFailures":null}', []), ("{}", []), ("null", []), ('"done"', []), ("[1]", []), ("x", []),
-            ('{"statusCode":200}', []), ('{"batchItemFailures":[{"itemIdentifier":""}]}', None),
-            ('{"batchItemFailures":[{"itemIdentifier":null}]}', None), ('{"batchItemFailures":[{"id":"a"}]}', None),
-            ('{"batchItemFailures":[{"itemIdentifier":"c"}]}', None), ('{"batchItemFailures":["a"]}', None),
-            ('{"batchItemFailures":"a"}', None), ("[" * 100_000, [])):
-        check(f"a result: {result[:60]}", failures_in(result.encode(), ["a", "b"]), wanted)
-
-
-@contextlib.contextmanager
-def running(server, options=(), environ=None, **members):
-    function = {"name": "f", "runtime": "python", "handler": "app.run", "timeout": 70, **members}
-    function["queue"] = {"url": server.url, **members.get("queue", {})}
-    up = Up(*READY, *options, functions=[function], app=APP, environ=environ, whole={"region": "eu-west-1"})
-    try:
-        check("it is ready", up.until("[up] ready", READY_SECONDS))
-        yield up
-    finally:
-        if up.process.poll() is None:
-            begun = time.monotonic()
-            check("it ends in order, and leaves nothing", up.end(), (0, []))
-            check("in time", time.monotonic() - begun < 30)
-
-
 def seen_by(up):
     path = os.path.join(up.at, "seen")
     if not os.path.exists(path):
@@ -173,105 +80,187 @@ def seen_by(up):
         return [json.loads(line) for line in file]
 
 
-def batches():
-    attributes = {"Kind": {"StringValue": "a<b", "DataType": "String"}}
-    with Server() as server:
-        first = server.queue.send("one <&> \u00e9", attributes)
-        for number in range(24):
-            server.queue.send(f"message {number:02}")
-        environ = {**os.environ, "AWS_ACCESS_KEY_ID": "AKIAREAL", "AWS_SECRET_ACCESS_KEY": "real",
-                   "AWS_PROFILE": "no-such-profile", "HTTP_PROXY": "http://127.0.0.1:9",
-                   "http_proxy": "http://127.0.0.1:9"}
-        with running(server, environ=environ) as up:
-            check("all are taken", until(lambda: not server.queue.bodies(), 60))
-            events = seen_by(up)
-            check("ten at once", [len(event["Records"]) for event in events], [10, 10, 5])
-            record = events[0]["Records"][0]
-            own = {name: value for name, value in record.items() if name not in ("receiptHandle", "attributes")}
-            check("a record", own, {
-                "messageId": first, "body": "one <&> \u00e9", "md5OfBody": record["md5OfBody"],
-                "eventSource": "aws:sqs",
-                "eventSourceARN": "arn:aws:sqs:eu-west-1:123456789012:orders", "awsRegion": "eu-west-1",
-                "messageAttributes": {"Kind": {"stringValue": "a<b", "stringListValues": [], "binaryListValues": [],
-                                               "dataType": "String"}}})
-            check("its attributes", (record["attributes"]["ApproximateReceiveCount"], record["attributes"]["SenderId"]),
-                  ("1", "AIDAEXAMPLE"))
-            check("a line for each batch", until(lambda: up.count(r"\[f\] queue orders: a batch of \d+ ok") == 3, 5))
-            check("the user's own credentials are not used", server.is_signed_with("local"))
-        with running(server, queue={"batchSize": 25, "window": 3}) as up:
-            for number in range(25):
-                server.queue.send(f"message {number:02}")
-            check("a window", until(lambda: not server.queue.bodies(), 60))
-            check("collects more than a queue gives at once", max(len(event["Records"]) for event in seen_by(up)) > 10)
+class Sources(Case):
+    def test_expressions(self):
+        for text, after, wanted in FIRES:
+            expression, seen = cron_of(text), []
+            for _ in wanted:
+                seen.append(expression.next_after(seen[-1] if seen else after))
+            self.check(f"cron({text})", seen, wanted)
+        for text, wanted in (("rate(1 minute)", 60), ("rate(5 minutes)", 300), ("rate(1 hour)", 3600),
+                             ("rate(12 hours)", 43200), ("rate(1 day)", 86400), ("rate(7 days)", 604800)):
+            self.check(text, rate_of(text).next_after(utc(2026, 1, 1)), utc(2026, 1, 1) + timedelta(seconds=wanted))
+        for text in WRONG:
+            begun = time.process_time()
+            try:
+                expression_of(text)
+                seen = "taken"
+            except WrongExpression as fault:
+                seen = "refused" if str(fault) else "without a word"
+            self.check(f"wrong: {text[:40]}", (seen, time.process_time() - begun < 5), ("refused", True))
 
+    def test_mistakes(self):
+        url = "http://127.0.0.1:9324/0/q"
+        for members, wanted in (
+                ({"queue": {}}, "queue: there is no url, which must be"),
+                ({"queue": {"url": 5}}, "queue: url must be a string"),
+                ({"queue": {"url": url, "batch": 5}}, "queue: unknown member batch, did you mean batchSize?"),
+                ({"queue": {"url": url, "batchSize": 0}},
+                 "queue: batchSize must be a whole number from 1 to 10000, not 0"),
+                ({"queue": {"url": url, "window": 301}}, "queue: window must be"),
+                ({"queue": {"url": url, "batchSize": 11}}, "queue: batchSize: more than 10 messages need a window"),
+                ({"queue": {"url": url + ".fifo", "batchSize": 11, "window": 1}},
+                 "queue: batchSize: a FIFO queue gives 10"),
+                ({"schedule": "cron(* * * * * *)"}, 'schedule: "cron(* * * * * *)": one of day-of-month and'),
+                ({"schedule": ["rate(1 minute)", "x"]}, 'schedule: number 2: "x": write "rate(5 minutes)" or'),
+                ({"schedule": {"expresion": "x"}}, "schedule: unknown member expresion, did you mean expression?"),
+                ({"schedule": {"expression": 5}}, "schedule: expression must be a string")):
+            seen = next(sources.mistakes({"functions": [{"name": "f", **members}]}), "")
+            self.check(f"a mistake: {members}", seen[:len("function f: " + wanted)], "function f: " + wanted)
+        for wrong in ("", "x", "file:///etc/passwd", "http://", "http://h", "http://h/", "ftp://h/q", "http://a b/q",
+                      "http://user:word@h/q", "http://h:0/q", "http://h:99999/q", "http://h/q?x", "http://h/q#x",
+                      "http://[/q", "http://h/q\r\nX: y", "http://h/" + "q" * 2000, "http://h/\u00e9"):
+            seen = next(sources.mistakes({"functions": [{"name": "f", "queue": {"url": wrong}}]}), "")
+            self.check(f"no address: {wrong[:30]!r}", "must be the address of a queue" in seen)
+        for given in ({"schedule": "rate(1 minute)"},
+                      {"schedule": ["rate(1 minute)", {"expression": "rate(1 day)", "input": 1}]},
+                      {"queue": {"url": url, "batchSize": 100, "window": 1}}):
+            self.check(f"what is right: {given}", list(sources.mistakes({"functions": [{"name": "f", **given}]})), [])
+        off = {"asynchronous": False, "functions": [{"name": "f", "schedule": "rate(1 minute)"}]}
+        self.check("a schedule without events", "leave one of the two out" in next(sources.mistakes(off)))
+        kinds = sources.OF_FUNCTION["schedule"]
+        others = ([], 5, None, True, [5], ["rate(1 day)"] * 101)
+        self.check("other types", [kinds.accepts(value) for value in others], [False] * 6)
 
-def what_fails():
-    with Server(visibility=3) as server:
-        with running(server, queue={"batchSize": 2}) as up:
-            server.queue.send("part")
-            server.queue.send("whole")
-            check("a message that failed stays, and the others go",
-                  until(lambda: server.queue.bodies() == ["part"], 60))
-            check("a line says so", up.until("1 failed and stay in the queue", 5))
-            check("it comes again", until(lambda: len(seen_by(up)) >= 2, 30))
-            check("by its count", seen_by(up)[-1]["Records"][0]["attributes"]["ApproximateReceiveCount"] != "1")
-    for body, why in (("fail", "failed: its messages stay"),
-                      ("unknown", "its batchItemFailures name no message of it")):
+    def test_of_aws(self):
+        """No queue of AWS is read with a user's own messages in it, unless they say so."""
+        for host in ("sqs.eu-west-1.amazonaws.com", "SQS.US-EAST-1.AMAZONAWS.COM", "eu-west-1.queue.amazonaws.com",
+                     "sqs.cn-north-1.amazonaws.com.cn", "sqs.eu-west-1.api.aws", "sqs.eu-west-1.amazonaws.com.",
+                     "sqs-fips.us-east-1.amazonaws.com", "vpce-1.sqs.us-east-1.vpce.amazonaws.com"):
+            queue = {"url": f"https://{host}/123456789012/orders"}
+            up = Up(functions=[{"name": "f", "runtime": "python", "handler": "app.run", "queue": queue}], app=APP)
+            self.check(f"{host} is refused", (up.end(None), "is AWS itself" in up.lines[-1]), ((2, []), True))
+
+    def test_failures(self):
+        """Developer Guide, "Implementing partial batch responses": which results are successes, and which fail all."""
+        for result, wanted in (
+                ('{"batchItemFailures":[{"itemIdentifier":"a"}]}', ["a"]), ('{"batchItemFailures":[]}', []),
+                ('{"batchItemFailures":null}', []), ("{}", []), ("null", []), ('"done"', []), ("[1]", []), ("x", []),
+                ('{"statusCode":200}', []), ('{"batchItemFailures":[{"itemIdentifier":""}]}', None),
+                ('{"batchItemFailures":[{"itemIdentifier":null}]}', None), ('{"batchItemFailures":[{"id":"a"}]}', None),
+                ('{"batchItemFailures":[{"itemIdentifier":"c"}]}', None), ('{"batchItemFailures":["a"]}', None),
+                ('{"batchItemFailures":"a"}', None), ("[" * 100_000, [])):
+            self.check(f"a result: {result[:60]}", failures_in(result.encode(), ["a", "b"]), wanted)
+
+    @contextlib.contextmanager
+    def running(self, server, options=(), environ=None, **members):
+        function = {"name": "f", "runtime": "python", "handler": "app.run", "timeout": 70, **members}
+        function["queue"] = {"url": server.url, **members.get("queue", {})}
+        up = Up(*READY, *options, functions=[function], app=APP, environ=environ, whole={"region": "eu-west-1"})
+        try:
+            self.check("it is ready", up.until("[up] ready", READY_SECONDS))
+            yield up
+        finally:
+            if up.process.poll() is None:
+                begun = time.monotonic()
+                self.check("it ends in order, and leaves nothing", up.end(), (0, []))
+                self.check("in time", time.monotonic() - begun < 30)
+
+    @WITH_BOTO3
+    def test_batches(self):
+        attributes = {"Kind": {"StringValue": "a<b", "DataType": "String"}}
         with Server() as server:
-            server.queue.send(body)
-            with running(server) as up:
-                check(f"{body}: a line says so", up.until(why, 60))
-                check("the message stays", server.queue.bodies(), [body])
+            first = server.queue.send("one <&> \u00e9", attributes)
+            for number in range(24):
+                server.queue.send(f"message {number:02}")
+            environ = {**os.environ, "AWS_ACCESS_KEY_ID": "AKIAREAL", "AWS_SECRET_ACCESS_KEY": "real",
+                       "AWS_PROFILE": "no-such-profile", "HTTP_PROXY": "http://127.0.0.1:9",
+                       "http_proxy": "http://127.0.0.1:9"}
+            with self.running(server, environ=environ) as up:
+                self.check("all are taken", until(lambda: not server.queue.bodies(), 60))
+                events = seen_by(up)
+                self.check("ten at once", [len(event["Records"]) for event in events], [10, 10, 5])
+                record = events[0]["Records"][0]
+                own = {name: value for name, value in record.items() if name not in ("receiptHandle", "attributes")}
+                self.check("a record", own, {
+                    "messageId": first, "body": "one <&> \u00e9", "md5OfBody": record["md5OfBody"],
+                    "eventSource": "aws:sqs",
+                    "eventSourceARN": "arn:aws:sqs:eu-west-1:123456789012:orders", "awsRegion": "eu-west-1",
+                    "messageAttributes": {"Kind": {"stringValue": "a<b", "stringListValues": [], "binaryListValues": [],
+                                                   "dataType": "String"}}})
+                self.check("its attributes", (record["attributes"]["ApproximateReceiveCount"],
+                                              record["attributes"]["SenderId"]),
+                           ("1", "AIDAEXAMPLE"))
+                self.check("a line for each batch",
+                           until(lambda: up.count(r"\[f\] queue orders: a batch of \d+ ok") == 3, 5))
+                self.check("the user's own credentials are not used", server.is_signed_with("local"))
+            with self.running(server, queue={"batchSize": 25, "window": 3}) as up:
+                for number in range(25):
+                    server.queue.send(f"message {number:02}")
+                self.check("a window", until(lambda: not server.queue.bodies(), 60))
+                self.check("collects more than a queue gives at once",
+                           max(len(event["Records"]) for event in seen_by(up)) > 10)
 
+    @WITH_BOTO3
+    def test_what_fails(self):
+        with Server(visibility=3) as server:
+            with self.running(server, queue={"batchSize": 2}) as up:
+                server.queue.send("part")
+                server.queue.send("whole")
+                self.check("a message that failed stays, and the others go",
+                           until(lambda: server.queue.bodies() == ["part"], 60))
+                self.check("a line says so", up.until("1 failed and stay in the queue", 5))
+                self.check("it comes again", until(lambda: len(seen_by(up)) >= 2, 30))
+                self.check("by its count",
+                           seen_by(up)[-1]["Records"][0]["attributes"]["ApproximateReceiveCount"] != "1")
+        for body, why in (("fail", "failed: its messages stay"),
+                          ("unknown", "its batchItemFailures name no message of it")):
+            with Server() as server:
+                server.queue.send(body)
+                with self.running(server) as up:
+                    self.check(f"{body}: a line says so", up.until(why, 60))
+                    self.check("the message stays", server.queue.bodies(), [body])
 
-def wrong_servers():
-    with Server() as server:
-        with running(server) as up:
-            check("it is polled", until(lambda: server.queue.asked != [], 60))
-            for wrong in (
-                    (500, b"no"), (200, b"<"), (200, b"<a/>"), (200, b"\0\xff" * 100), (403, b"<ErrorResponse/>"),
-                    (200, b"<ReceiveMessageResponse><ReceiveMessageResult><Message><Body>x</Body></Message>"
-                          b"</ReceiveMessageResult></ReceiveMessageResponse>")):
-                server.queue.wrong = wrong
-                time.sleep(2.5)
-            server.queue.wrong = None
-            server.queue.send("after all")
-            check("a wrong answer is told, and stops nothing", up.count("queue orders: it cannot be polled: ") >= 1)
-            check("the queue is polled again", until(lambda: not server.queue.bodies(), 60))
-    with running(type("Gone", (), {"url": "http://127.0.0.1:9/0/q"})) as up:
-        check("no server", up.until("queue q: it cannot be polled: EndpointConnectionError", 30))
-    with Server() as server:
-        server.queue.send("slow")
-        with running(server) as up:
-            check("a slow message is taken", until(lambda: len(seen_by(up)) == 1, 60))
-        check("a stop leaves it in the queue", server.queue.bodies(), ["slow"])
+    @WITH_BOTO3
+    def test_wrong_servers(self):
+        with Server() as server:
+            with self.running(server) as up:
+                self.check("it is polled", until(lambda: server.queue.asked != [], 60))
+                for wrong in (
+                        (500, b"no"), (200, b"<"), (200, b"<a/>"), (200, b"\0\xff" * 100), (403, b"<ErrorResponse/>"),
+                        (200, b"<ReceiveMessageResponse><ReceiveMessageResult><Message><Body>x</Body></Message>"
+                              b"</ReceiveMessageResult></ReceiveMessageResponse>")):
+                    server.queue.wrong = wrong
+                    time.sleep(2.5)
+                server.queue.wrong = None
+                server.queue.send("after all")
+                self.check("a wrong answer is told, and stops nothing",
+                           up.count("queue orders: it cannot be polled: ") >= 1)
+                self.check("the queue is polled again", until(lambda: not server.queue.bodies(), 60))
+        with self.running(type("Gone", (), {"url": "http://127.0.0.1:9/0/q"})) as up:
+            self.check("no server", up.until("queue q: it cannot be polled: EndpointConnectionError", 30))
+        with Server() as server:
+            server.queue.send("slow")
+            with self.running(server) as up:
+                self.check("a slow message is taken", until(lambda: len(seen_by(up)) == 1, 60))
+            self.check("a stop leaves it in the queue", server.queue.bodies(), ["slow"])
 
-
-def schedule():
-    """A schedule of each minute: its event is Lambda's example of one."""
-    function = {"name": "f", "runtime": "python", "handler": "app.run",
-                "schedule": ["cron(* * * * ? *)", {"expression": "cron(0/1 * * * ? *)", "input": {"own": 1}}]}
-    up = Up(*READY, functions=[function], app=APP)
-    check("it is ready", up.until("[up] ready", READY_SECONDS))
-    check("both fire", until(lambda: len(seen_by(up)) >= 2, 90))
-    event = next(event for event in seen_by(up) if "own" not in event)
-    check("its members", sorted(event),
-          ["account", "detail", "detail-type", "id", "region", "resources", "source", "time", "version"])
-    check("its values", [event[name] for name in ("version", "detail-type", "source", "account", "region", "resources",
-                                                  "detail")],
-          ["0", "Scheduled Event", "aws.events", "123456789012", "us-east-1",
-           ["arn:aws:events:us-east-1:123456789012:rule/f"], {}])
-    check("its moment", re.fullmatch(r"\d{4}-\d\d-\d\dT\d\d:\d\d:00Z", event["time"]) is not None)
-    check("an input of its own", any(event == {"own": 1} for event in seen_by(up)))
-    check("a line for each", until(lambda: up.count(r"\[f\] schedule cron\(.*: event ") >= 2, 5))
-    check("it ends in order, and leaves nothing", up.end(), (0, []))
-
-
-if __name__ == "__main__":
-    parts = [expressions, mistakes, of_aws, failures, schedule]
-    if HAS_BOTO3:
-        parts += [batches, what_fails, wrong_servers]
-    else:
-        print("skip boto3 is not here: queues")
-    named = {part.__name__: part for part in parts}
-    sys.exit(counted.run(*(named[name] for name in sys.argv[1:] or named)))
+    def test_schedule(self):
+        """A schedule of each minute: its event is Lambda's example of one."""
+        function = {"name": "f", "runtime": "python", "handler": "app.run",
+                    "schedule": ["cron(* * * * ? *)", {"expression": "cron(0/1 * * * ? *)", "input": {"own": 1}}]}
+        up = Up(*READY, functions=[function], app=APP)
+        self.check("it is ready", up.until("[up] ready", READY_SECONDS))
+        self.check("both fire", until(lambda: len(seen_by(up)) >= 2, 90))
+        event = next(event for event in seen_by(up) if "own" not in event)
+        self.check("its members", sorted(event),
+                   ["account", "detail", "detail-type", "id", "region", "resources", "source", "time", "version"])
+        self.check("its values", [event[name] for name in ("version", "detail-type", "source", "account", "region",
+                                                           "resources",
+                                                           "detail")],
+                   ["0", "Scheduled Event", "aws.events", "123456789012", "us-east-1",
+                    ["arn:aws:events:us-east-1:123456789012:rule/f"], {}])
+        self.check("its moment", re.fullmatch(r"\d{4}-\d\d-\d\dT\d\d:\d\d:00Z", event["time"]) is not None)
+        self.check("an input of its own", any(event == {"own": 1} for event in seen_by(up)))
+        self.check("a line for each", until(lambda: up.count(r"\[f\] schedule cron\(.*: event ") >= 2, 5))
+        self.check("it ends in order, and leaves nothing", up.end(), (0, []))

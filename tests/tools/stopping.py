@@ -1,4 +1,3 @@
-#!/usr/bin/env python3
 """Checks that a service ends at once when it is stopped, and sleeps while it is idle; and how
 tools/lambda_local/service.py waits for the end of what it has started: at once, and no longer than it is told, with
 descriptors of processes and without. The program is LAMBDA_LOCAL_PROGRAM, else ./lambda_local. Ends with
@@ -12,11 +11,8 @@ import sys
 import threading
 import time
 
-ROOT = os.path.dirname(os.path.dirname(os.path.dirname(os.path.realpath(__file__))))
-sys.path[:0] = [os.path.join(ROOT, "tools"), os.path.join(ROOT, "tests", "library")]
-import counted  # noqa: E402
-from counted import check  # noqa: E402
-from lambda_local.service import RUNTIME, Service, ask, wait_for  # noqa: E402
+from lambda_local.service import RUNTIME, Service, ask, wait_for
+from tests.library.cases import Case
 
 CONFIGURATION = {"account": "123456789012", "region": "us-east-2", "functions": [{"name": "f", "ports": [0]}]}
 
@@ -32,49 +28,6 @@ def ended(seconds, limit):
             child.kill()
 
 
-def waits():
-    check("the status of a process that ends", ended(0.1, 30), 3)
-    check("a process that goes on", ended(30, 0.1), "goes on")
-    with subprocess.Popen(["true"]) as child:
-        child.wait()
-        check("a process whose status was taken already", wait_for(child, 1), 0)
-
-
-def waits_without_descriptors():
-    """As on a system before Linux 5.3."""
-    opens = getattr(os, "pidfd_open", None)
-    if opens:
-        del os.pidfd_open
-    try:
-        waits()
-    finally:
-        if opens:
-            os.pidfd_open = opens
-
-
-def waits_beside_another():
-    """lambda_local up has a thread that waits for the service as well."""
-    seen = []
-    for _ in range(30):
-        with subprocess.Popen(["sleep", "0.02"]) as child:
-            other = threading.Thread(target=child.wait)
-            other.start()
-            try:
-                seen.append(wait_for(child, 30))
-            except subprocess.TimeoutExpired:
-                seen.append("goes on")
-            other.join()
-    check("a process that another thread waits for too", set(seen), {0})
-
-
-def stops():
-    service = Service(CONFIGURATION)
-    begun = time.monotonic()
-    status, counts = service.stop()
-    check("a service that is stopped in order", (status, counts.startswith("admitted")), (0, True))
-    print(f"      (it took {1000 * (time.monotonic() - begun):.0f} ms)")
-
-
 def seconds_to_the_end():
     """From the answer to a stop until the end of the service."""
     service = Service(CONFIGURATION)
@@ -85,14 +38,6 @@ def seconds_to_the_end():
         return time.monotonic() - begun
     finally:
         service.kill()
-
-
-def ends_at_once():
-    """It takes a few milliseconds; the bound is for a busy machine. A service that looks whether it is over takes 50 ms
-    and more, and less only by chance."""
-    taken = statistics.median(seconds_to_the_end() for _ in range(15))
-    check("a service ends at once after the answer to its stop", taken < 0.03)
-    print(f"      (it took {1000 * taken:.1f} ms, as the median of 15)")
 
 
 def wakes(pid):
@@ -110,21 +55,64 @@ def wakes_in(service, seconds):
     return wakes(service.process.pid) - before
 
 
-def sleeps():
-    service = Service(CONFIGURATION)
-    try:
-        time.sleep(1)
-        check("an idle service does not wake", wakes_in(service, 3), 0)
-        environment = service.configuration["functions"][0]["ports"][0]
-        with socket.create_connection(("127.0.0.1", environment)) as runtime:
-            runtime.sendall(f"GET {RUNTIME}invocation/next HTTP/1.1\r\nHost: h\r\n\r\n".encode())
+class Stopping(Case):
+    def test_waits(self):
+        self.check("the status of a process that ends", ended(0.1, 30), 3)
+        self.check("a process that goes on", ended(30, 0.1), "goes on")
+        with subprocess.Popen(["true"]) as child:
+            child.wait()
+            self.check("a process whose status was taken already", wait_for(child, 1), 0)
+
+    def test_waits_without_descriptors(self):
+        """As on a system before Linux 5.3."""
+        opens = getattr(os, "pidfd_open", None)
+        if opens:
+            del os.pidfd_open
+        try:
+            self.test_waits()
+        finally:
+            if opens:
+                os.pidfd_open = opens
+
+    def test_waits_beside_another(self):
+        """lambda_local up has a thread that waits for the service as well."""
+        seen = []
+        for _ in range(30):
+            with subprocess.Popen(["sleep", "0.02"]) as child:
+                other = threading.Thread(target=child.wait)
+                other.start()
+                try:
+                    seen.append(wait_for(child, 30))
+                except subprocess.TimeoutExpired:
+                    seen.append("goes on")
+                other.join()
+        self.check("a process that another thread waits for too", set(seen), {0})
+
+    def test_stops(self):
+        service = Service(CONFIGURATION)
+        begun = time.monotonic()
+        status, counts = service.stop()
+        self.check("a service that is stopped in order", (status, counts.startswith("admitted")), (0, True))
+        print(f"      (it took {1000 * (time.monotonic() - begun):.0f} ms)")
+
+    def test_ends_at_once(self):
+        """It takes a few milliseconds; the bound is for a busy machine. A service that looks whether it is over takes
+        50 ms and more, and less only by chance."""
+        taken = statistics.median(seconds_to_the_end() for _ in range(15))
+        self.check("a service ends at once after the answer to its stop", taken < 0.03)
+        print(f"      (it took {1000 * taken:.1f} ms, as the median of 15)")
+
+    def test_sleeps(self):
+        service = Service(CONFIGURATION)
+        try:
             time.sleep(1)
-            woken = wakes_in(service, 3)
-            check("with a connection it wakes once a second", woken in (2, 3, 4), True)
-            print(f"      ({woken} times in 3 s)")
-    finally:
-        service.kill()
-
-
-if __name__ == "__main__":
-    sys.exit(counted.run(waits, waits_without_descriptors, waits_beside_another, stops, ends_at_once, sleeps))
+            self.check("an idle service does not wake", wakes_in(service, 3), 0)
+            environment = service.configuration["functions"][0]["ports"][0]
+            with socket.create_connection(("127.0.0.1", environment)) as runtime:
+                runtime.sendall(f"GET {RUNTIME}invocation/next HTTP/1.1\r\nHost: h\r\n\r\n".encode())
+                time.sleep(1)
+                woken = wakes_in(service, 3)
+                self.check("with a connection it wakes once a second", woken in (2, 3, 4), True)
+                print(f"      ({woken} times in 3 s)")
+        finally:
+            service.kill()

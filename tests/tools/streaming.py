@@ -1,10 +1,8 @@
-#!/usr/bin/env python3
 """Checks streamed responses of lambda_local up: by Function URLs with "invoke": "RESPONSE_STREAM" and by
 InvokeWithResponseStream, of a custom runtime and of Node's streaming handlers. The program is LAMBDA_LOCAL_PROGRAM,
-else ./lambda_local. Ends with 'N passed, M failed'."""
+else ./lambda_local."""
 import http.client
 import json
-import os
 import re
 import shutil
 import socket
@@ -14,13 +12,10 @@ import threading
 import time
 import zlib
 
-ROOT = os.path.dirname(os.path.dirname(os.path.dirname(os.path.realpath(__file__))))
-sys.path[:0] = [os.path.join(ROOT, "tools"), os.path.join(ROOT, "tests", "library")]
-import counted  # noqa: E402
-from counted import check  # noqa: E402
-from lambda_local.streaming import frames  # noqa: E402
-from telemetry_kit import PROBE, events, function, probe  # noqa: E402
-from up_kit import Up, until  # noqa: E402
+from lambda_local.streaming import frames
+from tests.library.cases import Case
+from tests.library.telemetry_kit import PROBE, events, function, probe
+from tests.library.up_kit import Up, until
 
 # A runtime that streams: its event says the parts, the seconds before each, and how it ends.
 STREAMING = f'''#!{sys.executable}
@@ -71,14 +66,6 @@ while True:
 '''
 
 
-def started(url={"invoke": "RESPONSE_STREAM"}, **members):
-    up = Up(functions=[{"name": "f", "command": ["./streaming"], "timeout": 5, "url": url, **members}],
-            files={"streaming": STREAMING})
-    check("it is ready", up.until("[up] ready"), True)
-    up.url = int(re.search(r"its URL is http://127\.0\.0\.1:(\d+)/", "\n".join(up.lines))[1])
-    return up
-
-
 class Got:
     """What a Function URL answers, and when its parts came."""
 
@@ -110,85 +97,8 @@ def outputs(up):
     return re.findall(r"^# [\d ]+ output =(.*)$", up.history(), re.M)
 
 
-def by_url():
-    up = started()
-    got = Got(up, parts=["one", "two", "three"], pause=0.5, type="text/plain")
-    check("a streamed response", got.seen, (200, b"onetwothree", True))
-    check("its type", got.headers["Content-Type"], "text/plain")
-    check("its parts come as they are sent", got.moments[-1] - got.moments[0] > 0.6, True)
-    check("the history has the whole of it", outputs(up), ["onetwothree"])
-    check("a response without a type", Got(up, parts=["x"]).headers["Content-Type"], "application/octet-stream")
-    prelude = json.dumps({"statusCode": 202, "headers": {"X-A": "b", "Content-Type": "text/css"}, "cookies": ["c=d"]})
-    kind = "application/vnd.awslambda.http-integration-response"
-    for parts in ([prelude, "=" + "00" * 8, "body"], [prelude + "\0" * 8 + "body"],
-                  [*(f"={ord(letter):02x}" for letter in prelude), "=00000000", "=00000000", "bo", "dy"]):
-        got = Got(up, parts=parts, type=kind)
-        check(f"a prelude in {len(parts)} parts", (got.seen, got.headers["X-A"], got.headers["Content-Type"],
-                                                   got.headers["Set-Cookie"]),
-              ((202, b"body", True), "b", "text/css", "c=d"))
-    for name, parts in {"no JSON": ["x", "=" + "00" * 8], "no end": ["{}"], "a list": ["[]", "=" + "00" * 8],
-                        "a wrong status": ['{"statusCode":99}', "=" + "00" * 8],
-                        "a wrong header": ['{"headers":{"a":"b\\nc: d"}}', "=" + "00" * 8]}.items():
-        check(f"a prelude with {name}", Got(up, parts=parts, type=kind).seen, (502, b"Internal Server Error", True))
-    check("a prelude of more than 64 KiB", Got(up, parts=["a" * 1000], times=70, type=kind).status, 502)
-    check("an empty response", Got(up, parts=[]).seen, (200, b"", True))
-    check("one that is not streamed stays as it is", Got(up, buffered={"statusCode": 201, "body": "x"}).seen,
-          (200, b'{"statusCode": 201, "body": "x"}', True))
-    check("an error before its first byte", Got(up, error=1).seen, (502, b"Internal Server Error", True))
-    check("an error after it breaks off", Got(up, parts=["some"], ends="fail").seen, (200, b"some", False))
-    check("a timeout breaks off", Got(up, parts=["some"], ends="hang").seen, (200, b"some", False))
-    check("an exit breaks off", Got(up, parts=["some"], ends="exit").seen, (200, b"some", False))
-    trace = Got(up, {"X-Amzn-Trace-Id": "Root=1-2;Parent=3"}, parts=["trace"]).body.decode()
-    check("the caller's trace", re.fullmatch("Root=1-2;Parent=3;Lineage=1:[0-9a-f]{16}:0", trace) is not None, True)
-    trace = Got(up, parts=["trace"]).body.decode()
-    check("a trace of its own", re.fullmatch("Root=1-[0-9a-f]{8}-[0-9a-f]{24};Sampled=0;Lineage=1:[0-9a-f]{16}:0",
-                                             trace) is not None, True)
-    check("one after all that", Got(up, parts=["a", "b"]).seen, (200, b"ab", True))
-    check("it ends", up.end(), (0, []))
-
-
 def in_flight(up):
     return json.loads(up.get("/_local/stats"))["inFlight"]
-
-
-def large():
-    up = started(timeout=20)
-    got = Got(up, parts=["x"] * 60, times=100_000)
-    check("six million bytes", (got.status, len(got.body), got.is_whole), (200, 6_000_000, True))
-    got = Got(up, parts=["x"] * 70, times=100_000)
-    check("what is longer than Lambda's 6 MiB breaks off", (got.status, got.is_whole), (200, False))
-    check("an invocation after that", Got(up, parts=["a"]).seen, (200, b"a", True))
-    peer = socket.socket()
-    peer.setsockopt(socket.SOL_SOCKET, socket.SO_RCVBUF, 4096)  # (otherwise the system takes all of it)
-    peer.connect(("127.0.0.1", up.url))
-    peer.sendall(f"GET /?event={quoted({'parts': ['x'] * 60, 'times': 100_000})} HTTP/1.1\r\nHost: a\r\n\r\n".encode())
-    check("a caller that does not read gets the head", peer.recv(12), b"HTTP/1.1 200")
-    time.sleep(1)
-    check("the function waits for it", in_flight(up), 1)
-    peer.close()
-    check("until it goes", until(lambda: in_flight(up) == 0, 20), True)
-    check("and the service has all of it", len(outputs(up)[-1]), 6_000_000)
-    check("an invocation after that", Got(up, parts=["b"]).seen, (200, b"b", True))
-    check("it ends", up.end(), (0, []))
-
-
-def several():
-    """Callers at the same time get each their own."""
-    up = started(environments=4)
-    found = {}
-
-    def call(number):
-        found[number] = Got(up, parts=[str(number)] * 5, pause=0.1).seen
-    threads = [threading.Thread(target=call, args=(number, )) for number in range(4)]
-    for thread in threads:
-        thread.start()
-    for thread in threads:
-        thread.join()
-    check("four callers", found, {number: (200, str(number).encode() * 5, True) for number in range(4)})
-    check("it ends", up.end(), (0, []))
-
-
-# ---- InvokeWithResponseStream ----------------------------------------------------------------------------------------
 
 
 def messages(data):
@@ -218,104 +128,6 @@ def ask(up, event, path="/2021-11-15/functions/f/response-streaming-invocations"
     return answer.status, answer.headers, answer.read()
 
 
-def framing():
-    check("a checksum of AWS's test suite", f"{zlib.crc32(bytes.fromhex('0000001000000000')):08x}", "05c248eb")
-    check("messages", messages(frames.payload_chunk(b"\0a") + frames.invoke_complete("E", "why")),
-          [("PayloadChunk", b"\0a"), ("InvokeComplete", b'{"ErrorCode": "E", "ErrorDetails": "why"}')])
-    try:
-        from botocore.eventstream import EventStreamBuffer
-    except ImportError:
-        print("note botocore is not here")
-        return
-    buffer = EventStreamBuffer()
-    buffer.add_data(frames.payload_chunk(b"data") + frames.invoke_complete())
-    check("botocore reads them", [(event.headers[":event-type"], event.headers[":content-type"], event.payload)
-                                  for event in buffer],
-          [("PayloadChunk", "application/octet-stream", b"data"), ("InvokeComplete", "application/json", b"{}")])
-
-
-def by_operation():
-    up = started(timeout=1)
-    status, headers, body = ask(up, {"parts": ["one", "two"], "pause": 0.2})
-    check("its answer", (status, headers["Content-Type"], headers["X-Amz-Executed-Version"]),
-          (200, "application/vnd.amazon.eventstream", "$LATEST"))
-    found = messages(body)
-    check("its messages", (b"".join(data for kind, data in found if kind == "PayloadChunk"), found[-1]),
-          (b"onetwo", ("InvokeComplete", b"{}")))
-    check("its identifier is the history's", f"deliver {headers['x-amzn-requestid']}" in up.history(), True)
-    check("a result that is not streamed", messages(ask(up, {"buffered": [1]})[2]),
-          [("PayloadChunk", b"[1]"), ("InvokeComplete", b"{}")])
-
-    def complete(event):
-        kind, data = messages(ask(up, event)[2])[-1]
-        return kind, json.loads(data).get("ErrorCode"), json.loads(data).get("ErrorDetails")
-    check("an error before its first byte", complete({"error": 1}),
-          ("InvokeComplete", "Bad", '{"errorType":"Bad","errorMessage":"early"}'))
-    check("an error after it", complete({"parts": ["x"], "ends": "fail"}),
-          ("InvokeComplete", "Runtime.Late", '{"errorType":"Late"}'))
-    check("a timeout", complete({"parts": ["x"], "ends": "hang"})[:2], ("InvokeComplete", "Function.Timeout"))
-    check("an exit", complete({"parts": ["x"], "ends": "exit"})[:2], ("InvokeComplete", "Runtime.ExitError"))
-    check("an unknown function", ask(up, {}, "/2021-11-15/functions/g/response-streaming-invocations")[0], 404)
-    check("a qualifier", ask(up, {}, "/2021-11-15/functions/f/response-streaming-invocations?Qualifier=prod")[0], 404)
-    check("a payload that is not JSON", ask(up, b"{")[0], 400)
-    check("a payload that is too long", ask(up, b"1" * ((6 << 20) + 1))[0], 413)
-    check("a dry run", ask(up, {}, headers={"X-Amz-Invocation-Type": "DryRun"})[0], 204)
-    check("another type", ask(up, {}, headers={"X-Amz-Invocation-Type": "Event"})[0], 400)
-    status, _, body = ask(up, b"", "/2015-03-31/functions/f/invocations", {"X-Amz-Log-Type": "None"})
-    check("an Invoke of such a function has the whole", (status, body), (200, b""))
-    got = json.loads(up.get("/2021-10-31/functions/f/url"))
-    check("its URL's configuration", got["InvokeMode"], "RESPONSE_STREAM")
-    check("it ends", up.end(), (0, []))
-
-
-def without_proxy():
-    """A function without a streaming URL gives one piece."""
-    up = Up(functions=[{"name": "f", "command": ["./streaming"], "timeout": 5}], files={"streaming": STREAMING})
-    check("it is ready", up.until("[up] ready"), True)
-    check("its messages", messages(ask(up, {"parts": ["one", "two"], "pause": 0.1})[2]),
-          [("PayloadChunk", b"onetwo"), ("InvokeComplete", b"{}")])
-    check("it ends", up.end(), (0, []))
-
-
-def by_boto3():
-    try:
-        import boto3
-        from botocore.config import Config
-    except ImportError:
-        print("note boto3 is not here")
-        return
-    up = started()
-    client = boto3.client("lambda", endpoint_url=up.endpoint, region_name="us-east-1", aws_access_key_id="x",
-                          aws_secret_access_key="x", config=Config(retries={"max_attempts": 0}, proxies={}))
-    if not hasattr(client, "invoke_with_response_stream"):
-        print("note this boto3 has no invoke_with_response_stream")
-    else:
-        stream = client.invoke_with_response_stream(FunctionName="f", Payload=json.dumps(
-            {"parts": ["one", "two"], "pause": 0.3}))["EventStream"]
-        found = list(stream)
-        check("boto3 reads the stream", (b"".join(each["PayloadChunk"]["Payload"] for each in found[:-1]), found[-1]),
-              (b"onetwo", {"InvokeComplete": {}}))
-        check("in pieces", len(found), 3)
-    check("it ends", up.end(), (0, []))
-
-
-def with_telemetry():
-    settings = {**function({"x": probe()}), "url": {"invoke": "RESPONSE_STREAM"}}
-    del settings["runtime"], settings["handler"]
-    up = Up(functions=[{**settings, "command": ["./streaming"]}], files={"probe": PROBE, "streaming": STREAMING})
-    check("it is ready", up.until("[up] ready"), True)
-    ask(up, {"parts": ["12345"] * 2, "pause": 0.2})
-    ask(up, {"parts": ["1"], "ends": "fail"})
-    until(lambda: sum(event["type"] == "platform.report" for event in events(up)) == 2, 10)
-    done = [event["record"] for event in events(up) if event["type"] == "platform.runtimeDone"]
-    check("telemetry has its bytes, status and type", [(each["metrics"]["producedBytes"], each["status"],
-                                                        each.get("errorType")) for each in done],
-          [(10, "success", None), (1, "error", "Runtime.Late")])
-    spans = {span["name"]: span["durationMs"] for span in done[0]["spans"]}
-    check("and how long it took", spans["responseDuration"] > 300 > spans["responseLatency"], True)
-    check("it ends", up.end(), (0, []))
-
-
 NODE = '''const wait = (ms) => new Promise((resolve) => setTimeout(resolve, ms));
 export const run = awslambda.streamifyResponse(async (event, stream, context) => {
   const asked = event.queryStringParameters ? JSON.parse(event.queryStringParameters.event) : event;
@@ -335,38 +147,214 @@ export const run = awslambda.streamifyResponse(async (event, stream, context) =>
 '''
 
 
-def by_node():
-    if not shutil.which("node"):
-        print("note node is not here")
-        return
-    up = Up(functions=[{"name": "f", "runtime": "node", "handler": "app.run", "timeout": 10,
-                        "url": {"invoke": "RESPONSE_STREAM"}}], files={"app.mjs": NODE})
-    check("it is ready", up.until("[up] ready"), True)
-    up.url = int(re.search(r"its URL is http://127\.0\.0\.1:(\d+)/", "\n".join(up.lines))[1])
-    got = Got(up)
-    check("a streaming handler", (got.seen, got.headers["Content-Type"]), ((200, b"one,f", True), "text/plain"))
-    check("its parts come as they are written", got.moments[-1] - got.moments[0] > 0.2, True)
-    got = Got(up, do="http")
-    check("with a prelude", (got.seen, got.headers["X-A"], got.headers["Set-Cookie"]),
-          ((201, b"one,f", True), "b", "c=d"))
-    got = Got(up, do="large")
-    check("with backpressure", (len(got.body), got.is_whole), (4_000_005, True))
-    check("an error before its first byte", Got(up, do="early").status, 502)
-    check("one after it", Got(up, do="late").seen, (200, b"one,", False))
-    kind, data = messages(ask(up, {"do": "late"})[2])[-1]
-    check("by its operation", (kind, json.loads(data)["ErrorCode"], json.loads(json.loads(data)["ErrorDetails"])[
-        "errorMessage"]), ("InvokeComplete", "Runtime.TypeError", "late"))
-    check("it ends", up.end(), (0, []))
+class Streaming(Case):
+    def started(self, url={"invoke": "RESPONSE_STREAM"}, **members):
+        up = Up(functions=[{"name": "f", "command": ["./streaming"], "timeout": 5, "url": url, **members}],
+                files={"streaming": STREAMING})
+        self.check("it is ready", up.until("[up] ready"), True)
+        up.url = int(re.search(r"its URL is http://127\.0\.0\.1:(\d+)/", "\n".join(up.lines))[1])
+        return up
 
+    def test_by_url(self):
+        up = self.started()
+        got = Got(up, parts=["one", "two", "three"], pause=0.5, type="text/plain")
+        self.check("a streamed response", got.seen, (200, b"onetwothree", True))
+        self.check("its type", got.headers["Content-Type"], "text/plain")
+        self.check("its parts come as they are sent", got.moments[-1] - got.moments[0] > 0.6, True)
+        self.check("the history has the whole of it", outputs(up), ["onetwothree"])
+        self.check("a response without a type", Got(up, parts=["x"]).headers["Content-Type"],
+                   "application/octet-stream")
+        prelude = json.dumps({"statusCode": 202, "headers": {"X-A": "b", "Content-Type": "text/css"},
+                              "cookies": ["c=d"]})
+        kind = "application/vnd.awslambda.http-integration-response"
+        for parts in ([prelude, "=" + "00" * 8, "body"], [prelude + "\0" * 8 + "body"],
+                      [*(f"={ord(letter):02x}" for letter in prelude), "=00000000", "=00000000", "bo", "dy"]):
+            got = Got(up, parts=parts, type=kind)
+            self.check(f"a prelude in {len(parts)} parts", (got.seen, got.headers["X-A"], got.headers["Content-Type"],
+                                                            got.headers["Set-Cookie"]),
+                       ((202, b"body", True), "b", "text/css", "c=d"))
+        for name, parts in {"no JSON": ["x", "=" + "00" * 8], "no end": ["{}"], "a list": ["[]", "=" + "00" * 8],
+                            "a wrong status": ['{"statusCode":99}', "=" + "00" * 8],
+                            "a wrong header": ['{"headers":{"a":"b\\nc: d"}}', "=" + "00" * 8]}.items():
+            self.check(f"a prelude with {name}", Got(up, parts=parts, type=kind).seen, (502, b"Internal Server Error",
+                                                                                        True))
+        self.check("a prelude of more than 64 KiB", Got(up, parts=["a" * 1000], times=70, type=kind).status, 502)
+        self.check("an empty response", Got(up, parts=[]).seen, (200, b"", True))
+        self.check("one that is not streamed stays as it is", Got(up, buffered={"statusCode": 201, "body": "x"}).seen,
+                   (200, b'{"statusCode": 201, "body": "x"}', True))
+        self.check("an error before its first byte", Got(up, error=1).seen, (502, b"Internal Server Error", True))
+        self.check("an error after it breaks off", Got(up, parts=["some"], ends="fail").seen, (200, b"some", False))
+        self.check("a timeout breaks off", Got(up, parts=["some"], ends="hang").seen, (200, b"some", False))
+        self.check("an exit breaks off", Got(up, parts=["some"], ends="exit").seen, (200, b"some", False))
+        trace = Got(up, {"X-Amzn-Trace-Id": "Root=1-2;Parent=3"}, parts=["trace"]).body.decode()
+        self.check("the caller's trace", re.fullmatch("Root=1-2;Parent=3;Lineage=1:[0-9a-f]{16}:0", trace) is not None,
+                   True)
+        trace = Got(up, parts=["trace"]).body.decode()
+        self.check("a trace of its own",
+                   re.fullmatch("Root=1-[0-9a-f]{8}-[0-9a-f]{24};Sampled=0;Lineage=1:[0-9a-f]{16}:0",
+                                                      trace) is not None, True)
+        self.check("one after all that", Got(up, parts=["a", "b"]).seen, (200, b"ab", True))
+        self.check("it ends", up.end(), (0, []))
 
-def mistakes():
-    up = Up(functions=[{"name": "f", "command": "true", "url": {"invoke": "STREAM"}}])
-    status, _ = up.end(None)
-    check("another mode is refused", (status, up.lines),
-          (2, ['up: up.json: function f: url: invoke must be "BUFFERED" or "RESPONSE_STREAM", not "STREAM"']))
+    def test_large(self):
+        up = self.started(timeout=20)
+        got = Got(up, parts=["x"] * 60, times=100_000)
+        self.check("six million bytes", (got.status, len(got.body), got.is_whole), (200, 6_000_000, True))
+        got = Got(up, parts=["x"] * 70, times=100_000)
+        self.check("what is longer than Lambda's 6 MiB breaks off", (got.status, got.is_whole), (200, False))
+        self.check("an invocation after that", Got(up, parts=["a"]).seen, (200, b"a", True))
+        peer = socket.socket()
+        peer.setsockopt(socket.SOL_SOCKET, socket.SO_RCVBUF, 4096)  # (otherwise the system takes all of it)
+        peer.connect(("127.0.0.1", up.url))
+        event = quoted({"parts": ["x"] * 60, "times": 100_000})
+        peer.sendall(f"GET /?event={event} HTTP/1.1\r\nHost: a\r\n\r\n".encode())
+        self.check("a caller that does not read gets the head", peer.recv(12), b"HTTP/1.1 200")
+        time.sleep(1)
+        self.check("the function waits for it", in_flight(up), 1)
+        peer.close()
+        self.check("until it goes", until(lambda: in_flight(up) == 0, 20), True)
+        self.check("and the service has all of it", len(outputs(up)[-1]), 6_000_000)
+        self.check("an invocation after that", Got(up, parts=["b"]).seen, (200, b"b", True))
+        self.check("it ends", up.end(), (0, []))
 
+    def test_several(self):
+        """Callers at the same time get each their own."""
+        up = self.started(environments=4)
+        found = {}
 
-if __name__ == "__main__":
-    PARTS = [framing, by_url, large, several, by_operation, without_proxy, by_boto3, with_telemetry, by_node, mistakes]
-    NAMED = [part for part in PARTS if part.__name__ in sys.argv[1:]]
-    sys.exit(counted.run(*(NAMED or PARTS)))
+        def call(number):
+            found[number] = Got(up, parts=[str(number)] * 5, pause=0.1).seen
+        threads = [threading.Thread(target=call, args=(number, )) for number in range(4)]
+        for thread in threads:
+            thread.start()
+        for thread in threads:
+            thread.join()
+        self.check("four callers", found, {number: (200, str(number).encode() * 5, True) for number in range(4)})
+        self.check("it ends", up.end(), (0, []))
+
+    def test_framing(self):
+        self.check("a checksum of AWS's test suite", f"{zlib.crc32(bytes.fromhex('0000001000000000')):08x}", "05c248eb")
+        self.check("messages", messages(frames.payload_chunk(b"\0a") + frames.invoke_complete("E", "why")),
+                   [("PayloadChunk", b"\0a"), ("InvokeComplete", b'{"ErrorCode": "E", "ErrorDetails": "why"}')])
+        try:
+            from botocore.eventstream import EventStreamBuffer
+        except ImportError:
+            print("note botocore is not here")
+            return
+        buffer = EventStreamBuffer()
+        buffer.add_data(frames.payload_chunk(b"data") + frames.invoke_complete())
+        self.check("botocore reads them", [(event.headers[":event-type"], event.headers[":content-type"], event.payload)
+                                           for event in buffer],
+                   [("PayloadChunk", "application/octet-stream", b"data"), ("InvokeComplete", "application/json",
+                                                                            b"{}")])
+
+    def test_by_operation(self):
+        up = self.started(timeout=1)
+        status, headers, body = ask(up, {"parts": ["one", "two"], "pause": 0.2})
+        self.check("its answer", (status, headers["Content-Type"], headers["X-Amz-Executed-Version"]),
+                   (200, "application/vnd.amazon.eventstream", "$LATEST"))
+        found = messages(body)
+        self.check("its messages", (b"".join(data for kind, data in found if kind == "PayloadChunk"), found[-1]),
+                   (b"onetwo", ("InvokeComplete", b"{}")))
+        self.check("its identifier is the history's", f"deliver {headers['x-amzn-requestid']}" in up.history(), True)
+        self.check("a result that is not streamed", messages(ask(up, {"buffered": [1]})[2]),
+                   [("PayloadChunk", b"[1]"), ("InvokeComplete", b"{}")])
+
+        def complete(event):
+            kind, data = messages(ask(up, event)[2])[-1]
+            return kind, json.loads(data).get("ErrorCode"), json.loads(data).get("ErrorDetails")
+        self.check("an error before its first byte", complete({"error": 1}),
+                   ("InvokeComplete", "Bad", '{"errorType":"Bad","errorMessage":"early"}'))
+        self.check("an error after it", complete({"parts": ["x"], "ends": "fail"}),
+                   ("InvokeComplete", "Runtime.Late", '{"errorType":"Late"}'))
+        self.check("a timeout", complete({"parts": ["x"], "ends": "hang"})[:2], ("InvokeComplete", "Function.Timeout"))
+        self.check("an exit", complete({"parts": ["x"], "ends": "exit"})[:2], ("InvokeComplete", "Runtime.ExitError"))
+        self.check("an unknown function", ask(up, {}, "/2021-11-15/functions/g/response-streaming-invocations")[0], 404)
+        self.check("a qualifier",
+                   ask(up, {}, "/2021-11-15/functions/f/response-streaming-invocations?Qualifier=prod")[0], 404)
+        self.check("a payload that is not JSON", ask(up, b"{")[0], 400)
+        self.check("a payload that is too long", ask(up, b"1" * ((6 << 20) + 1))[0], 413)
+        self.check("a dry run", ask(up, {}, headers={"X-Amz-Invocation-Type": "DryRun"})[0], 204)
+        self.check("another type", ask(up, {}, headers={"X-Amz-Invocation-Type": "Event"})[0], 400)
+        status, _, body = ask(up, b"", "/2015-03-31/functions/f/invocations", {"X-Amz-Log-Type": "None"})
+        self.check("an Invoke of such a function has the whole", (status, body), (200, b""))
+        got = json.loads(up.get("/2021-10-31/functions/f/url"))
+        self.check("its URL's configuration", got["InvokeMode"], "RESPONSE_STREAM")
+        self.check("it ends", up.end(), (0, []))
+
+    def test_without_proxy(self):
+        """A function without a streaming URL gives one piece."""
+        up = Up(functions=[{"name": "f", "command": ["./streaming"], "timeout": 5}], files={"streaming": STREAMING})
+        self.check("it is ready", up.until("[up] ready"), True)
+        self.check("its messages", messages(ask(up, {"parts": ["one", "two"], "pause": 0.1})[2]),
+                   [("PayloadChunk", b"onetwo"), ("InvokeComplete", b"{}")])
+        self.check("it ends", up.end(), (0, []))
+
+    def test_by_boto3(self):
+        try:
+            import boto3
+            from botocore.config import Config
+        except ImportError:
+            print("note boto3 is not here")
+            return
+        up = self.started()
+        client = boto3.client("lambda", endpoint_url=up.endpoint, region_name="us-east-1", aws_access_key_id="x",
+                              aws_secret_access_key="x", config=Config(retries={"max_attempts": 0}, proxies={}))
+        if not hasattr(client, "invoke_with_response_stream"):
+            print("note this boto3 has no invoke_with_response_stream")
+        else:
+            stream = client.invoke_with_response_stream(FunctionName="f", Payload=json.dumps(
+                {"parts": ["one", "two"], "pause": 0.3}))["EventStream"]
+            found = list(stream)
+            self.check("boto3 reads the stream", (b"".join(each["PayloadChunk"]["Payload"] for each in found[:-1]),
+                                                  found[-1]),
+                       (b"onetwo", {"InvokeComplete": {}}))
+            self.check("in pieces", len(found), 3)
+        self.check("it ends", up.end(), (0, []))
+
+    def test_with_telemetry(self):
+        settings = {**function({"x": probe()}), "url": {"invoke": "RESPONSE_STREAM"}}
+        del settings["runtime"], settings["handler"]
+        up = Up(functions=[{**settings, "command": ["./streaming"]}], files={"probe": PROBE, "streaming": STREAMING})
+        self.check("it is ready", up.until("[up] ready"), True)
+        ask(up, {"parts": ["12345"] * 2, "pause": 0.2})
+        ask(up, {"parts": ["1"], "ends": "fail"})
+        until(lambda: sum(event["type"] == "platform.report" for event in events(up)) == 2, 10)
+        done = [event["record"] for event in events(up) if event["type"] == "platform.runtimeDone"]
+        self.check("telemetry has its bytes, status and type", [(each["metrics"]["producedBytes"], each["status"],
+                                                                 each.get("errorType")) for each in done],
+                   [(10, "success", None), (1, "error", "Runtime.Late")])
+        spans = {span["name"]: span["durationMs"] for span in done[0]["spans"]}
+        self.check("and how long it took", spans["responseDuration"] > 300 > spans["responseLatency"], True)
+        self.check("it ends", up.end(), (0, []))
+
+    def test_by_node(self):
+        if not shutil.which("node"):
+            print("note node is not here")
+            return
+        up = Up(functions=[{"name": "f", "runtime": "node", "handler": "app.run", "timeout": 10,
+                            "url": {"invoke": "RESPONSE_STREAM"}}], files={"app.mjs": NODE})
+        self.check("it is ready", up.until("[up] ready"), True)
+        up.url = int(re.search(r"its URL is http://127\.0\.0\.1:(\d+)/", "\n".join(up.lines))[1])
+        got = Got(up)
+        self.check("a streaming handler", (got.seen, got.headers["Content-Type"]), ((200, b"one,f", True),
+                                                                                    "text/plain"))
+        self.check("its parts come as they are written", got.moments[-1] - got.moments[0] > 0.2, True)
+        got = Got(up, do="http")
+        self.check("with a prelude", (got.seen, got.headers["X-A"], got.headers["Set-Cookie"]),
+                   ((201, b"one,f", True), "b", "c=d"))
+        got = Got(up, do="large")
+        self.check("with backpressure", (len(got.body), got.is_whole), (4_000_005, True))
+        self.check("an error before its first byte", Got(up, do="early").status, 502)
+        self.check("one after it", Got(up, do="late").seen, (200, b"one,", False))
+        kind, data = messages(ask(up, {"do": "late"})[2])[-1]
+        self.check("by its operation", (kind, json.loads(data)["ErrorCode"],
+                                        json.loads(json.loads(data)["ErrorDetails"])[
+            "errorMessage"]), ("InvokeComplete", "Runtime.TypeError", "late"))
+        self.check("it ends", up.end(), (0, []))
+
+    def test_mistakes(self):
+        up = Up(functions=[{"name": "f", "command": "true", "url": {"invoke": "STREAM"}}])
+        status, _ = up.end(None)
+        self.check("another mode is refused", (status, up.lines),
+                   (2, ['up: up.json: function f: url: invoke must be "BUFFERED" or "RESPONSE_STREAM", not "STREAM"']))

@@ -1,33 +1,23 @@
-#!/usr/bin/env python3
 """Checks the Telemetry API and the Logs API of lambda_local up with real processes: extensions that subscribe over HTTP
 and TCP, receivers that are slow, away or wrong, and the history of the same calls. The program is LAMBDA_LOCAL_PROGRAM,
-else ./lambda_local. Ends with 'N passed, M failed'."""
+else ./lambda_local."""
 import http.client
 import json
 import os
 import re
-import sys
 import time
 
-ROOT = os.path.dirname(os.path.dirname(os.path.dirname(os.path.realpath(__file__))))
-sys.path[:0] = [os.path.join(ROOT, "tools"), os.path.join(ROOT, "tests", "library")]
-import counted  # noqa: E402
-from counted import check  # noqa: E402
-from lambda_local.history import entries_of  # noqa: E402
-from lambda_local.life import Ended, Life  # noqa: E402
-from telemetry_kit import (ALL, APP, LOGS, PROBE, TELEMETRY, events, function, noted, probe, subscription,  # noqa: E402
+from lambda_local.history import entries_of
+from lambda_local.life import Ended, Life
+from tests import ROOT
+from tests.library.cases import Case
+from tests.library.telemetry_kit import (APP, LOGS, PROBE, TELEMETRY, events, function, noted, probe, subscription,
                            types)
-from up_kit import Up, until  # noqa: E402
+from tests.library.up_kit import Up, until
 
 MADE_IN_INIT = 5  # initStart, telemetrySubscription, initRuntimeDone, extension, initReport
 MADE_BY_INVOCATION = 3  # start, runtimeDone, report
 INIT = ["initStart", "telemetrySubscription", "initRuntimeDone:success", "extension", "initReport:success"]
-
-
-def started(extensions, *options, app=APP, whole={}, **members):
-    up = Up(*options, functions=[function(extensions, **members)], files={"probe": PROBE}, app=app, whole=whole)
-    check("it is ready", up.until("[up] ready"), True)
-    return up
 
 
 def platform(found):
@@ -54,265 +44,12 @@ def in_turn(kinds):
 STATUSES = {"output": "success", "error": "error", "timeout": "timeout", "too-large-output": "error"}
 
 
-def as_in_history():
-    """Events over HTTP and over TCP are the same, and are what the history says."""
-    up = started({"x": probe(), "y": probe(protocol="TCP", body=subscription(schema="2025-01-29"))}, timeout=2)
-    check("an invocation", up.invoke(lines=["one", "two"])[0], 1)
-    check("one that fails", up.invoke(do="fail")[0], "KeyError")
-    check("one whose response is too large", up.invoke(do="large")[0], "Function.ResponseSizeTooLarge")
-    check("and one more", up.invoke(returns=[1, 2])[0], [1, 2])
-    until(lambda: types(platform(events(up)))[-1:] == ["report:success"] and len(platform(events(up))) >= 18, 10)
-    until(lambda: len(events(up, "y")) >= len(events(up)), 10)
-    over_http, over_tcp = events(up), events(up, "y")
-    # (with two extensions there are two of each of these events)
-    extra = {"telemetrySubscription", "extension"}
-    check("an Init, and four invocations", [kind for kind in types(platform(over_http)) if kind not in extra],
-          [kind for kind in INIT if kind not in extra] + [
-              "start", "runtimeDone:success", "report:success", "start", "runtimeDone:error", "report:error",
-              "start", "runtimeDone:error", "report:error", "start", "runtimeDone:success", "report:success"])
-    reports = [event["record"] for event in over_http if event["type"] == "platform.report"]
-    check("requests and ends are the history's", [(report["requestId"], report["status"]) for report in reports],
-          [(identifier, STATUSES[kind]) for identifier, kind in endings(up)])
-    check("the types of errors", [report.get("errorType") for report in reports],
-          [None, "Runtime.KeyError", "Function.ResponseSizeTooLarge", None])
-    check("the bytes of responses", [event["record"]["metrics"]["producedBytes"] for event in over_http
-                                     if event["type"] == "platform.runtimeDone"][::3], [1, 6])
-    lines = [event["record"] for event in over_http if event["type"] == "function"]
-    check("the function's lines", (lines[:3], "KeyError: 'x'" in lines),
-          (["one", "two", "Traceback (most recent call last):"], True))
-    check("TCP has the same events", sorted(map(json.dumps, platform(over_tcp))),
-          sorted(map(json.dumps, platform(over_http))))
-    batch = noted(up, "x", "batch")[0]
-    check("a batch is a POST of JSON to what was named", batch[:2] + batch[3:4],
-          ["POST", "/got?it", "application/json"])
-    check("with its Host", batch[2].startswith("sandbox.localdomain:"), True)
-    check("the answer to a subscription", noted(up, "x", "subscribed"), [[200, "application/json", '"OK"']])
-    check("times are in order", [event["time"] for event in over_http] == sorted(event["time"] for event in over_http),
-          True)
-    memory = reports[0]["metrics"]["maxMemoryUsedMB"]
-    check("the memory is that of a process", 5 < memory < 500, True)
-    check("it ends", up.end(), (0, []))
-
-
-def ends():
-    """Timeouts, exits and restarts."""
-    up = started({"x": probe(events=["INVOKE", "SHUTDOWN"])}, timeout=1)
-    check("an invocation", up.invoke()[0], 1)
-    check("a timeout", up.invoke(do="hang")[0], "Function.Timeout")
-    check("an exit", up.invoke(patience=20, do="exit")[0], "Runtime.ExitError")
-    check("an invocation after them", up.invoke(patience=20)[0], 1)
-    until(lambda: types(platform(events(up))).count("report:success") == 2, 10)
-    seen = in_turn(types(platform(events(up))))
-    invocation = ["start", "runtimeDone:success", "report:success"]
-    check("each generation has its Init", seen, INIT + invocation + ["start", "runtimeDone:timeout", "report:timeout"]
-          + INIT + ["start", "runtimeDone:failure", "report:failure"] + INIT + invocation)
-    failed = [event["record"] for event in events(up) if event["type"] == "platform.report"][2]
-    check("the exit's type", failed["errorType"], "Runtime.ExitError")
-    check("each invocation is told the extension", noted(up, "x", "next"),
-          ["INVOKE", "INVOKE", "SHUTDOWN", "INVOKE", "SHUTDOWN", "INVOKE"])
-    check("it ends", up.end(), (0, []))
-
-
-def failed_init():
-    app = 'import time\ntime.sleep(0.3)\nprint("in vain")\nimport missing_module\n'
-    up = Up(functions=[function({"x": probe()})], files={"probe": PROBE}, app=app)
-    check("the Init fails", up.until("Init failed Runtime.ImportModuleError", 60), True)
-    until(lambda: any(event["type"] == "platform.initReport" for event in events(up)), 10)
-    found = {event["type"]: event["record"] for event in events(up)}
-    check("its runtime's part", (found["platform.initRuntimeDone"]["status"],
-                                 found["platform.initRuntimeDone"].get("errorType")),
-          ("error", "Runtime.ImportModuleError"))
-    check("the whole of it", (found["platform.initReport"]["status"], found["platform.initReport"]["errorType"]),
-          ("error", "Runtime.ImportModuleError"))
-    lines = [event["record"] for event in events(up) if event["type"] == "function"]
-    check("what it printed", "in vain" in lines, True)
-    check("it ends", up.end(), (0, []))
-
-
-def logs_api():
-    up = started({"x": probe(LOGS, subscription(schema="2021-03-18")),
-                  "y": probe(LOGS, {"types": ["platform", "extension"]}, protocol="TCP")}, timeout=1)
-    check("an invocation", up.invoke(lines=["line"])[0], 1)
-    check("an exit", up.invoke(do="exit")[0], "Runtime.ExitError")
-    until(lambda: types(events(up)).count("report") >= 2 and types(events(up, "y")).count("report") >= 2, 10)
-    first = [kind for kind in types(platform(events(up))) if kind not in ("extension", "logsSubscription")][:9]
-    check("in the Logs API's words", first, ["start", "runtimeDone:success", "end", "report",
-                                             "start", "fault", "runtimeDone:failure", "end", "report"])
-    fault = next(event for event in events(up) if event["type"] == "platform.fault")
-    check("a fault", re.fullmatch(r"RequestId: \S{36} Process exited before completing request", fault["record"]) is not
-          None, True)
-    check("the first schema has no runtimeDone", [kind for kind in types(events(up, "y")) if "Done" in kind], [])
-    check("lines", [event["record"] for event in events(up) if event["type"] == "function"], ["line"])
-    report = next(event for event in events(up) if event["type"] == "platform.report")["record"]
-    check("the members of a report", (sorted(report), sorted(report["metrics"])),
-          (["metrics", "requestId"], ["billedDurationMs", "durationMs", "initDurationMs", "maxMemoryUsedMB",
-                                      "memorySizeMB"]))
-    check("it ends", up.end(), (0, []))
-
-
-def json_lines():
-    line = json.dumps({"level": "INFO", "message": "hi"})
-    up = started({"x": probe(), "y": probe(body=subscription(["function"], "2022-07-01"))},
-                 variables={"AWS_LAMBDA_LOG_FORMAT": "JSON"})
-    check("an invocation", up.invoke(lines=[line, "plain", "{broken"])[0], 1)
-    until(lambda: len([event for event in events(up) if event["type"] == "function"]) == 3, 10)
-    until(lambda: len(events(up, "y")) == 3, 10)
-    check("lines in JSON are objects", [event["record"] for event in events(up) if event["type"] == "function"],
-          [json.loads(line), "plain", "{broken"])
-    check("but for the first schema", [event["record"] for event in events(up, "y")], [line, "plain", "{broken"])
-    check("one that wants functions alone gets no more", {event["type"] for event in events(up, "y")}, {"function"})
-    check("it ends", up.end(), (0, []))
-
-
-def lines_of_extensions():
-    up = started({"x": probe(body=subscription(["extension"])), "y": {"events": ["INVOKE"], "prints": "I hear"}})
-    check("an invocation", up.invoke(lines=["of the function"])[0], 1)
-    until(lambda: events(up), 10)
-    check("an extension's lines", [(event["type"], event["record"]) for event in events(up)],
-          [("extension", "I hear INVOKE")])
-    check("it ends", up.end(), (0, []))
-
-
-def refusals():
-    right = json.dumps({**subscription(), "destination": {"protocol": "TCP", "port": 4242}})
-    up = started({"x": probe(early=[[TELEMETRY, right, {}]], late=[[TELEMETRY, right, {}], [LOGS, right, {}]],
-                             wrong=[[TELEMETRY, "{", {}], [TELEMETRY, 300_000, {}],
-                                    [TELEMETRY, right.replace("4242", "9001"), {}],
-                                    [LOGS, right.replace("2022-12-13", "2020-08-15"), {}],
-                                    [TELEMETRY, right, {"Origin": "https://example.com"}],
-                                    [TELEMETRY, right, {"Lambda-Extension-Identifier": "x"}],
-                                    ["/2022-07-01/other", right, {}]], events=["INVOKE", "SHUTDOWN"])})
-    check("an invocation", up.invoke()[0], 1)
-    until(lambda: len(noted(up, "x", "late")) == 2, 10)
-
-    def of(kind):
-        return [(status, json.loads(text)["errorType"]) for status, text in noted(up, "x", kind)]
-    check("before registration", of("early"), [(403, "Extension.UnknownIdentifier")])
-    check("wrong ones", of("wrong"),
-          [(400, "ValidationError"), (413, "RequestEntityTooLarge"), (400, "ValidationError"), (400, "ValidationError"),
-           (403, "AccessDenied"), (403, "Extension.UnknownIdentifier"), (404, "NotFound")])
-    check("after Init", of("late"), [(403, "Telemetry.SubscriptionClosed"), (403, "Logs.SubscriptionClosed")])
-    until(lambda: "report:success" in types(events(up)), 10)
-    check("the right one is served all the same", types(platform(events(up)))[-3:],
-          ["start", "runtimeDone:success", "report:success"])
-    check("it ends", up.end(), (0, []))
-
-
-# ---- receivers -------------------------------------------------------------------------------------------------------
-
-
-def bad_receivers():
-    """What they do costs no caller anything, and those that come to themselves lose nothing."""
-    wrongs = {"hangs": {"hangs": 1}, "garbage": {"garbage": 1}, "away": {"is_down": 600}}
-    up = started({name: probe(**settings) for name, settings in wrongs.items()}, timeout=5)
-    begun = time.monotonic()
-    check("30 invocations", [up.invoke(lines=[str(number)])[0] for number in range(30)], [1] * 30)
-    check("take no longer than without receivers", time.monotonic() - begun < 10, True)
-    check("what is not taken is told", (up.has("is not HTTP/1.1"), up.has("Connect call failed")), (True, True))
-    begun = time.monotonic()
-    status = up.end()
-    check("it ends, and in time", (status, time.monotonic() - begun < 8), ((0, []), True))
-    check("what was lost is told", [up.count(f"{name} did not take \\d+ events") for name in wrongs], [1, 1, 1])
-
-
-def mending_receivers():
-    wrongs = {"refuses": {"refuses": 4}, "late": {"is_down": 2}}
-    up = started({name: probe(**settings) for name, settings in wrongs.items()}, timeout=5)
-    check("30 invocations", [up.invoke(lines=[str(number)])[0] for number in range(30)], [1] * 30)
-    wanted = [str(number) for number in range(30)]
-    for name in wrongs:
-        until(lambda: types(events(up, name)).count("report:success") == 30, 30)
-        lines = [event["record"] for event in events(up, name) if event["type"] == "function"]
-        check(f"the one that {name} has each line once, in order", lines, wanted)
-        check(f"and each report ({name})", types(events(up, name)).count("report:success"), 30)
-    check("several refusals in a row are told once", up.count("is not taken: it answers 500"), 1)
-    check("it ends", up.end(), (0, []))
-    check("and nothing was lost", up.has("did not take"), False)
-
-
-def flush():
-    """What is buffered for half a minute comes before the shutdown."""
-    slow = subscription(timeoutMs=30_000)
-    up = started({"x": probe(body=slow), "y": probe(body=slow, protocol="TCP")})
-    check("an invocation", up.invoke(lines=["last"])[0], 1)
-    time.sleep(0.5)
-    check("nothing has come", (events(up), events(up, "y")), ([], []))
-    found = {}
-
-    def keep():
-        for name in "xy":
-            with open(os.path.join(up.at, f"{name}.jsonl")) as file:
-                found[name] = [json.loads(line) for line in file]
-    up.process.send_signal(15)
-    until(lambda: up.process.poll() is not None or keep(), 20)
-    up.end(None)
-    for name in "xy":
-        kinds = [kind for kind, _ in found.get(name, [])]
-        seen = [value["type"] for kind, value in found.get(name, []) if kind == "event"]
-        check(f"all of it comes ({name})", ("platform.report" in seen, "function" in seen), (True, True))
-        if "next" in kinds:
-            check(f"before the extension hears of its end ({name})", kinds.index("next") > max(
-                at for at, kind in enumerate(kinds) if kind == "event"), True)
-
-
-def ignored_shutdown():
-    """An extension that does not end, and a receiver that takes nothing: the end of tools/up is in order."""
-    up = started({"x": probe(ignores=True), "y": probe(hangs=1)})
-    check("an invocation", up.invoke(lines=["last"])[0], 1)
-    begun = time.monotonic()
-    status = up.end()
-    check("it ends, in time", (status, time.monotonic() - begun < 10), ((0, []), True))
-    check("and says nothing of its own faults", [line for line in up.lines if "front:" in line or "destroyed" in line],
-          [])
-
-
 def summed(up, name):
     """Events but for those that say what was dropped, and what these say."""
     found = events(up, name)
     notes = [event["record"] for event in found if event["type"] == "platform.logsDropped"]
     return len(found) - len(notes), sum(note["droppedRecords"] for note in notes), sum(
         note["droppedBytes"] for note in notes)
-
-
-def stalls():
-    """A load with receivers that stall: what came and what was dropped are all that was made."""
-    invocations, lines = 30, 2000
-    settings = {"x": probe(stalls="go", after=3), "y": probe(protocol="TCP", stalls="go", after=4000), "z": probe()}
-    up = started(settings, timeout=30)
-    begun = time.monotonic()
-    check("a load of invocations", {up.invoke(count=lines)[0] for _ in range(invocations)}, {1})
-    took = time.monotonic() - begun
-    up.write("go", "")
-    made = MADE_IN_INIT + 2 * 2 + invocations * (MADE_BY_INVOCATION + lines)  # (two more extensions)
-    for name in "xyz":
-        until(lambda: sum(summed(up, name)[:2]) >= made, 60)
-        came, dropped, size = summed(up, name)
-        check(f"{name}: {came} came, {dropped} were dropped, {made} were made", came + dropped, made)
-        check(f"{name}: bytes were dropped if events were", size > 0, dropped > 0)
-        records = [int(event["record"]) for event in events(up, name) if event["type"] == "function"]
-        steps = sum(1 for one, two in zip(records, records[1:]) if two <= one)
-        check(f"{name}: what came is in order", steps <= invocations, True)
-    check("events were dropped by the one over HTTP that stalls", summed(up, "x")[1] > 0, True)
-    print(f"     {invocations} invocations of {lines} lines took {took:.1f} s")
-    check("it ends", up.end(), (0, []))
-
-
-# ---- the proxy -------------------------------------------------------------------------------------------------------
-
-
-def beside_nothing():
-    """Without telemetry the processes have the environment's own port."""
-    app = "import os\ndef run(event): return os.environ['AWS_LAMBDA_RUNTIME_API']\n"
-    up = Up(functions=[{"name": "f", "runtime": "python", "handler": "app.run"}], app=app)
-    up.until("[up] ready")
-    port = json.loads(up.history().splitlines()[1])["functions"][0]["ports"][0]
-    check("without telemetry there is no proxy", up.invoke()[0], f"127.0.0.1:{port}")
-    check("it ends", up.end(), (0, []))
-    up = started({"x": probe()}, app=app)
-    port = json.loads(up.history().splitlines()[1])["functions"][0]["ports"][0]
-    seen = up.invoke()[0]
-    check("with it there is one", seen != f"127.0.0.1:{port}" and up.has(f"f/1: {seen}"), True)
-    check("it ends", up.end(), (0, []))
 
 
 LEAKING = '''import os, socket
@@ -326,57 +63,6 @@ def run(event):
 '''
 
 
-def many_connections():
-    up = started({"x": probe()}, app=LEAKING, timeout=20)
-    for sends in ("", "GET /2018-06-01/runtime/invocation/next HTTP/1.1\r\n", "PUT /2022-07-01/telemetry HT", "\0\xff"):
-        check(f"a process that leaks 100 connections, each with {sends[:12]!r}", isinstance(
-            up.invoke(leak=100, sends=sends)[0], int), True)
-    check("is served", up.invoke()[0], 400)
-    until(lambda: types(events(up)).count("report:success") == 5, 10)
-    check("its telemetry too", types(events(up)).count("report:success"), 5)
-    check("it ends", up.end(), (0, []))
-
-
-def passes_what_it_is():
-    """The answers to odd requests are those of the environment's own port."""
-    up = started({"x": probe()})
-    port = json.loads(up.history().splitlines()[1])["functions"][0]["ports"][0]
-    proxy = int(re.search(r"f/1: 127\.0\.0\.1:(\d+)", "\n".join(up.lines))[1])
-    for method, path, body, headers in (
-            ("GET", "/", None, {}), ("GET", "/2022-07-01/telemetry", None, {}), ("POST", TELEMETRY, "{}", {}),
-            ("DELETE", "/2018-06-01/runtime/invocation/next", None, {}), ("GET", "/x", None, {"Origin": "http://a"}),
-            ("POST", "/2018-06-01/runtime/invocation/x/response", "1", {}),
-            ("POST", "/2018-06-01/runtime/invocation/x/response", b"1" * (7 << 20), {}),
-            ("POST", "/2020-01-01/extension/register", "{}", {"Lambda-Extension-Name": "late"}),
-            ("GET", "/2020-01-01/extension/event/next", None, {"Host": "example.com"})):
-        seen = []
-        for each in (port, proxy):
-            connection = http.client.HTTPConnection("127.0.0.1", each, timeout=20)
-            try:
-                connection.request(method, path, body, headers)
-            except (BrokenPipeError, ConnectionResetError):
-                pass  # (it has been answered already)
-            answer = connection.getresponse()
-            seen.append((answer.status, answer.getheaders(), answer.read()))
-            connection.close()
-        check(f"{method} {path[:50]} {len(body or '')} has the service's answer", seen[1], seen[0])
-    check("it ends", up.end(), (0, []))
-
-
-def example():
-    """The extension of examples/, as its own words and docs/telemetry.md say."""
-    path = os.path.join(ROOT, "examples", "telemetry.py")
-    with open(path) as file:
-        members = json.loads(re.search(r'\{"functions".*?\}\]\}', file.read(), re.S)[0])["functions"][0]
-    up = Up(functions=[{**members, "handler": "app.run", "extensions": {"telemetry.py": path}}], app=APP)
-    check("it is ready", up.until("[up] ready"), True)
-    check("an invocation", up.invoke("greet", lines=["hello"])[0], 1)
-    for text in ("[greet/1 telemetry.py] platform.initStart {", "platform.start {", 'function "hello"',
-                 "platform.report {"):
-        check(f"the example prints {text}", up.until(text, 20), True)
-    check("it ends", up.end(), (0, []))
-
-
 MISTAKES = {
     "telemetry that is a text": ({"telemetry": "yes", "extensions": {"x": "true"}, "command": "true"},
                                  'telemetry must be true or false, not "yes"'),
@@ -388,16 +74,312 @@ MISTAKES = {
 }
 
 
-def mistakes():
-    for name, (members, wanted) in MISTAKES.items():
-        up = Up(functions=[{"name": "f", **members}])
-        status, _ = up.end(None)
-        check(f"{name} is refused", (status, up.lines), (2, [f"up: up.json: function f: {wanted}"]))
+class TelemetryLive(Case):
+    def started(self, extensions, *options, app=APP, whole={}, **members):
+        up = Up(*options, functions=[function(extensions, **members)], files={"probe": PROBE}, app=app, whole=whole)
+        self.check("it is ready", up.until("[up] ready"), True)
+        return up
 
+    def test_as_in_history(self):
+        """Events over HTTP and over TCP are the same, and are what the history says."""
+        up = self.started({"x": probe(), "y": probe(protocol="TCP", body=subscription(schema="2025-01-29"))}, timeout=2)
+        self.check("an invocation", up.invoke(lines=["one", "two"])[0], 1)
+        self.check("one that fails", up.invoke(do="fail")[0], "KeyError")
+        self.check("one whose response is too large", up.invoke(do="large")[0], "Function.ResponseSizeTooLarge")
+        self.check("and one more", up.invoke(returns=[1, 2])[0], [1, 2])
+        until(lambda: types(platform(events(up)))[-1:] == ["report:success"] and len(platform(events(up))) >= 18, 10)
+        until(lambda: len(events(up, "y")) >= len(events(up)), 10)
+        over_http, over_tcp = events(up), events(up, "y")
+        # (with two extensions there are two of each of these events)
+        extra = {"telemetrySubscription", "extension"}
+        self.check("an Init, and four invocations", [kind for kind in types(platform(over_http)) if kind not in extra],
+                   [kind for kind in INIT if kind not in extra] + [
+                       "start", "runtimeDone:success", "report:success", "start", "runtimeDone:error", "report:error",
+                       "start", "runtimeDone:error", "report:error", "start", "runtimeDone:success", "report:success"])
+        reports = [event["record"] for event in over_http if event["type"] == "platform.report"]
+        self.check("requests and ends are the history's", [(report["requestId"], report["status"])
+                                                           for report in reports],
+                   [(identifier, STATUSES[kind]) for identifier, kind in endings(up)])
+        self.check("the types of errors", [report.get("errorType") for report in reports],
+                   [None, "Runtime.KeyError", "Function.ResponseSizeTooLarge", None])
+        self.check("the bytes of responses", [event["record"]["metrics"]["producedBytes"] for event in over_http
+                                              if event["type"] == "platform.runtimeDone"][::3], [1, 6])
+        lines = [event["record"] for event in over_http if event["type"] == "function"]
+        self.check("the function's lines", (lines[:3], "KeyError: 'x'" in lines),
+                   (["one", "two", "Traceback (most recent call last):"], True))
+        self.check("TCP has the same events", sorted(map(json.dumps, platform(over_tcp))),
+                   sorted(map(json.dumps, platform(over_http))))
+        batch = noted(up, "x", "batch")[0]
+        self.check("a batch is a POST of JSON to what was named", batch[:2] + batch[3:4],
+                   ["POST", "/got?it", "application/json"])
+        self.check("with its Host", batch[2].startswith("sandbox.localdomain:"), True)
+        self.check("the answer to a subscription", noted(up, "x", "subscribed"), [[200, "application/json", '"OK"']])
+        self.check("times are in order", [event["time"] for event in over_http] == sorted(event["time"]
+                                                                                          for event in over_http),
+                   True)
+        memory = reports[0]["metrics"]["maxMemoryUsedMB"]
+        self.check("the memory is that of a process", 5 < memory < 500, True)
+        self.check("it ends", up.end(), (0, []))
 
-if __name__ == "__main__":
-    PARTS = [as_in_history, ends, failed_init, logs_api, json_lines, lines_of_extensions, refusals, bad_receivers,
-             mending_receivers, flush, ignored_shutdown, stalls, beside_nothing, many_connections, passes_what_it_is,
-             example, mistakes]
-    NAMED = [part for part in PARTS if part.__name__ in sys.argv[1:]]
-    sys.exit(counted.run(*(NAMED or PARTS)))
+    def test_ends(self):
+        """Timeouts, exits and restarts."""
+        up = self.started({"x": probe(events=["INVOKE", "SHUTDOWN"])}, timeout=1)
+        self.check("an invocation", up.invoke()[0], 1)
+        self.check("a timeout", up.invoke(do="hang")[0], "Function.Timeout")
+        self.check("an exit", up.invoke(patience=20, do="exit")[0], "Runtime.ExitError")
+        self.check("an invocation after them", up.invoke(patience=20)[0], 1)
+        until(lambda: types(platform(events(up))).count("report:success") == 2, 10)
+        seen = in_turn(types(platform(events(up))))
+        invocation = ["start", "runtimeDone:success", "report:success"]
+        self.check("each generation has its Init", seen, INIT + invocation + ["start", "runtimeDone:timeout",
+                                                                              "report:timeout"]
+                   + INIT + ["start", "runtimeDone:failure", "report:failure"] + INIT + invocation)
+        failed = [event["record"] for event in events(up) if event["type"] == "platform.report"][2]
+        self.check("the exit's type", failed["errorType"], "Runtime.ExitError")
+        self.check("each invocation is told the extension", noted(up, "x", "next"),
+                   ["INVOKE", "INVOKE", "SHUTDOWN", "INVOKE", "SHUTDOWN", "INVOKE"])
+        self.check("it ends", up.end(), (0, []))
+
+    def test_failed_init(self):
+        app = 'import time\ntime.sleep(0.3)\nprint("in vain")\nimport missing_module\n'
+        up = Up(functions=[function({"x": probe()})], files={"probe": PROBE}, app=app)
+        self.check("the Init fails", up.until("Init failed Runtime.ImportModuleError", 60), True)
+        until(lambda: any(event["type"] == "platform.initReport" for event in events(up)), 10)
+        found = {event["type"]: event["record"] for event in events(up)}
+        self.check("its runtime's part", (found["platform.initRuntimeDone"]["status"],
+                                          found["platform.initRuntimeDone"].get("errorType")),
+                   ("error", "Runtime.ImportModuleError"))
+        self.check("the whole of it", (found["platform.initReport"]["status"],
+                                       found["platform.initReport"]["errorType"]),
+                   ("error", "Runtime.ImportModuleError"))
+        lines = [event["record"] for event in events(up) if event["type"] == "function"]
+        self.check("what it printed", "in vain" in lines, True)
+        self.check("it ends", up.end(), (0, []))
+
+    def test_logs_api(self):
+        up = self.started({"x": probe(LOGS, subscription(schema="2021-03-18")),
+                           "y": probe(LOGS, {"types": ["platform", "extension"]}, protocol="TCP")}, timeout=1)
+        self.check("an invocation", up.invoke(lines=["line"])[0], 1)
+        self.check("an exit", up.invoke(do="exit")[0], "Runtime.ExitError")
+        until(lambda: types(events(up)).count("report") >= 2 and types(events(up, "y")).count("report") >= 2, 10)
+        first = [kind for kind in types(platform(events(up))) if kind not in ("extension", "logsSubscription")][:9]
+        self.check("in the Logs API's words", first, ["start", "runtimeDone:success", "end", "report",
+                                                      "start", "fault", "runtimeDone:failure", "end", "report"])
+        fault = next(event for event in events(up) if event["type"] == "platform.fault")
+        self.check("a fault", re.fullmatch(r"RequestId: \S{36} Process exited before completing request",
+                                           fault["record"]) is not
+                   None, True)
+        self.check("the first schema has no runtimeDone", [kind for kind in types(events(up, "y")) if "Done" in kind],
+                   [])
+        self.check("lines", [event["record"] for event in events(up) if event["type"] == "function"], ["line"])
+        report = next(event for event in events(up) if event["type"] == "platform.report")["record"]
+        self.check("the members of a report", (sorted(report), sorted(report["metrics"])),
+                   (["metrics", "requestId"], ["billedDurationMs", "durationMs", "initDurationMs", "maxMemoryUsedMB",
+                                               "memorySizeMB"]))
+        self.check("it ends", up.end(), (0, []))
+
+    def test_json_lines(self):
+        line = json.dumps({"level": "INFO", "message": "hi"})
+        up = self.started({"x": probe(), "y": probe(body=subscription(["function"], "2022-07-01"))},
+                          variables={"AWS_LAMBDA_LOG_FORMAT": "JSON"})
+        self.check("an invocation", up.invoke(lines=[line, "plain", "{broken"])[0], 1)
+        until(lambda: len([event for event in events(up) if event["type"] == "function"]) == 3, 10)
+        until(lambda: len(events(up, "y")) == 3, 10)
+        self.check("lines in JSON are objects", [event["record"] for event in events(up)
+                                                 if event["type"] == "function"],
+                   [json.loads(line), "plain", "{broken"])
+        self.check("but for the first schema", [event["record"] for event in events(up, "y")],
+                   [line, "plain", "{broken"])
+        self.check("one that wants functions alone gets no more", {event["type"] for event in events(up, "y")},
+                   {"function"})
+        self.check("it ends", up.end(), (0, []))
+
+    def test_lines_of_extensions(self):
+        up = self.started({"x": probe(body=subscription(["extension"])), "y": {"events": ["INVOKE"],
+                                                                               "prints": "I hear"}})
+        self.check("an invocation", up.invoke(lines=["of the function"])[0], 1)
+        until(lambda: events(up), 10)
+        self.check("an extension's lines", [(event["type"], event["record"]) for event in events(up)],
+                   [("extension", "I hear INVOKE")])
+        self.check("it ends", up.end(), (0, []))
+
+    def test_refusals(self):
+        right = json.dumps({**subscription(), "destination": {"protocol": "TCP", "port": 4242}})
+        up = self.started({"x": probe(early=[[TELEMETRY, right, {}]], late=[[TELEMETRY, right, {}], [LOGS, right, {}]],
+                                      wrong=[[TELEMETRY, "{", {}], [TELEMETRY, 300_000, {}],
+                                             [TELEMETRY, right.replace("4242", "9001"), {}],
+                                             [LOGS, right.replace("2022-12-13", "2020-08-15"), {}],
+                                             [TELEMETRY, right, {"Origin": "https://example.com"}],
+                                             [TELEMETRY, right, {"Lambda-Extension-Identifier": "x"}],
+                                             ["/2022-07-01/other", right, {}]], events=["INVOKE", "SHUTDOWN"])})
+        self.check("an invocation", up.invoke()[0], 1)
+        until(lambda: len(noted(up, "x", "late")) == 2, 10)
+
+        def of(kind):
+            return [(status, json.loads(text)["errorType"]) for status, text in noted(up, "x", kind)]
+        self.check("before registration", of("early"), [(403, "Extension.UnknownIdentifier")])
+        self.check("wrong ones", of("wrong"),
+                   [(400, "ValidationError"), (413, "RequestEntityTooLarge"), (400, "ValidationError"),
+                    (400, "ValidationError"),
+                    (403, "AccessDenied"), (403, "Extension.UnknownIdentifier"), (404, "NotFound")])
+        self.check("after Init", of("late"), [(403, "Telemetry.SubscriptionClosed"), (403, "Logs.SubscriptionClosed")])
+        until(lambda: "report:success" in types(events(up)), 10)
+        self.check("the right one is served all the same", types(platform(events(up)))[-3:],
+                   ["start", "runtimeDone:success", "report:success"])
+        self.check("it ends", up.end(), (0, []))
+
+    def test_bad_receivers(self):
+        """What they do costs no caller anything, and those that come to themselves lose nothing."""
+        wrongs = {"hangs": {"hangs": 1}, "garbage": {"garbage": 1}, "away": {"is_down": 600}}
+        up = self.started({name: probe(**settings) for name, settings in wrongs.items()}, timeout=5)
+        begun = time.monotonic()
+        self.check("30 invocations", [up.invoke(lines=[str(number)])[0] for number in range(30)], [1] * 30)
+        self.check("take no longer than without receivers", time.monotonic() - begun < 10, True)
+        self.check("what is not taken is told", (up.has("is not HTTP/1.1"), up.has("Connect call failed")),
+                   (True, True))
+        begun = time.monotonic()
+        status = up.end()
+        self.check("it ends, and in time", (status, time.monotonic() - begun < 8), ((0, []), True))
+        self.check("what was lost is told", [up.count(f"{name} did not take \\d+ events") for name in wrongs],
+                   [1, 1, 1])
+
+    def test_mending_receivers(self):
+        wrongs = {"refuses": {"refuses": 4}, "late": {"is_down": 2}}
+        up = self.started({name: probe(**settings) for name, settings in wrongs.items()}, timeout=5)
+        self.check("30 invocations", [up.invoke(lines=[str(number)])[0] for number in range(30)], [1] * 30)
+        wanted = [str(number) for number in range(30)]
+        for name in wrongs:
+            until(lambda: types(events(up, name)).count("report:success") == 30, 30)
+            lines = [event["record"] for event in events(up, name) if event["type"] == "function"]
+            self.check(f"the one that {name} has each line once, in order", lines, wanted)
+            self.check(f"and each report ({name})", types(events(up, name)).count("report:success"), 30)
+        self.check("several refusals in a row are told once", up.count("is not taken: it answers 500"), 1)
+        self.check("it ends", up.end(), (0, []))
+        self.check("and nothing was lost", up.has("did not take"), False)
+
+    def test_flush(self):
+        """What is buffered for half a minute comes before the shutdown."""
+        slow = subscription(timeoutMs=30_000)
+        up = self.started({"x": probe(body=slow), "y": probe(body=slow, protocol="TCP")})
+        self.check("an invocation", up.invoke(lines=["last"])[0], 1)
+        time.sleep(0.5)
+        self.check("nothing has come", (events(up), events(up, "y")), ([], []))
+        found = {}
+
+        def keep():
+            for name in "xy":
+                with open(os.path.join(up.at, f"{name}.jsonl")) as file:
+                    found[name] = [json.loads(line) for line in file]
+        up.process.send_signal(15)
+        until(lambda: up.process.poll() is not None or keep(), 20)
+        up.end(None)
+        for name in "xy":
+            kinds = [kind for kind, _ in found.get(name, [])]
+            seen = [value["type"] for kind, value in found.get(name, []) if kind == "event"]
+            self.check(f"all of it comes ({name})", ("platform.report" in seen, "function" in seen), (True, True))
+            if "next" in kinds:
+                self.check(f"before the extension hears of its end ({name})", kinds.index("next") > max(
+                    at for at, kind in enumerate(kinds) if kind == "event"), True)
+
+    def test_ignored_shutdown(self):
+        """An extension that does not end, and a receiver that takes nothing: the end of tools/up is in order."""
+        up = self.started({"x": probe(ignores=True), "y": probe(hangs=1)})
+        self.check("an invocation", up.invoke(lines=["last"])[0], 1)
+        begun = time.monotonic()
+        status = up.end()
+        self.check("it ends, in time", (status, time.monotonic() - begun < 10), ((0, []), True))
+        self.check("and says nothing of its own faults", [line for line in up.lines if "front:" in line
+                                                          or "destroyed" in line],
+                   [])
+
+    def test_stalls(self):
+        """A load with receivers that stall: what came and what was dropped are all that was made."""
+        invocations, lines = 30, 2000
+        settings = {"x": probe(stalls="go", after=3), "y": probe(protocol="TCP", stalls="go", after=4000), "z": probe()}
+        up = self.started(settings, timeout=30)
+        begun = time.monotonic()
+        self.check("a load of invocations", {up.invoke(count=lines)[0] for _ in range(invocations)}, {1})
+        took = time.monotonic() - begun
+        up.write("go", "")
+        made = MADE_IN_INIT + 2 * 2 + invocations * (MADE_BY_INVOCATION + lines)  # (two more extensions)
+        for name in "xyz":
+            until(lambda: sum(summed(up, name)[:2]) >= made, 60)
+            came, dropped, size = summed(up, name)
+            self.check(f"{name}: {came} came, {dropped} were dropped, {made} were made", came + dropped, made)
+            self.check(f"{name}: bytes were dropped if events were", size > 0, dropped > 0)
+            records = [int(event["record"]) for event in events(up, name) if event["type"] == "function"]
+            steps = sum(1 for one, two in zip(records, records[1:]) if two <= one)
+            self.check(f"{name}: what came is in order", steps <= invocations, True)
+        self.check("events were dropped by the one over HTTP that stalls", summed(up, "x")[1] > 0, True)
+        print(f"     {invocations} invocations of {lines} lines took {took:.1f} s")
+        self.check("it ends", up.end(), (0, []))
+
+    def test_beside_nothing(self):
+        """Without telemetry the processes have the environment's own port."""
+        app = "import os\ndef run(event): return os.environ['AWS_LAMBDA_RUNTIME_API']\n"
+        up = Up(functions=[{"name": "f", "runtime": "python", "handler": "app.run"}], app=app)
+        up.until("[up] ready")
+        port = json.loads(up.history().splitlines()[1])["functions"][0]["ports"][0]
+        self.check("without telemetry there is no proxy", up.invoke()[0], f"127.0.0.1:{port}")
+        self.check("it ends", up.end(), (0, []))
+        up = self.started({"x": probe()}, app=app)
+        port = json.loads(up.history().splitlines()[1])["functions"][0]["ports"][0]
+        seen = up.invoke()[0]
+        self.check("with it there is one", seen != f"127.0.0.1:{port}" and up.has(f"f/1: {seen}"), True)
+        self.check("it ends", up.end(), (0, []))
+
+    def test_many_connections(self):
+        up = self.started({"x": probe()}, app=LEAKING, timeout=20)
+        for sends in ("", "GET /2018-06-01/runtime/invocation/next HTTP/1.1\r\n", "PUT /2022-07-01/telemetry HT",
+                      "\0\xff"):
+            self.check(f"a process that leaks 100 connections, each with {sends[:12]!r}", isinstance(
+                up.invoke(leak=100, sends=sends)[0], int), True)
+        self.check("is served", up.invoke()[0], 400)
+        until(lambda: types(events(up)).count("report:success") == 5, 10)
+        self.check("its telemetry too", types(events(up)).count("report:success"), 5)
+        self.check("it ends", up.end(), (0, []))
+
+    def test_passes_what_it_is(self):
+        """The answers to odd requests are those of the environment's own port."""
+        up = self.started({"x": probe()})
+        port = json.loads(up.history().splitlines()[1])["functions"][0]["ports"][0]
+        proxy = int(re.search(r"f/1: 127\.0\.0\.1:(\d+)", "\n".join(up.lines))[1])
+        for method, path, body, headers in (
+                ("GET", "/", None, {}), ("GET", "/2022-07-01/telemetry", None, {}), ("POST", TELEMETRY, "{}", {}),
+                ("DELETE", "/2018-06-01/runtime/invocation/next", None, {}),
+                ("GET", "/x", None, {"Origin": "http://a"}),
+                ("POST", "/2018-06-01/runtime/invocation/x/response", "1", {}),
+                ("POST", "/2018-06-01/runtime/invocation/x/response", b"1" * (7 << 20), {}),
+                ("POST", "/2020-01-01/extension/register", "{}", {"Lambda-Extension-Name": "late"}),
+                ("GET", "/2020-01-01/extension/event/next", None, {"Host": "example.com"})):
+            seen = []
+            for each in (port, proxy):
+                connection = http.client.HTTPConnection("127.0.0.1", each, timeout=20)
+                try:
+                    connection.request(method, path, body, headers)
+                except (BrokenPipeError, ConnectionResetError):
+                    pass  # (it has been answered already)
+                answer = connection.getresponse()
+                seen.append((answer.status, answer.getheaders(), answer.read()))
+                connection.close()
+            self.check(f"{method} {path[:50]} {len(body or '')} has the service's answer", seen[1], seen[0])
+        self.check("it ends", up.end(), (0, []))
+
+    def test_example(self):
+        """The extension of examples/, as its own words and docs/telemetry.md say."""
+        path = os.path.join(ROOT, "examples", "telemetry.py")
+        with open(path) as file:
+            members = json.loads(re.search(r'\{"functions".*?\}\]\}', file.read(), re.S)[0])["functions"][0]
+        up = Up(functions=[{**members, "handler": "app.run", "extensions": {"telemetry.py": path}}], app=APP)
+        self.check("it is ready", up.until("[up] ready"), True)
+        self.check("an invocation", up.invoke("greet", lines=["hello"])[0], 1)
+        for text in ("[greet/1 telemetry.py] platform.initStart {", "platform.start {", 'function "hello"',
+                     "platform.report {"):
+            self.check(f"the example prints {text}", up.until(text, 20), True)
+        self.check("it ends", up.end(), (0, []))
+
+    def test_mistakes(self):
+        for name, (members, wanted) in MISTAKES.items():
+            up = Up(functions=[{"name": "f", **members}])
+            status, _ = up.end(None)
+            self.check(f"{name} is refused", (status, up.lines), (2, [f"up: up.json: function f: {wanted}"]))

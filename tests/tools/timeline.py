@@ -1,32 +1,16 @@
-#!/usr/bin/env python3
 """Checks what lambda_local timeline draws of the examples, of worked scripts and of random ones, and how much memory a
-million lines take. The program is LAMBDA_LOCAL_PROGRAM, else ./lambda_local. Ends with 'N passed, M failed'."""
+million lines take. The program is LAMBDA_LOCAL_PROGRAM, else ./lambda_local."""
 import glob
 import json
 import os
 import random
 import re
 import subprocess
-import sys
 import tempfile
 
-ROOT = os.path.dirname(os.path.dirname(os.path.dirname(os.path.realpath(__file__))))
-sys.path.insert(0, os.path.join(ROOT, "tests", "library"))
-# noqa: E402
-from timelines import ENVIRONMENT, NOWHERE, ONE, TOOL, WHOLE, calls_of, check, draw, events, phases, run, run_parts
+from tests import ROOT
 
-
-def examples():
-    for path in sorted(glob.glob(os.path.join(ROOT, "examples", "*.txt"))):
-        name = os.path.basename(path)
-        script = open(path).read()
-        trace = draw(name, script)
-        told = {event["args"]["call"]: event["args"]["answer"] for event in events(trace, "call")}
-        # an example's comments say what is answered
-        for ticket, word in re.findall(r"^# \d+ (\d+) ([a-z-]+)", script, re.MULTILINE):
-            check(f"{name}: call {ticket} is answered {word}", told.get(int(ticket), "").split(" ")[0] == word,
-                  told.get(int(ticket), ""))
-
+from tests.library.timelines import TimelineCase, ENVIRONMENT, NOWHERE, ONE, TOOL, WHOLE, calls_of, events, phases, run
 
 # Worked scripts: a name, the configuration, the calls, and what environment 1 goes through.
 ROWS = (
@@ -72,19 +56,6 @@ ROWS = (
 )
 
 
-def rows():
-    for name, configuration, calls, wanted in ROWS:
-        trace = draw(name, f"{configuration}\n{calls}\n" if calls else configuration)
-        # a phase that ends in the entry in which it began says nothing; the very first one may
-        went = [re.sub(r" \((\w+)\)", r":\1", phase) for phase in phases(trace, 1)]
-        wanted = wanted.replace("Starting Starting", "Starting").split()
-        check(f"{name}: the phases", went == wanted, " ".join(went))
-        resets = [event["name"].replace("reset: ", "Closing:") for event in events(trace, "reset")
-                  if event["pid"] == 11]
-        check(f"{name}: a reset for each Closing",
-              resets == [phase for phase in wanted if phase.startswith("Closing")], str(resets))
-
-
 def written(parts):
     """Returns the script in the parts of a case; nothing if there are parts of other kinds."""
     made = []
@@ -103,26 +74,6 @@ def written(parts):
         else:
             return None
     return "".join(made)
-
-
-def worked():
-    """Returns the cases of worked examples that are scripts, with the answers that their tables expect."""
-    drawn = 0
-    with tempfile.TemporaryDirectory() as folder:
-        wanted = os.path.join(folder, "answers")
-        for path in sorted(glob.glob(os.path.join(ROOT, "tables", "checks", "data", "scripts", "*.txt"))):
-            for case in re.split(r"^== ", open(path).read(), flags=re.M)[1:]:
-                name, *rest = re.split(r"^-- (.*)\n", case, flags=re.M)
-                *parts, (_, answers) = zip(rest[::2], rest[1::2])
-                script = written(parts)
-                answers = answers.removesuffix("\n\n") + "\n" if answers.endswith("\n\n") else answers
-                if (script and len(script) < 100_000
-                        and re.fullmatch(r"(\d+ \d+ [a-z-]+.*\n|refused JournalFull\n)*", answers)):
-                    drawn += 1
-                    with open(wanted, "w") as file:
-                        file.write(answers)
-                    draw(f"{os.path.basename(path)}, {name.strip()}", script, "--answers", wanted, "--limit", "100000")
-    check("worked examples are drawn", drawn > 20, str(drawn))
 
 
 def random_script(seed, count=250):
@@ -163,36 +114,6 @@ def random_script(seed, count=250):
     return "\n".join(lines) + "\n"
 
 
-def random_scripts():
-    """The expiries and phases that the tool finds are those that the program's answers show."""
-    for seed in range(40):
-        script = random_script(seed)
-        status, trace, said = run("--trace", script=script)
-        check(f"random script {seed}", status == 0, said)
-        if status:
-            continue
-        spans = events(trace, "call")
-        check(f"random script {seed}: a span a call", len(spans) + len(events(trace, "full")) == calls_of(script))
-        ends = lambda word: [span for span in spans if span["args"]["answer"].startswith(word)]
-        delivered = sorted((span["pid"], span["ts"] + span["dur"]) for span in ends("deliver"))
-        busy = sorted((phase["pid"], phase["ts"]) for phase in events(trace, "phase") if phase["name"] == "Busy")
-        check(f"random script {seed}: a Busy for each delivery", delivered == busy)
-        closings = [phase for phase in events(trace, "phase") if phase["name"].startswith("Closing")]
-        check(f"random script {seed}: the reasons that extensions were told", all(
-            any(closing["pid"] == span["pid"] and closing["name"].split("(")[1][:-1] in span["args"]["answer"]
-                and closing["ts"] <= span["ts"] + span["dur"] <= closing["ts"] + closing["dur"] for closing in closings)
-            for span in ends("shutdown")))
-
-
-def pictures():
-    """The pictures in docs are those that the tool draws of the examples."""
-    for path in sorted(glob.glob(os.path.join(ROOT, "docs", "pictures", "*.svg"))):
-        name = os.path.splitext(os.path.basename(path))[0]
-        status, picture, said = run("--svg", os.path.join(ROOT, "examples", name + ".txt"))
-        check(f"docs/pictures/{name}.svg", status == 0 and picture == open(path).read(),
-              said or "lambda_local timeline --svg draws another one")
-
-
 def history_lines(count):
     """Returns a history of this many lines; four invocations stay open at a time."""
     yield "form 2\n" + (WHOLE % 4294967296).replace("[9001]", "[9001,9002,9003,9004]") + "\n"
@@ -229,22 +150,95 @@ def measured(arguments, pieces, environment=ENVIRONMENT):
     return process.returncode, used.ru_maxrss / 1024, used.ru_utime + used.ru_stime
 
 
-def long_ones():
-    for form in ("text", "trace", "html"):
-        small = measured((f"--{form}", "-o", "/dev/null"), history_lines(50_000), NOWHERE)
-        large = measured((f"--{form}", "-o", "/dev/null"), history_lines(1_000_000), NOWHERE)
-        print(f"{form}: 50,000 lines {small[1]:.0f} MB, 1,000,000 lines {large[1]:.0f} MB in {large[2]:.0f} s of the "
-              f"processor")
-        check(f"a million lines as {form}", small[0] == large[0] == 0 and large[1] < 64 and large[1] < small[1] + 4,
-              f"{small[1]:.0f} and {large[1]:.0f} MB")
-    calls = [ONE.replace('"region"', '"maxEntries":4000000000,"region"') + "\n"]
-    calls += [f"{9 * i} next 1\n{9 * i + 1} invoke f - - ={i}\n{9 * i + 2} response 1 {i} =ok\n"
-              for i in range(1, 5001)]
-    status, memory, _ = measured(("--text", "-o", "/dev/null"), calls)
-    check("a script of 15,000 calls through the program", status == 0 and memory < 64,
-          f"status {status}, {memory:.0f} MB")
+class LongOnes(TimelineCase):
+    """(What a child is said to have taken is never less than what this process had: these come before the others.)"""
+
+    def test_long_ones(self):
+        for form in ("text", "trace", "html"):
+            small = measured((f"--{form}", "-o", "/dev/null"), history_lines(50_000), NOWHERE)
+            large = measured((f"--{form}", "-o", "/dev/null"), history_lines(1_000_000), NOWHERE)
+            print(f"{form}: 50,000 lines {small[1]:.0f} MB, 1,000,000 lines {large[1]:.0f} MB in {large[2]:.0f} s of "
+                  f"the processor")
+            self.check(f"a million lines as {form}", small[0] == large[0] == 0 and large[1] < 64
+                       and large[1] < small[1] + 4, shown=f"{small[1]:.0f} and {large[1]:.0f} MB")
+        calls = [ONE.replace('"region"', '"maxEntries":4000000000,"region"') + "\n"]
+        calls += [f"{9 * i} next 1\n{9 * i + 1} invoke f - - ={i}\n{9 * i + 2} response 1 {i} =ok\n"
+                  for i in range(1, 5001)]
+        status, memory, _ = measured(("--text", "-o", "/dev/null"), calls)
+        self.check("a script of 15,000 calls through the program", status == 0 and memory < 64,
+                   shown=f"status {status}, {memory:.0f} MB")
 
 
-if __name__ == "__main__":
-    # (what a child is said to have taken is never less than what this process had, so the long ones come first)
-    sys.exit(run_parts(long_ones, examples, rows, worked, random_scripts, pictures))
+class Timeline(TimelineCase):
+    def test_examples(self):
+        for path in sorted(glob.glob(os.path.join(ROOT, "examples", "*.txt"))):
+            name = os.path.basename(path)
+            script = open(path).read()
+            trace = self.draw(name, script)
+            told = {event["args"]["call"]: event["args"]["answer"] for event in events(trace, "call")}
+            # an example's comments say what is answered
+            for ticket, word in re.findall(r"^# \d+ (\d+) ([a-z-]+)", script, re.MULTILINE):
+                self.check(f"{name}: call {ticket} is answered {word}", told.get(int(ticket), "").split(" ")[0] == word,
+                           shown=told.get(int(ticket), ""))
+
+    def test_rows(self):
+        for name, configuration, calls, wanted in ROWS:
+            trace = self.draw(name, f"{configuration}\n{calls}\n" if calls else configuration)
+            # a phase that ends in the entry in which it began says nothing; the very first one may
+            went = [re.sub(r" \((\w+)\)", r":\1", phase) for phase in phases(trace, 1)]
+            wanted = wanted.replace("Starting Starting", "Starting").split()
+            self.check(f"{name}: the phases", went == wanted, shown=" ".join(went))
+            resets = [event["name"].replace("reset: ", "Closing:") for event in events(trace, "reset")
+                      if event["pid"] == 11]
+            self.check(f"{name}: a reset for each Closing",
+                       resets == [phase for phase in wanted if phase.startswith("Closing")], shown=str(resets))
+
+    def test_worked(self):
+        """Returns the cases of worked examples that are scripts, with the answers that their tables expect."""
+        drawn = 0
+        with tempfile.TemporaryDirectory() as folder:
+            wanted = os.path.join(folder, "answers")
+            for path in sorted(glob.glob(os.path.join(ROOT, "tables", "checks", "data", "scripts", "*.txt"))):
+                for case in re.split(r"^== ", open(path).read(), flags=re.M)[1:]:
+                    name, *rest = re.split(r"^-- (.*)\n", case, flags=re.M)
+                    *parts, (_, answers) = zip(rest[::2], rest[1::2])
+                    script = written(parts)
+                    answers = answers.removesuffix("\n\n") + "\n" if answers.endswith("\n\n") else answers
+                    if (script and len(script) < 100_000
+                            and re.fullmatch(r"(\d+ \d+ [a-z-]+.*\n|refused JournalFull\n)*", answers)):
+                        drawn += 1
+                        with open(wanted, "w") as file:
+                            file.write(answers)
+                        self.draw(f"{os.path.basename(path)}, {name.strip()}", script, "--answers", wanted, "--limit",
+                                  "100000")
+        self.check("worked examples are drawn", drawn > 20, shown=str(drawn))
+
+    def test_random_scripts(self):
+        """The expiries and phases that the tool finds are those that the program's answers show."""
+        for seed in range(40):
+            script = random_script(seed)
+            status, trace, said = run("--trace", script=script)
+            self.check(f"random script {seed}", status == 0, shown=said)
+            if status:
+                continue
+            spans = events(trace, "call")
+            self.check(f"random script {seed}: a span a call", len(spans)
+                       + len(events(trace, "full")) == calls_of(script))
+            ends = lambda word: [span for span in spans if span["args"]["answer"].startswith(word)]
+            delivered = sorted((span["pid"], span["ts"] + span["dur"]) for span in ends("deliver"))
+            busy = sorted((phase["pid"], phase["ts"]) for phase in events(trace, "phase") if phase["name"] == "Busy")
+            self.check(f"random script {seed}: a Busy for each delivery", delivered == busy)
+            closings = [phase for phase in events(trace, "phase") if phase["name"].startswith("Closing")]
+            self.check(f"random script {seed}: the reasons that extensions were told", all(
+                any(closing["pid"] == span["pid"] and closing["name"].split("(")[1][:-1] in span["args"]["answer"]
+                    and closing["ts"] <= span["ts"] + span["dur"] <= closing["ts"] + closing["dur"]
+                    for closing in closings)
+                for span in ends("shutdown")))
+
+    def test_pictures(self):
+        """The pictures in docs are those that the tool draws of the examples."""
+        for path in sorted(glob.glob(os.path.join(ROOT, "docs", "pictures", "*.svg"))):
+            name = os.path.splitext(os.path.basename(path))[0]
+            status, picture, said = run("--svg", os.path.join(ROOT, "examples", name + ".txt"))
+            self.check(f"docs/pictures/{name}.svg", status == 0 and picture == open(path).read(),
+                       shown=said or "lambda_local timeline --svg draws another one")

@@ -1,19 +1,14 @@
-#!/usr/bin/env python3
 """Checks what lambda_local timeline says of histories, also of edited and of cut ones, which part of them it shows, and
-the faults that it names. The program is LAMBDA_LOCAL_PROGRAM, else ./lambda_local. Ends with 'N passed, M failed'."""
+the faults that it names. The program is LAMBDA_LOCAL_PROGRAM, else ./lambda_local."""
 import os
 import re
 import subprocess
-import sys
 import tempfile
 import threading
 import xml.etree.ElementTree as ElementTree
 
-ROOT = os.path.dirname(os.path.dirname(os.path.dirname(os.path.realpath(__file__))))
-sys.path.insert(0, os.path.join(ROOT, "tests", "library"))
-from timelines import NOWHERE, ONE, PROGRAM, WHOLE, calls_of, check, events, run, run_parts  # noqa: E402
-from lambda_local.service import Service, ask  # noqa: E402
-
+from lambda_local.service import Service, ask
+from tests.library.timelines import TimelineCase, NOWHERE, ONE, PROGRAM, WHOLE, calls_of, events, run
 
 HISTORY = ("form 2\n" + WHOLE % 1000000
            + "\n0 next 1\n10 invoke f - - =1\n# 1 0 deliver 00000000-0000-8000-8001-000000000001 3010 =1\n"
@@ -22,180 +17,8 @@ HISTORY = ("form 2\n" + WHOLE % 1000000
            "accepted\n")
 
 
-def history():
-    """A history has its answers in it; it is drawn as its replay is."""
-    replayed = (ONE + "\n0 next 1\n10 invoke f - - =1\n5000 tick\n5000 next 1\n"
-                "5001 invoke f - - =2\n5002 response 1 2 =3\n")
-    text = HISTORY
-    for form in ("text", "trace", "svg"):
-        ours, theirs = run(f"--{form}", script=text, environment=NOWHERE), run(f"--{form}", script=replayed)
-        check(f"a history as its replay: {form}", ours == theirs and ours[0] == 0, ours[2] + theirs[2])
-    for cut in range(text.index("\n0 next") + 1, len(text)):
-        status, trace, said = run("--trace", script=text[:cut], environment=NOWHERE) if cut % 7 == 0 else (0, "{}", "")
-        if status:
-            check(f"a history that is cut after {cut} bytes", False, said)
-            break
-    else:
-        check("a history that is cut anywhere", True)
-    answers = subprocess.run([PROGRAM, "replay"], input=replayed.encode(), capture_output=True).stdout
-    with tempfile.TemporaryDirectory() as folder:
-        path = os.path.join(folder, "answers")
-        open(path, "wb").write(answers)
-        check("answers from a file",
-              run("--answers", path, script=replayed, environment=NOWHERE) == run(script=replayed))
-        open(path, "wb").write(answers.replace(b"2 1 timeout\n", b"2 9 timeout\n"))
-        status, _, said = run("--answers", path, script=replayed)
-        check("answers of another script", status == 3 and "answers call 9, which is not open" in said, said)
-        open(path, "wb").write(answers[: answers.index(b"3 3")])
-        status, _, said = run("--answers", path, script=replayed)
-        check("answers that are not whole", status == 3 and "has no answer there" in said, said)
-        open(path, "wb").write(answers + b"9 9 done\n")
-        status, _, said = run("--answers", path, script=replayed)
-        check("answers that go on", status == 3 and "is the answer of no call" in said, said)
-        open(path, "wb").write(b"hello\n")
-        status, _, said = run("--answers", path, script=replayed)
-        check("answers that are none", status == 2 and "this is not an answer: 'hello'" in said, said)
-
-
-def service():
-    """A running service's history: two functions, a timeout, a failure, a throttle; open at its end."""
-    made = Service({"account": "123456789012", "region": "us-east-2", "functions": [
-        {"name": "quick", "ports": [0]}, {"name": "slow", "ports": [0], "timeout": 1}]})
-    first, second = (function["ports"][0] for function in made.configuration["functions"])
-    runtime = "/2018-06-01/runtime/invocation/"
-
-    def serve():
-        for outcome in ("response", "error"):
-            _, headers, _ = ask(first, "GET", runtime + "next")
-            ask(first, "POST", f"{runtime}{headers['lambda-runtime-aws-request-id']}/{outcome}", b'"ok"')
-    try:
-        threads = [threading.Thread(target=serve), threading.Thread(target=ask, args=(second, "GET", runtime + "next"))]
-        for thread in threads:
-            thread.start()
-        for name in ("quick", "slow", "quick"):
-            ask(made.port, "POST", f"/2015-03-31/functions/{name}/invocations", b"{}")
-        for thread in threads:
-            thread.join()
-        text = made.history()
-    finally:
-        made.stop()
-    status, trace, said = run("--trace", script=text, environment=NOWHERE)
-    check("a service's history", status == 0, said)
-    check("a service's history: a span a call", len(events(trace, "call")) == calls_of(text))
-    names = [event["name"] for event in events(trace, "call") if event["name"].startswith("invoke")]
-    check("a service's history: the outcomes",
-          names == ["invoke quick: output", "invoke slow: timeout", "invoke quick: error"], str(names))
-    check("a service's history: the reset", [event["name"] for event in events(trace, "reset")] == ["reset: TIMEOUT"])
-    for form in ("text", "trace", "html"):
-        status, shown, said = run(f"--{form}", script=text)
-        shown = shown.replace(" Its replay gives the same answers.", " ")
-        check(f"a service's history as its replay: {form}",
-              (status, shown, said) == run(f"--{form}", "--script", script=text))
-    relative_axis(text)
-
-
-def relative_axis(text):
-    """In a history of the clock, seconds from the start and the clock's milliseconds choose the same."""
-    first = int(text.split("\n")[2].split(" ")[0])
-    for form in ("text", "trace", "svg"):
-        ours, theirs = (run(f"--{form}", "--from", "+1", script=text),
-                        run(f"--{form}", "--from", str(first + 1000), script=text))
-        check(f"a second after the start, as {form}",
-              ours == theirs and ours[0] == 0 and ours != run(f"--{form}", script=text), ours[2])
-    axis = re.findall(r'text-anchor="middle">([0-9.]+)<', run("--svg", "--from", "+1", script=text)[1])
-    check("the axis counts from the start of the history", axis and min(map(float, axis)) >= 1, str(axis[:3]))
-    check("both axes in one", run("--from", "+0", "--to", str(first), script=text)[0] == 0)
-    status, _, said = run("--from", "+1", "--to", str(first + 999), script=text)
-    check("an end before the beginning, on two axes", status == 2 and "--to is before --from" in said, said)
-
-
 def tree_of(page):
     return ElementTree.fromstring(page.replace("<!DOCTYPE html>\n", ""))
-
-
-def edited():
-    """If a history's replay answers otherwise, the page and the text say so, and where."""
-    without_expiry = HISTORY.replace("## 5000 expire 1\n# 2 1 timeout\n5000 tick\n# 3 3 done\n",
-                                     "5000 tick\n# 2 2 done\n")
-    without_expiry = without_expiry.replace("# 5 4", "# 4 3").replace("# 6 5", "# 5 4").replace("# 6 6", "# 5 5")
-    with tempfile.TemporaryDirectory() as folder:
-        path = os.path.join(folder, "history.txt")
-        for name, text, words in (
-            ("an answer", HISTORY.replace("# 6 5 output =3", "# 6 5 output =4"),
-             "line 14: the history has '6 5 output =4', and the replay answers '6 5 output =3'"),
-            ("a call", HISTORY.replace("5002 response 1 2 =3", "5002 response 1 2 =4"),
-             "line 14: the history has '6 5 output =3', and the replay answers '6 5 output =4'"),
-            ("an expiry that is left out", without_expiry,
-             "line 7: the history has '2 2 done', and the replay answers '2 1 timeout'"),
-            ("a configuration", HISTORY.replace('"timeout":3', '"timeout":4'), "and the replay answers '1 0 deliver"),
-            ("one that the program refuses", HISTORY.replace("us-east-2", "US"),
-             "ended with status 2: configuration: BadRegion"),
-        ):
-            open(path, "w").write(text)
-            for given in ((path,), ()):
-                told = f"{name}{'' if given else ', piped'}"
-                script = None if given else text
-                status, shown, said = run("--text", *given, script=script)
-                last = shown.splitlines()[-1]
-                check(f"edited: {told}: text", status == 0 and not said and words in last
-                      and last.startswith("This history differs from its replay: "), last + said)
-                status, page, said = run("--html", *given, script=script)
-                notes = [note for note in tree_of(page).iter("{http://www.w3.org/1999/xhtml}p")
-                         if note.get("class") == "differs"]
-                check(f"edited: {told}: page",
-                      status == 0 and len(notes) == 1 and words in notes[0].text and words in said, said)
-                status, _, said = run("--trace", *given, script=script)
-                check(f"edited: {told}: trace", status == 0 and words in said, said)
-    page, text = run("--html", script=HISTORY), run("--text", script=HISTORY)
-    check("a history as it is",
-          "Its replay gives the same answers." in page[1] and "differs" not in text[1] and page[2] == text[2] == "")
-    page = run("--html", script=HISTORY, environment=NOWHERE)[1]
-    check("no program to replay with", "Not compared with its replay, since no program is here." in page)
-    page, said = run("--html", script=HISTORY[:-1])[1:]
-    check("a history that is cut is not compared",
-          "since its last line is cut off" in page and "line 15 has no end" in said and "differs from" not in page,
-          said)
-
-
-def hidden():
-    """What lambda_local up does itself is shown on request alone."""
-    up = ONE.replace('"ports":[9001]', '"ports":[9001],"extensions":["lambda_local.up"]')
-    script = (up + "\n0 register 1 =lambda_local.up s -\n1 register 1 =other s -\n2 ext-next 1 1\n3 ext-next 1 2\n4 "
-              "next 1\n"
-              "5 invoke f - - =1\n6 response 1 1 =2\n7 next 1\n8 spindown 1\n9 ext-next 1 2\n9 ext-next 1 1\n")
-    for form in ("text", "html", "svg", "trace"):
-        status, shown, said = run(f"--{form}", script=script)
-        check(f"hidden: {form}", status == 0 and "lambda_local.up" not in shown and "other" in shown, said)
-        check(f"hidden: --all, {form}", "lambda_local.up" in run(f"--{form}", "--all", script=script)[1])
-    calls = lambda *more: len(events(run("--trace", *more, script=script)[1], "call"))
-    check("hidden: the calls", (calls(), calls("--all")) == (8, 11), f"{calls()} {calls('--all')}")
-    check("hidden calls do not count for --limit", calls("--limit", "8") == 8)
-
-
-def failed():
-    """Failed calls are listed on the page, each with a link to its place."""
-    script = (ONE.replace('"region"', '"maxEntries":13,"region"') + "\n0 next 1\n1 invoke f - - =1\n2 invoke f - - =2\n"
-              "3 failure 1 1 =<no>\n4 next 1\n5 invoke f - - =3\n6 response 1 9 =4\n4000 tick\n4001 invoke f - - "
-              "=5\n4002 tick\n")
-    page = run("--html", script=script)[1]
-    tree = tree_of(page)
-    links = [link for link in tree.iter("{http://www.w3.org/1999/xhtml}a")]
-    words = ["".join(link.itertext()) for link in links]
-    check("failed: what is listed", words == [
-        "2 ms: invoke f: throttled LocalEnvironmentLimitExceeded", "3 ms: invoke f: error <no>",
-        "6 ms: response to request 9: refused BadId", "4,000 ms: invoke f: timeout",
-        "4,002 ms: tick: the journal is full"], str(words))
-    places = {element.get("id"): element for element in tree.iter("{http://www.w3.org/2000/svg}g") if element.get("id")}
-    check("failed: each link leads to its call", sorted(link.get("href")[1:] for link in links) == sorted(places),
-          str(sorted(places)))
-    titles = [places[link.get("href")[1:]].find("{http://www.w3.org/2000/svg}title").text for link in links[:4]]
-    answers = [title.split("\n")[-2].split(" ")[0] for title in titles]
-    check("failed: its place is that of the call", answers == ["throttled", "error", "refused", "timeout"], str(titles))
-    order = [page.index(part) for part in ('class="legend"', "<h2>Failed", "<figure>", "<h2>Counts")]
-    check("failed: before the drawing, as the legend", order == sorted(order))
-    check("failed: none", "<h2>Failed" not in run("--html", script=ONE + "\n0 tick\n")[1])
-    said = run("--html", "--from", "7", script=script)[2]
-    check("failed: those that are left out are counted", "3 of them failed, the first at 2 ms" in said, said)
 
 
 # Faults: a name, the arguments, the input, the status, and what the message says.
@@ -248,97 +71,279 @@ FAULTS = (
 )
 
 
-def faults():
-    for name, arguments, script, wanted, words in FAULTS:
-        status, _, said = run(*arguments, script=script)
-        check(f"fault: {name}", status == wanted and words in said and "Traceback" not in said,
-              f"status {status}: {said}")
-    with tempfile.TemporaryDirectory() as folder:
-        path = os.path.join(folder, "page.html")
-        check("a page", run("-o", path, script=ONE + "\n0 tick\n")[0] == 0
-              and open(path).read().startswith("<!DOCTYPE html>"))
-        before = open(path).read()
-        check("a fault leaves the page as it was", run("-o", path, script=ONE + "\n0 tock\n")[0] == 2
-              and open(path).read() == before and os.listdir(folder) == ["page.html"])
-        for ending, beginning in ((".json", '{"displayTimeUnit"'), (".svg", "<svg "), (".txt", "      0 ms")):
-            path = os.path.join(folder, "other" + ending)
-            check(f"the form of {ending}",
-                  run("-o", path, script=ONE + "\n0 tick\n")[0] == 0 and open(path).read().startswith(beginning))
-    status, said, _ = run("--help")
-    check("--help", status == 0 and all(word in said for word in (
-        "--text", "--trace", "--html", "--svg", "--program", "--answers", "--script", "--limit", "--from", "--to",
-        "--all", "--live", "--scale", "-o FILE")))
+class TimelineHistory(TimelineCase):
+    def test_history(self):
+        """A history has its answers in it; it is drawn as its replay is."""
+        replayed = (ONE + "\n0 next 1\n10 invoke f - - =1\n5000 tick\n5000 next 1\n"
+                    "5001 invoke f - - =2\n5002 response 1 2 =3\n")
+        text = HISTORY
+        for form in ("text", "trace", "svg"):
+            ours, theirs = run(f"--{form}", script=text, environment=NOWHERE), run(f"--{form}", script=replayed)
+            self.check(f"a history as its replay: {form}", ours == theirs and ours[0] == 0, shown=ours[2] + theirs[2])
+        for cut in range(text.index("\n0 next") + 1, len(text)):
+            status, trace, said = run("--trace", script=text[:cut], environment=NOWHERE) if cut % 7 == 0 else (0, "{}",
+                                                                                                               "")
+            if status:
+                self.check(f"a history that is cut after {cut} bytes", False, shown=said)
+                break
+        else:
+            self.check("a history that is cut anywhere", True)
+        answers = subprocess.run([PROGRAM, "replay"], input=replayed.encode(), capture_output=True).stdout
+        with tempfile.TemporaryDirectory() as folder:
+            path = os.path.join(folder, "answers")
+            open(path, "wb").write(answers)
+            self.check("answers from a file",
+                       run("--answers", path, script=replayed, environment=NOWHERE) == run(script=replayed))
+            open(path, "wb").write(answers.replace(b"2 1 timeout\n", b"2 9 timeout\n"))
+            status, _, said = run("--answers", path, script=replayed)
+            self.check("answers of another script", status == 3 and "answers call 9, which is not open" in said,
+                       shown=said)
+            open(path, "wb").write(answers[: answers.index(b"3 3")])
+            status, _, said = run("--answers", path, script=replayed)
+            self.check("answers that are not whole", status == 3 and "has no answer there" in said, shown=said)
+            open(path, "wb").write(answers + b"9 9 done\n")
+            status, _, said = run("--answers", path, script=replayed)
+            self.check("answers that go on", status == 3 and "is the answer of no call" in said, shown=said)
+            open(path, "wb").write(b"hello\n")
+            status, _, said = run("--answers", path, script=replayed)
+            self.check("answers that are none", status == 2 and "this is not an answer: 'hello'" in said, shown=said)
 
+    def test_service(self):
+        """A running service's history: two functions, a timeout, a failure, a throttle; open at its end."""
+        made = Service({"account": "123456789012", "region": "us-east-2", "functions": [
+            {"name": "quick", "ports": [0]}, {"name": "slow", "ports": [0], "timeout": 1}]})
+        first, second = (function["ports"][0] for function in made.configuration["functions"])
+        runtime = "/2018-06-01/runtime/invocation/"
 
-def windows():
-    """What is left out is said, and the rest is drawn, in each form."""
-    script = ONE + "\n" + "".join(f"{10 * i} tick\n" for i in range(50))
-    shown = {"html": lambda page: page.count('<g class="call '), "svg": lambda page: page.count('<g class="call '),
-             "text": lambda text: text.count("tick, call"), "trace": lambda text: len(events(text, "call"))}
-    for arguments, drawn, words in (
-        (("--limit", "20"), 20, "Left out: 30 calls from 200 ms on"),
-        (("--from", "100"), 40, "Left out: 10 calls before 100 ms"),
-        (("--from", "+0.1"), 40, "Left out: 10 calls before 100 ms"),
-        (("--to", "100"), 11, "Left out: 39 calls from 110 ms on"),
-        (("--to", "+0.1"), 11, "Left out: 39 calls from 110 ms on"),
-        (("--from", "100", "--to", "200", "--limit", "5"), 5,
-         "Left out: 10 calls before 100 ms and 35 calls from 150 ms on"),
-        (("--scale", "time"), 50, ""),
-        (("--from", "9000"), 0, "Left out: 50 calls before 9,000 ms"),
-    ):
-        for form, count in shown.items():
-            status, page, said = run(f"--{form}", *arguments, script=script)
-            name = f"{' '.join(arguments)}, {form}"
-            check(f"{name}: {drawn} calls", status == 0 and count(page) == drawn, f"{count(page)} {said}")
-            check(f"{name}: what is left out",
-                  words in said and ("Left out" in page) == (bool(words) and form == "html"), said)
-            if form in ("html", "svg"):
-                try:
-                    ElementTree.fromstring(page.replace("<!DOCTYPE html>\n", ""))
-                except ElementTree.ParseError as fault:
-                    check(f"{name}: XML", False, str(fault))
-    many = ONE.replace('"region"', '"maxEntries":9999,"region"') + "\n" + "".join(f"{i} tick\n" for i in range(1100))
-    check("without --limit, 1,000 calls are drawn, and all are in the text and the trace",
-          [count(run(f"--{form}", script=many)[1]) for form, count in shown.items()] == [1000, 1000, 1100, 1100])
-    waits()
+        def serve():
+            for outcome in ("response", "error"):
+                _, headers, _ = ask(first, "GET", runtime + "next")
+                ask(first, "POST", f"{runtime}{headers['lambda-runtime-aws-request-id']}/{outcome}", b'"ok"')
+        try:
+            threads = [threading.Thread(target=serve), threading.Thread(target=ask,
+                                                                        args=(second, "GET", runtime + "next"))]
+            for thread in threads:
+                thread.start()
+            for name in ("quick", "slow", "quick"):
+                ask(made.port, "POST", f"/2015-03-31/functions/{name}/invocations", b"{}")
+            for thread in threads:
+                thread.join()
+            text = made.history()
+        finally:
+            made.stop()
+        status, trace, said = run("--trace", script=text, environment=NOWHERE)
+        self.check("a service's history", status == 0, shown=said)
+        self.check("a service's history: a span a call", len(events(trace, "call")) == calls_of(text))
+        names = [event["name"] for event in events(trace, "call") if event["name"].startswith("invoke")]
+        self.check("a service's history: the outcomes",
+                   names == ["invoke quick: output", "invoke slow: timeout", "invoke quick: error"], shown=str(names))
+        self.check("a service's history: the reset",
+                   [event["name"] for event in events(trace, "reset")] == ["reset: TIMEOUT"])
+        for form in ("text", "trace", "html"):
+            status, shown, said = run(f"--{form}", script=text)
+            shown = shown.replace(" Its replay gives the same answers.", " ")
+            self.check(f"a service's history as its replay: {form}",
+                       (status, shown, said) == run(f"--{form}", "--script", script=text))
+        self.relative_axis(text)
 
+    def relative_axis(self, text):
+        """In a history of the clock, seconds from the start and the clock's milliseconds choose the same."""
+        first = int(text.split("\n")[2].split(" ")[0])
+        for form in ("text", "trace", "svg"):
+            ours, theirs = (run(f"--{form}", "--from", "+1", script=text),
+                            run(f"--{form}", "--from", str(first + 1000), script=text))
+            self.check(f"a second after the start, as {form}",
+                       ours == theirs and ours[0] == 0 and ours != run(f"--{form}", script=text), shown=ours[2])
+        axis = re.findall(r'text-anchor="middle">([0-9.]+)<', run("--svg", "--from", "+1", script=text)[1])
+        self.check("the axis counts from the start of the history", axis and min(map(float, axis)) >= 1,
+                   shown=str(axis[:3]))
+        self.check("both axes in one", run("--from", "+0", "--to", str(first), script=text)[0] == 0)
+        status, _, said = run("--from", "+1", "--to", str(first + 999), script=text)
+        self.check("an end before the beginning, on two axes", status == 2 and "--to is before --from" in said,
+                   shown=said)
 
-def waits():
-    """Of what lasts, that of which a part lies in the window is drawn."""
-    script = ONE + "\n0 next 1\n" + "".join(f"{i} tick\n" for i in range(1, 50)) + "60 invoke f - - =1\n"
-    page = run("--html", "--from", "40", "--to", "45", script=script)[1]
-    check("a call that waits all through a window is drawn", page.count('<g class="call ') == 7)
-    trace = run("--trace", "--from", "40", "--to", "45", script=script)[1]
-    check("and is in the trace", [event["name"] for event in events(trace, "call")].count("next: deliver") == 1)
-    check("as is the phase", [event["name"] for event in events(trace, "phase")] == ["Idle"],
-          str(events(trace, "phase")))
-    cut_by_the_end()
-    text = run("--from", "60", script=script)[1]
-    check("the text has what happens in the window", "is answered after 60 ms: deliver" in text and "tick" not in text,
-          text)
+    def test_edited(self):
+        """If a history's replay answers otherwise, the page and the text say so, and where."""
+        without_expiry = HISTORY.replace("## 5000 expire 1\n# 2 1 timeout\n5000 tick\n# 3 3 done\n",
+                                         "5000 tick\n# 2 2 done\n")
+        without_expiry = without_expiry.replace("# 5 4", "# 4 3").replace("# 6 5", "# 5 4").replace("# 6 6", "# 5 5")
+        with tempfile.TemporaryDirectory() as folder:
+            path = os.path.join(folder, "history.txt")
+            for name, text, words in (
+                ("an answer", HISTORY.replace("# 6 5 output =3", "# 6 5 output =4"),
+                 "line 14: the history has '6 5 output =4', and the replay answers '6 5 output =3'"),
+                ("a call", HISTORY.replace("5002 response 1 2 =3", "5002 response 1 2 =4"),
+                 "line 14: the history has '6 5 output =3', and the replay answers '6 5 output =4'"),
+                ("an expiry that is left out", without_expiry,
+                 "line 7: the history has '2 2 done', and the replay answers '2 1 timeout'"),
+                ("a configuration", HISTORY.replace('"timeout":3', '"timeout":4'),
+                 "and the replay answers '1 0 deliver"),
+                ("one that the program refuses", HISTORY.replace("us-east-2", "US"),
+                 "ended with status 2: configuration: BadRegion"),
+            ):
+                open(path, "w").write(text)
+                for given in ((path,), ()):
+                    told = f"{name}{'' if given else ', piped'}"
+                    script = None if given else text
+                    status, shown, said = run("--text", *given, script=script)
+                    last = shown.splitlines()[-1]
+                    self.check(f"edited: {told}: text", status == 0 and not said and words in last
+                               and last.startswith("This history differs from its replay: "), shown=last + said)
+                    status, page, said = run("--html", *given, script=script)
+                    notes = [note for note in tree_of(page).iter("{http://www.w3.org/1999/xhtml}p")
+                             if note.get("class") == "differs"]
+                    self.check(f"edited: {told}: page",
+                               status == 0 and len(notes) == 1 and words in notes[0].text and words in said, shown=said)
+                    status, _, said = run("--trace", *given, script=script)
+                    self.check(f"edited: {told}: trace", status == 0 and words in said, shown=said)
+        page, text = run("--html", script=HISTORY), run("--text", script=HISTORY)
+        self.check("a history as it is",
+                   "Its replay gives the same answers." in page[1] and "differs" not in text[1]
+                   and page[2] == text[2] == "")
+        page = run("--html", script=HISTORY, environment=NOWHERE)[1]
+        self.check("no program to replay with", "Not compared with its replay, since no program is here." in page)
+        page, said = run("--html", script=HISTORY[:-1])[1:]
+        self.check("a history that is cut is not compared",
+                   "since its last line is cut off" in page and "line 15 has no end" in said
+                   and "differs from" not in page,
+                   shown=said)
 
+    def test_hidden(self):
+        """What lambda_local up does itself is shown on request alone."""
+        up = ONE.replace('"ports":[9001]', '"ports":[9001],"extensions":["lambda_local.up"]')
+        script = (up + "\n0 register 1 =lambda_local.up s -\n1 register 1 =other s -\n2 ext-next 1 1\n"
+                  "3 ext-next 1 2\n4 next 1\n"
+                  "5 invoke f - - =1\n6 response 1 1 =2\n7 next 1\n8 spindown 1\n9 ext-next 1 2\n9 ext-next 1 1\n")
+        for form in ("text", "html", "svg", "trace"):
+            status, shown, said = run(f"--{form}", script=script)
+            self.check(f"hidden: {form}", status == 0 and "lambda_local.up" not in shown and "other" in shown,
+                       shown=said)
+            self.check(f"hidden: --all, {form}", "lambda_local.up" in run(f"--{form}", "--all", script=script)[1])
+        calls = lambda *more: len(events(run("--trace", *more, script=script)[1], "call"))
+        self.check("hidden: the calls", (calls(), calls("--all")) == (8, 11), shown=f"{calls()} {calls('--all')}")
+        self.check("hidden calls do not count for --limit", calls("--limit", "8") == 8)
 
-def cut_by_the_end():
-    """A call whose answer comes after what is shown does not look finished."""
-    script = ONE + "\n0 next 1\n10 invoke f - - =1\n20 tick\n2000 response 1 1 =2\n2100 next 1\n"
-    for window, where in ((("--to", "1000"), "1000"), (("--from", "15", "--to", "1000"), "1000"),
-                          (("--limit", "3"), "2000")):
-        name, last = " ".join(window), run(*window, script=script)[1].splitlines()[-1].strip()
-        check(f"{name}: the text ends with the call that waits", last == f"{where} ms  caller 1: invoke f, call 1, "
-              "still waits, and is answered at 2000 ms, after what is shown", last)
-        for form in ("svg", "html"):
-            page = run(f"--{form}", *window, script=script)[1]
-            seen = [kind for kind, title in re.findall(r'<g class="call (\w+)"[^>]*><title>([^<]*)', page)
-                    if "invoke f" in title]
-            check(f"{name}: it is drawn as open, {form}", seen == ["open"], seen)
-            check(f"{name}: no label has its answer, {form}", ">invoke f: output<" not in page)
-    whole = run("--to", "2000", script=script)[1]
-    check("a call that is answered at the last moment is whole",
-          "still waits" not in whole and "is answered after 1,990 ms: output 2" in whole, whole)
-    late = run("--to", "1000", script=ONE + "\n0 next 1\n10 invoke f - - =1\n2000 tick\n")[1]
-    check("one that is never answered only waits",
-          late.splitlines()[-1].strip() == "1000 ms  caller 1: invoke f, call 1, still waits", late)
+    def test_failed(self):
+        """Failed calls are listed on the page, each with a link to its place."""
+        script = (ONE.replace('"region"', '"maxEntries":13,"region"')
+                  + "\n0 next 1\n1 invoke f - - =1\n2 invoke f - - =2\n"
+                  "3 failure 1 1 =<no>\n4 next 1\n5 invoke f - - =3\n6 response 1 9 =4\n4000 tick\n4001 invoke f - - "
+                  "=5\n4002 tick\n")
+        page = run("--html", script=script)[1]
+        tree = tree_of(page)
+        links = [link for link in tree.iter("{http://www.w3.org/1999/xhtml}a")]
+        words = ["".join(link.itertext()) for link in links]
+        self.check("failed: what is listed", words == [
+            "2 ms: invoke f: throttled LocalEnvironmentLimitExceeded", "3 ms: invoke f: error <no>",
+            "6 ms: response to request 9: refused BadId", "4,000 ms: invoke f: timeout",
+            "4,002 ms: tick: the journal is full"], shown=str(words))
+        places = {element.get("id"): element for element in tree.iter("{http://www.w3.org/2000/svg}g")
+                  if element.get("id")}
+        self.check("failed: each link leads to its call",
+                   sorted(link.get("href")[1:] for link in links) == sorted(places),
+                   shown=str(sorted(places)))
+        titles = [places[link.get("href")[1:]].find("{http://www.w3.org/2000/svg}title").text for link in links[:4]]
+        answers = [title.split("\n")[-2].split(" ")[0] for title in titles]
+        self.check("failed: its place is that of the call", answers == ["throttled", "error", "refused", "timeout"],
+                   shown=str(titles))
+        order = [page.index(part) for part in ('class="legend"', "<h2>Failed", "<figure>", "<h2>Counts")]
+        self.check("failed: before the drawing, as the legend", order == sorted(order))
+        self.check("failed: none", "<h2>Failed" not in run("--html", script=ONE + "\n0 tick\n")[1])
+        said = run("--html", "--from", "7", script=script)[2]
+        self.check("failed: those that are left out are counted", "3 of them failed, the first at 2 ms" in said,
+                   shown=said)
 
+    def test_faults(self):
+        for name, arguments, script, wanted, words in FAULTS:
+            status, _, said = run(*arguments, script=script)
+            self.check(f"fault: {name}", status == wanted and words in said and "Traceback" not in said,
+                       shown=f"status {status}: {said}")
+        with tempfile.TemporaryDirectory() as folder:
+            path = os.path.join(folder, "page.html")
+            self.check("a page", run("-o", path, script=ONE + "\n0 tick\n")[0] == 0
+                       and open(path).read().startswith("<!DOCTYPE html>"))
+            before = open(path).read()
+            self.check("a fault leaves the page as it was", run("-o", path, script=ONE + "\n0 tock\n")[0] == 2
+                       and open(path).read() == before and os.listdir(folder) == ["page.html"])
+            for ending, beginning in ((".json", '{"displayTimeUnit"'), (".svg", "<svg "), (".txt", "      0 ms")):
+                path = os.path.join(folder, "other" + ending)
+                self.check(f"the form of {ending}",
+                           run("-o", path, script=ONE + "\n0 tick\n")[0] == 0
+                           and open(path).read().startswith(beginning))
+        status, said, _ = run("--help")
+        self.check("--help", status == 0 and all(word in said for word in (
+            "--text", "--trace", "--html", "--svg", "--program", "--answers", "--script", "--limit", "--from", "--to",
+            "--all", "--live", "--scale", "-o FILE")))
 
-if __name__ == "__main__":
-    sys.exit(run_parts(history, service, edited, hidden, failed, faults, windows))
+    def test_windows(self):
+        """What is left out is said, and the rest is drawn, in each form."""
+        script = ONE + "\n" + "".join(f"{10 * i} tick\n" for i in range(50))
+        shown = {"html": lambda page: page.count('<g class="call '), "svg": lambda page: page.count('<g class="call '),
+                 "text": lambda text: text.count("tick, call"), "trace": lambda text: len(events(text, "call"))}
+        for arguments, drawn, words in (
+            (("--limit", "20"), 20, "Left out: 30 calls from 200 ms on"),
+            (("--from", "100"), 40, "Left out: 10 calls before 100 ms"),
+            (("--from", "+0.1"), 40, "Left out: 10 calls before 100 ms"),
+            (("--to", "100"), 11, "Left out: 39 calls from 110 ms on"),
+            (("--to", "+0.1"), 11, "Left out: 39 calls from 110 ms on"),
+            (("--from", "100", "--to", "200", "--limit", "5"), 5,
+             "Left out: 10 calls before 100 ms and 35 calls from 150 ms on"),
+            (("--scale", "time"), 50, ""),
+            (("--from", "9000"), 0, "Left out: 50 calls before 9,000 ms"),
+        ):
+            for form, count in shown.items():
+                status, page, said = run(f"--{form}", *arguments, script=script)
+                name = f"{' '.join(arguments)}, {form}"
+                self.check(f"{name}: {drawn} calls", status == 0 and count(page) == drawn,
+                           shown=f"{count(page)} {said}")
+                self.check(f"{name}: what is left out",
+                           words in said and ("Left out" in page) == (bool(words) and form == "html"), shown=said)
+                if form in ("html", "svg"):
+                    try:
+                        ElementTree.fromstring(page.replace("<!DOCTYPE html>\n", ""))
+                    except ElementTree.ParseError as fault:
+                        self.check(f"{name}: XML", False, shown=str(fault))
+        many = ONE.replace('"region"', '"maxEntries":9999,"region"') + "\n" + "".join(f"{i} tick\n"
+                                                                                      for i in range(1100))
+        self.check("without --limit, 1,000 calls are drawn, and all are in the text and the trace",
+                   [count(run(f"--{form}", script=many)[1]) for form, count in shown.items()] == [1000, 1000, 1100,
+                                                                                                  1100])
+        self.waits()
+
+    def waits(self):
+        """Of what lasts, that of which a part lies in the window is drawn."""
+        script = ONE + "\n0 next 1\n" + "".join(f"{i} tick\n" for i in range(1, 50)) + "60 invoke f - - =1\n"
+        page = run("--html", "--from", "40", "--to", "45", script=script)[1]
+        self.check("a call that waits all through a window is drawn", page.count('<g class="call ') == 7)
+        trace = run("--trace", "--from", "40", "--to", "45", script=script)[1]
+        self.check("and is in the trace",
+                   [event["name"] for event in events(trace, "call")].count("next: deliver") == 1)
+        self.check("as is the phase", [event["name"] for event in events(trace, "phase")] == ["Idle"],
+                   shown=str(events(trace, "phase")))
+        self.cut_by_the_end()
+        text = run("--from", "60", script=script)[1]
+        self.check("the text has what happens in the window", "is answered after 60 ms: deliver" in text
+                   and "tick" not in text,
+                   shown=text)
+
+    def cut_by_the_end(self):
+        """A call whose answer comes after what is shown does not look finished."""
+        script = ONE + "\n0 next 1\n10 invoke f - - =1\n20 tick\n2000 response 1 1 =2\n2100 next 1\n"
+        for window, where in ((("--to", "1000"), "1000"), (("--from", "15", "--to", "1000"), "1000"),
+                              (("--limit", "3"), "2000")):
+            name, last = " ".join(window), run(*window, script=script)[1].splitlines()[-1].strip()
+            self.check(f"{name}: the text ends with the call that waits",
+                       last == f"{where} ms  caller 1: invoke f, call 1, "
+                       "still waits, and is answered at 2000 ms, after what is shown", shown=last)
+            for form in ("svg", "html"):
+                page = run(f"--{form}", *window, script=script)[1]
+                seen = [kind for kind, title in re.findall(r'<g class="call (\w+)"[^>]*><title>([^<]*)', page)
+                        if "invoke f" in title]
+                self.check(f"{name}: it is drawn as open, {form}", seen == ["open"], shown=seen)
+                self.check(f"{name}: no label has its answer, {form}", ">invoke f: output<" not in page)
+        whole = run("--to", "2000", script=script)[1]
+        self.check("a call that is answered at the last moment is whole",
+                   "still waits" not in whole and "is answered after 1,990 ms: output 2" in whole, shown=whole)
+        late = run("--to", "1000", script=ONE + "\n0 next 1\n10 invoke f - - =1\n2000 tick\n")[1]
+        self.check("one that is never answered only waits",
+                   late.splitlines()[-1].strip() == "1000 ms  caller 1: invoke f, call 1, still waits", shown=late)

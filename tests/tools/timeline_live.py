@@ -1,23 +1,18 @@
-#!/usr/bin/env python3
 """Checks lambda_local timeline --live: the page of a running service, who may ask for it, what it shows after many
 calls and when the service goes, and how it ends. The program is LAMBDA_LOCAL_PROGRAM, else ./lambda_local. Ends with 'N
 passed, M failed'."""
 import contextlib
 import json
-import os
 import shutil
 import signal
 import subprocess
-import sys
 import tempfile
 import threading
 import time
 import xml.etree.ElementTree as ElementTree
 
-ROOT = os.path.dirname(os.path.dirname(os.path.dirname(os.path.realpath(__file__))))
-sys.path.insert(0, os.path.join(ROOT, "tests", "library"))
-from timelines import ENVIRONMENT, TOOL, check, run, run_parts  # noqa: E402
-from lambda_local.service import Service, ask, free_ports  # noqa: E402
+from lambda_local.service import Service, ask, free_ports
+from tests.library.timelines import TimelineCase, ENVIRONMENT, TOOL, run
 
 SVG = "{http://www.w3.org/2000/svg}"
 CONFIGURATION = {"account": "123456789012", "region": "us-east-2",
@@ -107,32 +102,6 @@ def calls_of(drawn):
     return [group for group in parts_of(drawn).iter(SVG + "g") if group.get("class", "").startswith("call ")]
 
 
-def shown():
-    with live() as page:
-        wanted = f"http://127.0.0.1:{page.port}/ shows {page.service.endpoint_url}, until Ctrl-C\n"
-        check("the address is printed", page.line == wanted, page.line)
-        status, headers, body = page.get("/")
-        text = body.decode()
-        check("the page", status == 200 and headers["content-type"].startswith("text/html") and "No call yet." in text,
-              text[-500:])
-        ElementTree.fromstring(text.replace("<!DOCTYPE html>\n", ""))
-        policy = headers["content-security-policy"]
-        check("the page runs its own script alone", "default-src 'none'; script-src 'self';" in policy, policy)
-        check("its script", page.get("/live.js")[0] == 200 and b"setTimeout" in page.get("/live.js")[2])
-        check("another path", page.get("/other")[0] == 404)
-        check("an invocation is answered", page.call(b'"<script>alert(1)</script>&"', b'"</title><b>"')[0] == 200)
-        drawn = page.until(lambda drawn: "\noutput" in drawn)
-        check("it appears", "\noutput" in drawn and "3 calls, 1 of them invocations" in drawn, drawn[:300])
-        names = {element.tag.split("}")[-1] for element in parts_of(drawn).iter()}
-        check("payloads are escaped", "script" not in names and "b" in names and "&lt;script&gt;alert(1)" in drawn)
-        check("nothing new", page.get(f"/drawing?after={page.version}")[0] == 204)
-        status, said = page.end()
-        check("Ctrl-C ends it in order", (status, said) == (0, ""), f"{status} {said}")
-        check("and its port", refused(page.port))
-    with live() as page:
-        check("SIGTERM as well", page.end(signal.SIGTERM) == (0, ""))
-
-
 def refused(port):
     try:
         ask(port, "GET", "/", timeout=5)
@@ -141,134 +110,163 @@ def refused(port):
     return False
 
 
-def guarded():
-    """The page is for a browser on this machine, and for no other site in it."""
-    with live() as page:
-        own = f"http://127.0.0.1:{page.port}"
-        for name, headers, status in (
-            ("no browser", {}, 200), ("its own origin", {"Origin": own}, 200),
-            ("a person who opens it", {"Sec-Fetch-Site": "none"}, 200),
-            ("its own script", {"Sec-Fetch-Site": "same-origin", "Origin": own}, 200),
-            ("localhost", {"Host": "localhost"}, 200),
-            ("localhost with a port", {"Host": f"LOCALHOST:{page.port}"}, 200),
-            ("an address", {"Host": "10.0.0.1:80"}, 200), ("an address of version 6", {"Host": "[::1]:80"}, 200),
-            ("another site", {"Origin": "http://example.com"}, 403),
-            ("another port", {"Origin": "http://127.0.0.1:1"}, 403),
-            ("an origin without a name", {"Origin": "null"}, 403), ("an empty origin", {"Origin": ""}, 403),
-            ("the same by https", {"Origin": own.replace("http", "https")}, 403),
-            ("a request across sites", {"Sec-Fetch-Site": "cross-site"}, 403),
-            ("of the same site", {"Sec-Fetch-Site": "same-site"}, 403),
-            ("a name that leads here", {"Host": "example.com"}, 403),
-            ("a name like an address", {"Host": "127.0.0.1.example.com"}, 403), ("no host", {"Host": ""}, 403),
+class TimelineLive(TimelineCase):
+    def test_shown(self):
+        with live() as page:
+            wanted = f"http://127.0.0.1:{page.port}/ shows {page.service.endpoint_url}, until Ctrl-C\n"
+            self.check("the address is printed", page.line == wanted, shown=page.line)
+            status, headers, body = page.get("/")
+            text = body.decode()
+            self.check("the page", status == 200 and headers["content-type"].startswith("text/html")
+                       and "No call yet." in text,
+                       shown=text[-500:])
+            ElementTree.fromstring(text.replace("<!DOCTYPE html>\n", ""))
+            policy = headers["content-security-policy"]
+            self.check("the page runs its own script alone", "default-src 'none'; script-src 'self';" in policy,
+                       shown=policy)
+            self.check("its script", page.get("/live.js")[0] == 200 and b"setTimeout" in page.get("/live.js")[2])
+            self.check("another path", page.get("/other")[0] == 404)
+            self.check("an invocation is answered", page.call(b'"<script>alert(1)</script>&"',
+                                                              b'"</title><b>"')[0] == 200)
+            drawn = page.until(lambda drawn: "\noutput" in drawn)
+            self.check("it appears", "\noutput" in drawn and "3 calls, 1 of them invocations" in drawn,
+                       shown=drawn[:300])
+            names = {element.tag.split("}")[-1] for element in parts_of(drawn).iter()}
+            self.check("payloads are escaped", "script" not in names and "b" in names
+                       and "&lt;script&gt;alert(1)" in drawn)
+            self.check("nothing new", page.get(f"/drawing?after={page.version}")[0] == 204)
+            status, said = page.end()
+            self.check("Ctrl-C ends it in order", (status, said) == (0, ""), shown=f"{status} {said}")
+            self.check("and its port", refused(page.port))
+        with live() as page:
+            self.check("SIGTERM as well", page.end(signal.SIGTERM) == (0, ""))
+
+    def test_guarded(self):
+        """The page is for a browser on this machine, and for no other site in it."""
+        with live() as page:
+            own = f"http://127.0.0.1:{page.port}"
+            for name, headers, status in (
+                ("no browser", {}, 200), ("its own origin", {"Origin": own}, 200),
+                ("a person who opens it", {"Sec-Fetch-Site": "none"}, 200),
+                ("its own script", {"Sec-Fetch-Site": "same-origin", "Origin": own}, 200),
+                ("localhost", {"Host": "localhost"}, 200),
+                ("localhost with a port", {"Host": f"LOCALHOST:{page.port}"}, 200),
+                ("an address", {"Host": "10.0.0.1:80"}, 200), ("an address of version 6", {"Host": "[::1]:80"}, 200),
+                ("another site", {"Origin": "http://example.com"}, 403),
+                ("another port", {"Origin": "http://127.0.0.1:1"}, 403),
+                ("an origin without a name", {"Origin": "null"}, 403), ("an empty origin", {"Origin": ""}, 403),
+                ("the same by https", {"Origin": own.replace("http", "https")}, 403),
+                ("a request across sites", {"Sec-Fetch-Site": "cross-site"}, 403),
+                ("of the same site", {"Sec-Fetch-Site": "same-site"}, 403),
+                ("a name that leads here", {"Host": "example.com"}, 403),
+                ("a name like an address", {"Host": "127.0.0.1.example.com"}, 403), ("no host", {"Host": ""}, 403),
+            ):
+                for path in ("/", "/drawing?after=0", "/live.js"):
+                    seen = page.get(path, headers)[0]
+                    self.check(f"{name}: {path}", seen == status, shown=str(seen))
+
+    def test_bounded(self):
+        """The page shows the last calls, whatever there was before, and is as long after many as after few."""
+        with live("--limit", "20") as page:
+            page.call()
+            page.reserve(0)
+            threads = [threading.Thread(target=lambda: [page.invoke() for _ in range(400)]) for _ in range(4)]
+            for thread in threads:
+                thread.start()
+            for thread in threads:
+                thread.join()
+            page.reserve(1)
+            page.call(b'"the last one"')
+            drawn = page.until(lambda drawn: "the last one" in drawn and "output" in drawn)
+            shown = [group for group in calls_of(drawn) if "no answer yet" not in group.find(SVG + "title").text]
+            self.check("the last 20 calls are shown", len(shown) == 20 and "the last one" in drawn,
+                       shown=f"{len(shown)} of {len(calls_of(drawn))}")
+            self.check("a page of bounded size", len(drawn) < 40_000, shown=str(len(drawn)))
+            self.check("all are counted", "1,602 of them invocations" in drawn
+                       and "invoke: throttled <b>1,600</b>" in drawn,
+                       shown=drawn[:300])
+            self.check("a reservation", "f: 1 reserved from" in drawn)
+            with open(f"/proc/{page.tool.pid}/status") as file:
+                resident = int(next(line for line in file if line.startswith("VmRSS")).split()[1])
+            self.check("memory", resident < 64_000, shown=f"{resident} KB")
+            print(f"after 1,602 invocations: a page of {len(drawn):,} bytes, {resident / 1000:.0f} MB of memory")
+
+    def test_hidden(self):
+        with live() as page, live("--all") as other:
+            for each in (page, other):
+                ask(each.runtime, "POST", "/2020-01-01/extension/register", '{"events":[]}',
+                    {"Lambda-Extension-Name": "lambda_local.up"})
+            drawn = other.until(lambda drawn: "lambda_local.up" in drawn)
+            self.check("--all shows what lambda_local up does", "lambda_local.up" in drawn)
+            drawn = page.until(lambda drawn: "1 call," in drawn)
+            self.check("else it is hidden", "1 call," in drawn and "lambda_local.up" not in drawn, shown=drawn[:300])
+
+    def test_gone(self):
+        """A service that goes is said to have gone; if one answers there again, its history is shown from its
+        beginning."""
+        port = free_ports(1, ())[0]
+        with live(configuration=dict(CONFIGURATION, invokePort=port)) as page:
+            page.call()
+            page.until(lambda drawn: "\noutput" in drawn)
+            page.service.stop()
+            drawn = page.until(lambda drawn: "has gone" in drawn)
+            self.check("the page says that the service has gone",
+                       "The service has gone at" in drawn and "Connection refused" in drawn, shown=drawn[:300])
+            self.check("its last calls stay", "\noutput" in drawn)
+            page.service.kill()
+            page.service = Service(dict(CONFIGURATION, invokePort=port))
+            drawn = page.until(lambda drawn: "has gone" not in drawn)
+            self.check("another one is shown", "No call yet." in drawn and "has gone" not in drawn, shown=drawn[:300])
+            status, said = page.end()
+            lines = said.splitlines()
+            self.check("both are said",
+                       status == 0 and len(lines) == 2 and "has gone at" in lines[0] and "answers again" in lines[1],
+                       shown=said)
+
+    def test_faults(self):
+        port = free_ports(1, ())[0]
+        for name, arguments, words in (
+            ("no service", ("--live", f"http://127.0.0.1:{port}"),
+             f"--live http://127.0.0.1:{port}: no service answers there: Connection refused"),
+            ("no address", ("--live", "9000"),
+             "--live 9000: write the service's address on this machine, such as http://127.0.0.1:9000"),
+            ("another machine", ("--live", "http://example.com:9000"), "write the service's address on this machine"),
+            ("no port", ("--live", "http://127.0.0.1"), "write the service's address on this machine"),
+            ("a port that is none", ("--live", "http://127.0.0.1:99999"),
+             "write the service's address on this machine"),
+            ("an input", ("--live", "http://127.0.0.1:9000", "x.txt"), "--live shows what goes on: leave out an input"),
+            ("a form", ("--live", "http://127.0.0.1:9000", "--html"), "--live shows what goes on: leave out --html"),
+            ("a window", ("--live", "http://127.0.0.1:9000", "--to", "+1"),
+             "--live shows what goes on: leave out --to"),
+            ("an output", ("--live", "http://127.0.0.1:9000", "-o", "x.html"),
+             "--live shows what goes on: leave out -o"),
         ):
-            for path in ("/", "/drawing?after=0", "/live.js"):
-                seen = page.get(path, headers)[0]
-                check(f"{name}: {path}", seen == status, str(seen))
+            status, output, said = run(*arguments)
+            self.check(f"fault: {name}", status == 2 and output == "" and words in said and "Traceback" not in said,
+                       shown=f"{status} {said}")
+        with live() as page:
+            status, _, said = run("--live", f"http://127.0.0.1:{page.port}")
+            self.check("fault: another server",
+                       status == 2 and "gives no history there (status 404): this is not lambda_local" in said,
+                       shown=said)
+            status, _, said = run("--live", f"http://127.0.0.1:{page.runtime}")
+            self.check("fault: the port of an environment", status == 2 and "this is not lambda_local" in said,
+                       shown=said)
 
-
-def bounded():
-    """The page shows the last calls, whatever there was before, and is as long after many as after few."""
-    with live("--limit", "20") as page:
-        page.call()
-        page.reserve(0)
-        threads = [threading.Thread(target=lambda: [page.invoke() for _ in range(400)]) for _ in range(4)]
-        for thread in threads:
-            thread.start()
-        for thread in threads:
+    def test_browser(self):
+        """In Chromium, if it is installed: the script runs, shows what is new, and leads to a failed call."""
+        chromium = shutil.which("chromium")
+        if not chromium:
+            self.skipTest("no Chromium is installed")
+        with live() as page, tempfile.TemporaryDirectory() as folder:
+            thread = threading.Thread(target=page.call, args=(b'"in the browser"',))
+            timer = threading.Timer(1, thread.start)
+            timer.start()
+            done = subprocess.run([chromium, "--headless", "--no-sandbox", "--disable-gpu", f"--user-data-dir={folder}",
+                                   "--virtual-time-budget=5000", "--dump-dom", f"http://127.0.0.1:{page.port}/"],
+                                  capture_output=True, text=True, timeout=300)
+            timer.join()
             thread.join()
-        page.reserve(1)
-        page.call(b'"the last one"')
-        drawn = page.until(lambda drawn: "the last one" in drawn and "output" in drawn)
-        shown = [group for group in calls_of(drawn) if "no answer yet" not in group.find(SVG + "title").text]
-        check("the last 20 calls are shown", len(shown) == 20 and "the last one" in drawn,
-              f"{len(shown)} of {len(calls_of(drawn))}")
-        check("a page of bounded size", len(drawn) < 40_000, str(len(drawn)))
-        check("all are counted", "1,602 of them invocations" in drawn and "invoke: throttled <b>1,600</b>" in drawn,
-              drawn[:300])
-        check("a reservation", "f: 1 reserved from" in drawn)
-        with open(f"/proc/{page.tool.pid}/status") as file:
-            resident = int(next(line for line in file if line.startswith("VmRSS")).split()[1])
-        check("memory", resident < 64_000, f"{resident} KB")
-        print(f"after 1,602 invocations: a page of {len(drawn):,} bytes, {resident / 1000:.0f} MB of memory")
-
-
-def hidden():
-    with live() as page, live("--all") as other:
-        for each in (page, other):
-            ask(each.runtime, "POST", "/2020-01-01/extension/register", '{"events":[]}',
-                {"Lambda-Extension-Name": "lambda_local.up"})
-        drawn = other.until(lambda drawn: "lambda_local.up" in drawn)
-        check("--all shows what lambda_local up does", "lambda_local.up" in drawn)
-        drawn = page.until(lambda drawn: "1 call," in drawn)
-        check("else it is hidden", "1 call," in drawn and "lambda_local.up" not in drawn, drawn[:300])
-
-
-def gone():
-    """A service that goes is said to have gone; if one answers there again, its history is shown from its beginning."""
-    port = free_ports(1, ())[0]
-    with live(configuration=dict(CONFIGURATION, invokePort=port)) as page:
-        page.call()
-        page.until(lambda drawn: "\noutput" in drawn)
-        page.service.stop()
-        drawn = page.until(lambda drawn: "has gone" in drawn)
-        check("the page says that the service has gone",
-              "The service has gone at" in drawn and "Connection refused" in drawn, drawn[:300])
-        check("its last calls stay", "\noutput" in drawn)
-        page.service.kill()
-        page.service = Service(dict(CONFIGURATION, invokePort=port))
-        drawn = page.until(lambda drawn: "has gone" not in drawn)
-        check("another one is shown", "No call yet." in drawn and "has gone" not in drawn, drawn[:300])
-        status, said = page.end()
-        lines = said.splitlines()
-        check("both are said",
-              status == 0 and len(lines) == 2 and "has gone at" in lines[0] and "answers again" in lines[1], said)
-
-
-def faults():
-    port = free_ports(1, ())[0]
-    for name, arguments, words in (
-        ("no service", ("--live", f"http://127.0.0.1:{port}"),
-         f"--live http://127.0.0.1:{port}: no service answers there: Connection refused"),
-        ("no address", ("--live", "9000"),
-         "--live 9000: write the service's address on this machine, such as http://127.0.0.1:9000"),
-        ("another machine", ("--live", "http://example.com:9000"), "write the service's address on this machine"),
-        ("no port", ("--live", "http://127.0.0.1"), "write the service's address on this machine"),
-        ("a port that is none", ("--live", "http://127.0.0.1:99999"), "write the service's address on this machine"),
-        ("an input", ("--live", "http://127.0.0.1:9000", "x.txt"), "--live shows what goes on: leave out an input"),
-        ("a form", ("--live", "http://127.0.0.1:9000", "--html"), "--live shows what goes on: leave out --html"),
-        ("a window", ("--live", "http://127.0.0.1:9000", "--to", "+1"), "--live shows what goes on: leave out --to"),
-        ("an output", ("--live", "http://127.0.0.1:9000", "-o", "x.html"), "--live shows what goes on: leave out -o"),
-    ):
-        status, output, said = run(*arguments)
-        check(f"fault: {name}", status == 2 and output == "" and words in said and "Traceback" not in said,
-              f"{status} {said}")
-    with live() as page:
-        status, _, said = run("--live", f"http://127.0.0.1:{page.port}")
-        check("fault: another server",
-              status == 2 and "gives no history there (status 404): this is not lambda_local" in said, said)
-        status, _, said = run("--live", f"http://127.0.0.1:{page.runtime}")
-        check("fault: the port of an environment", status == 2 and "this is not lambda_local" in said, said)
-
-
-def browser():
-    """In Chromium, if it is installed: the script runs, shows what is new, and leads to a failed call."""
-    chromium = shutil.which("chromium")
-    if not chromium:
-        print("skip browser: no chromium is installed")
-        return
-    with live() as page, tempfile.TemporaryDirectory() as folder:
-        thread = threading.Thread(target=page.call, args=(b'"in the browser"',))
-        timer = threading.Timer(1, thread.start)
-        timer.start()
-        done = subprocess.run([chromium, "--headless", "--no-sandbox", "--disable-gpu", f"--user-data-dir={folder}",
-                               "--virtual-time-budget=5000", "--dump-dom", f"http://127.0.0.1:{page.port}/"],
-                              capture_output=True, text=True, timeout=300)
-        timer.join()
-        thread.join()
-        check("Chromium shows the page", "Live timeline of" in done.stdout, done.stderr[-300:])
-        has_run = '<button id="pause">Pause</button>' in done.stdout and 'id="lost" hidden' in done.stdout
-        check("its script has run", has_run, done.stdout[-800:])
-
-
-if __name__ == "__main__":
-    sys.exit(run_parts(shown, guarded, bounded, hidden, gone, faults, browser))
+            self.check("Chromium shows the page", "Live timeline of" in done.stdout, shown=done.stderr[-300:])
+            has_run = '<button id="pause">Pause</button>' in done.stdout and 'id="lost" hidden' in done.stdout
+            self.check("its script has run", has_run, shown=done.stdout[-800:])

@@ -1,6 +1,5 @@
-#!/usr/bin/env python3
 """Checks lambda_local up against real processes. The program is
-LAMBDA_LOCAL_PROGRAM, else ./lambda_local. Ends with 'N passed, M failed'."""
+LAMBDA_LOCAL_PROGRAM, else ./lambda_local."""
 import json
 import os
 import signal
@@ -9,67 +8,9 @@ import sys
 import tempfile
 import time
 
-ROOT = os.path.dirname(os.path.dirname(os.path.dirname(os.path.realpath(__file__))))
-TOOLS = os.path.join(ROOT, "tools")
-sys.path[:0] = [TOOLS, os.path.join(ROOT, "tests", "library")]
-import counted  # noqa: E402
-from counted import check  # noqa: E402
-from up_kit import HANDLER, Up  # noqa: E402
-
-
-def runtimes():
-    up = Up()
-    check("it is ready", up.until("[up] ready"))
-    check("the variables are set", up.invoke(do="name")[0], ["f", "index.handler", "hello"])
-    first = up.invoke()[0]
-    answer, took = up.invoke(do="crash")
-    check("a crash in the handler is told at once", (answer, took < 0.9), ("Runtime.ExitError", True))
-    second = up.invoke()[0]
-    check("a new process serves", isinstance(second, int) and second != first)
-    check("a handler that hangs is a timeout", up.invoke(do="hang")[0], "Function.Timeout")
-    third = up.invoke()[0]
-    check("its process is ended, and a new one serves",
-          isinstance(third, int) and third != second and not os.path.exists(f"/proc/{second}"))
-    up.invoke(do="later")
-    check("an exit while idle is seen", up.until("exit status 9", 5))
-    check("and a new one serves after it", isinstance(up.invoke()[0], int))
-    open(os.path.join(up.at, "broken"), "w").close()
-    check("the crash is told", up.invoke(do="crash")[0], "Runtime.ExitError")
-    check("a runtime that ends in its Init is paused", up.until("started again in", 15))
-    check("and its caller hears", up.invoke()[0], "Runtime.ExitError")
-    os.remove(os.path.join(up.at, "broken"))
-    check("TERM stops in order, nothing is left", up.end(), (0, []))
-    check("counts are said", any("admitted" in line for line in up.lines))
-
-
-def commands():
-    up = Up(command=["--", "sh", "-c", "test -n \"$AWS_ENDPOINT_URL_LAMBDA\" && exit 7"])
-    check("the command's status", up.process.wait(40), 7)
-    check("the history of a command that fails is saved",
-          os.path.exists(os.path.join(up.at, "lambda_local.history.txt")))
-    check("nothing is left after a command", up.end(None), (7, []))
-    up = Up(command=["--", "true"])
-    check("a command that succeeds", up.process.wait(40), 0)
-    check("leaves no history", os.path.exists(os.path.join(up.at, "lambda_local.history.txt")), False)
-    check("and nothing else", up.end(None), (0, []))
-    up = Up(command=["--", "sleep", "100"])
-    up.until("[up] ready")
-    time.sleep(0.3)
-    check("TERM ends the command", up.end(), (143, []))
-    with tempfile.TemporaryDirectory() as folder:
-        silent = os.path.join(folder, "silent")
-        with open(silent, "w") as file:
-            file.write('#!/bin/sh\n: > "$0.started"\nexec sleep 100\n')
-        os.chmod(silent, 0o755)
-        up = Up("--program", silent)
-        for _ in range(3000):
-            if os.path.exists(silent + ".started"):
-                break
-            time.sleep(0.02)
-        check("TERM ends it before the service listens", up.end(), (143, []))
-    up = Up(environments=64)
-    check("64 environments are ready", up.until("[up] ready", 60))
-    check("INT ends 64", up.end(signal.SIGINT), (0, []))
+from tests import ROOT
+from tests.library.cases import Case
+from tests.library.up_kit import HANDLER, Up
 
 
 def extension_that(seconds):
@@ -83,61 +24,111 @@ def extension_that(seconds):
             "c.getresponse().read()"]
 
 
-def extensions():
-    up = Up(extensions={"x": extension_that(1.5)})
-    check("it is ready with an extension", up.until("[up] ready"))
-    check("an extension that crashes is told", up.until("Extension exited with error: exit status 5", 10))
-    check("and its environment serves again", isinstance(up.invoke()[0], int))
-    check("nothing is left of extensions", up.end(), (0, []))
+class UpTest(Case):
+    def test_runtimes(self):
+        up = Up()
+        self.check("it is ready", up.until("[up] ready"))
+        self.check("the variables are set", up.invoke(do="name")[0], ["f", "index.handler", "hello"])
+        first = up.invoke()[0]
+        answer, took = up.invoke(do="crash")
+        self.check("a crash in the handler is told at once", (answer, took < 0.9), ("Runtime.ExitError", True))
+        second = up.invoke()[0]
+        self.check("a new process serves", isinstance(second, int) and second != first)
+        self.check("a handler that hangs is a timeout", up.invoke(do="hang")[0], "Function.Timeout")
+        third = up.invoke()[0]
+        self.check("its process is ended, and a new one serves",
+                   isinstance(third, int) and third != second and not os.path.exists(f"/proc/{second}"))
+        up.invoke(do="later")
+        self.check("an exit while idle is seen", up.until("exit status 9", 5))
+        self.check("and a new one serves after it", isinstance(up.invoke()[0], int))
+        open(os.path.join(up.at, "broken"), "w").close()
+        self.check("the crash is told", up.invoke(do="crash")[0], "Runtime.ExitError")
+        self.check("a runtime that ends in its Init is paused", up.until("started again in", 15))
+        self.check("and its caller hears", up.invoke()[0], "Runtime.ExitError")
+        os.remove(os.path.join(up.at, "broken"))
+        self.check("TERM stops in order, nothing is left", up.end(), (0, []))
+        self.check("counts are said", any("admitted" in line for line in up.lines))
 
+    def test_commands(self):
+        up = Up(command=["--", "sh", "-c", "test -n \"$AWS_ENDPOINT_URL_LAMBDA\" && exit 7"])
+        self.check("the command's status", up.process.wait(40), 7)
+        self.check("the history of a command that fails is saved",
+                   os.path.exists(os.path.join(up.at, "lambda_local.history.txt")))
+        self.check("nothing is left after a command", up.end(None), (7, []))
+        up = Up(command=["--", "true"])
+        self.check("a command that succeeds", up.process.wait(40), 0)
+        self.check("leaves no history", os.path.exists(os.path.join(up.at, "lambda_local.history.txt")), False)
+        self.check("and nothing else", up.end(None), (0, []))
+        up = Up(command=["--", "sleep", "100"])
+        up.until("[up] ready")
+        time.sleep(0.3)
+        self.check("TERM ends the command", up.end(), (143, []))
+        with tempfile.TemporaryDirectory() as folder:
+            silent = os.path.join(folder, "silent")
+            with open(silent, "w") as file:
+                file.write('#!/bin/sh\n: > "$0.started"\nexec sleep 100\n')
+            os.chmod(silent, 0o755)
+            up = Up("--program", silent)
+            for _ in range(3000):
+                if os.path.exists(silent + ".started"):
+                    break
+                time.sleep(0.02)
+            self.check("TERM ends it before the service listens", up.end(), (143, []))
+        up = Up(environments=64)
+        self.check("64 environments are ready", up.until("[up] ready", 60))
+        self.check("INT ends 64", up.end(signal.SIGINT), (0, []))
 
-def reload():
-    up = Up("--reload")
-    up.until("[up] ready")
-    first = up.invoke()[0]
-    with open(os.path.join(up.at, "app.py"), "a") as file:
-        file.write("# changed\n")
-    check("a change is seen", up.until("shuts down, SPINDOWN", 10))
-    second = up.invoke()[0]
-    check("a new process serves the changed file", isinstance(second, int) and second != first)
-    check("nothing is left after a reload", up.end(), (0, []))
+    def test_extensions(self):
+        up = Up(extensions={"x": extension_that(1.5)})
+        self.check("it is ready with an extension", up.until("[up] ready"))
+        self.check("an extension that crashes is told", up.until("Extension exited with error: exit status 5", 10))
+        self.check("and its environment serves again", isinstance(up.invoke()[0], int))
+        self.check("nothing is left of extensions", up.end(), (0, []))
 
+    def test_reload(self):
+        up = Up("--reload")
+        up.until("[up] ready")
+        first = up.invoke()[0]
+        with open(os.path.join(up.at, "app.py"), "a") as file:
+            file.write("# changed\n")
+        self.check("a change is seen", up.until("shuts down, SPINDOWN", 10))
+        second = up.invoke()[0]
+        self.check("a new process serves the changed file", isinstance(second, int) and second != first)
+        self.check("nothing is left after a reload", up.end(), (0, []))
 
-def own_log():
-    """What lambda_local up writes into a watched folder does not count as a change."""
-    with tempfile.TemporaryDirectory() as folder:
-        with open(os.path.join(folder, "up.json"), "w") as file:
-            json.dump({"functions": [{"name": "f", "command": ["sleep", "100"]}]}, file)
-        with open(os.path.join(folder, "log"), "w") as log:
-            words = [os.path.join(ROOT, "lambda_local"), "up", "--reload", "up.json"]
-            child = subprocess.Popen(words, cwd=folder, stderr=log,
-                                     stdout=log)
-            try:
-                child.wait(6)
-            except subprocess.TimeoutExpired:
-                child.send_signal(signal.SIGTERM)
-            status = child.wait(40)
-        with open(os.path.join(folder, "log")) as log:
-            check("its own log in a watched folder begins nothing anew", (status, "begins anew" in log.read()),
-                  (0, False))
+    def test_own_log(self):
+        """What lambda_local up writes into a watched folder does not count as a change."""
+        with tempfile.TemporaryDirectory() as folder:
+            with open(os.path.join(folder, "up.json"), "w") as file:
+                json.dump({"functions": [{"name": "f", "command": ["sleep", "100"]}]}, file)
+            with open(os.path.join(folder, "log"), "w") as log:
+                words = [os.path.join(ROOT, "lambda_local"), "up", "--reload", "up.json"]
+                child = subprocess.Popen(words, cwd=folder, stderr=log,
+                                         stdout=log)
+                try:
+                    child.wait(6)
+                except subprocess.TimeoutExpired:
+                    child.send_signal(signal.SIGTERM)
+                status = child.wait(40)
+            with open(os.path.join(folder, "log")) as log:
+                self.check("its own log in a watched folder begins nothing anew", (status, "begins anew" in log.read()),
+                           (0, False))
 
-
-def debug():
-    up = Up("--debug", "f")
-    check("a function to debug begins", up.until("may stop in its Init", 10))
-    check("and serves", isinstance(up.invoke()[0], int))
-    check("nothing is left of it", up.end(), (0, []))
-    # As at a breakpoint, for longer than an Init has (10 s) and than others are waited for.
-    held = "import time; time.sleep(12)\n"
-    up = Up("--debug", "f", "--ready", "5",
-            command=["--", "sh", "-c", 'curl -s -d "{}" "$AWS_ENDPOINT_URL_LAMBDA/2015-03-31/functions/f/invocations"'],
-            extensions={"x": extension_that(1000)}, app=held + HANDLER)
-    check("a command waits for a function that is debugged", up.until("waits for f/1, which is being debugged", 20))
-    status, left = up.end(None)
-    check("it runs once that has left its Init, and an extension came after it", (status, left, up.output.isdigit()),
-          (0, [], True))
-    check("no Init timed out", any("shuts down" in line for line in up.lines), False)
-
-
-if __name__ == "__main__":
-    sys.exit(counted.run(runtimes, commands, extensions, reload, own_log, debug))
+    def test_debug(self):
+        up = Up("--debug", "f")
+        self.check("a function to debug begins", up.until("may stop in its Init", 10))
+        self.check("and serves", isinstance(up.invoke()[0], int))
+        self.check("nothing is left of it", up.end(), (0, []))
+        # As at a breakpoint, for longer than an Init has (10 s) and than others are waited for.
+        held = "import time; time.sleep(12)\n"
+        up = Up("--debug", "f", "--ready", "5",
+                command=["--", "sh", "-c",
+                         'curl -s -d "{}" "$AWS_ENDPOINT_URL_LAMBDA/2015-03-31/functions/f/invocations"'],
+                extensions={"x": extension_that(1000)}, app=held + HANDLER)
+        self.check("a command waits for a function that is debugged", up.until("waits for f/1, which is being debugged",
+                                                                               20))
+        status, left = up.end(None)
+        self.check("it runs once that has left its Init, and an extension came after it",
+                   (status, left, up.output.isdigit()),
+                   (0, [], True))
+        self.check("no Init timed out", any("shuts down" in line for line in up.lines), False)

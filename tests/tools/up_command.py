@@ -1,4 +1,3 @@
-#!/usr/bin/env python3
 """Checks how lambda_local up begins and ends: its command and Ctrl-C, credentials, identifiers, ports, a full history,
 and that nothing outlives it. The program is LAMBDA_LOCAL_PROGRAM, else ./lambda_local. Ends with 'N passed, M
 failed'."""
@@ -14,11 +13,8 @@ import tempfile
 import time
 import urllib.error
 
-ROOT = os.path.dirname(os.path.dirname(os.path.dirname(os.path.realpath(__file__))))
-sys.path[:0] = [os.path.join(ROOT, "tools"), os.path.join(ROOT, "tests", "library")]
-import counted  # noqa: E402
-from counted import check  # noqa: E402
-from up_kit import LAUNCHER, RUNTIME, TOOLS, Up, children, lives, until  # noqa: E402
+from tests.library.cases import Case
+from tests.library.up_kit import LAUNCHER, RUNTIME, TOOLS, Up, children, lives, until
 
 # A command with a teardown that takes a while.
 TIDY = '''import sys, time
@@ -45,100 +41,12 @@ def running(script):
     return up
 
 
-def interrupts():
-    for name, send in (("its group is interrupted", os.killpg), ("it alone is interrupted", os.kill)):
-        up = running(TIDY)
-        send(up.process.pid, signal.SIGINT)
-        up.process.wait(30)
-        torn_down = is_there(up, "torn_down")
-        check(f"if {name}, the command ends by itself", (up.end(None), torn_down), ((2, []), True))
-    up = running(STUBBORN)
-    up.process.send_signal(signal.SIGINT)
-    up.until("Ctrl-C again ends it")
-    time.sleep(0.5)
-    check("a command that goes on is waited for", up.process.poll(), None)
-    check("a second Ctrl-C ends it", up.end(signal.SIGINT), (128 + signal.SIGTERM, []))
-
-
-def in_a_terminal():
-    up = Up(command=["--", "true"], files={"tidy.py": TIDY})  # (for its folder)
-    up.process.wait(30)
-    child, terminal = pty.fork()
-    if child == 0:
-        os.chdir(up.at)
-        os.execv(LAUNCHER, [LAUNCHER, "up", "up.json", "--", sys.executable, "tidy.py"])
-    until(lambda: is_there(up, "running"), 30)
-    os.write(terminal, b"\x03")
-    try:
-        while os.read(terminal, 4096):
-            pass
-    except OSError:
-        pass  # (the end of a terminal)
-    _, status = os.waitpid(child, 0)
-    os.close(terminal)
-    check("in a terminal Ctrl-C leaves time for the command's end",
-          (os.WEXITSTATUS(status), is_there(up, "torn_down")), (2, True))
-    check("nothing is left of it", up.end(None), (0, []))
-
-
-def killed():
-    for name, words in (("while it serves", []), ("while a command runs", ["--", sys.executable, "tidy.py"])):
-        up = Up(command=words,
-                files={"tidy.py": TIDY, "x": "#!/bin/sh\nsleep 1000 & sleep 1000\n"},
-                environments=2,
-                extensions={"x": ["./x"]})
-        until(lambda: len(children(up.process.pid)) >= 9, 30)
-        below = children(up.process.pid)
-        folder = next(word for pid in below for word in command_of(pid) if word.endswith("configuration.json"))
-        check(f"kill -9 {name}: there are processes and a file to leave", (len(below) >= 9, os.path.exists(folder)),
-              (True, True))
-        up.process.kill()
-        gone = until(lambda: not any(map(lives, below)), 5)
-        check(f"kill -9 {name} leaves no process", gone, shown=[command_of(pid) for pid in below if lives(pid)])
-        check(f"kill -9 {name} leaves no file", until(lambda: not os.path.exists(os.path.dirname(folder)), 5))
-        up.end(None)
-
-
 def command_of(pid):
     try:
         with open(f"/proc/{pid}/cmdline") as file:
             return file.read().split("\0")
     except OSError:
         return []
-
-
-def credentials():
-    real = {
-        "AWS_ACCESS_KEY_ID": "real", "AWS_SECRET_ACCESS_KEY": "real", "AWS_SESSION_TOKEN": "real",
-        "AWS_PROFILE": "production",
-        "AWS_REGION": "eu-west-1", "AWS_DEFAULT_REGION": "eu-west-1", "AWS_IGNORE_CONFIGURED_ENDPOINT_URLS": "true"
-    }
-    seen = variables_of([], real)
-    for who, values in zip(("the command", "the function"), seen):
-        check(f"{who} has dummy credentials",
-              (values.get("AWS_ACCESS_KEY_ID"), values.get("AWS_SECRET_ACCESS_KEY"), values.get("AWS_PROFILE")),
-              ("local", "local", None))
-        check(f"{who} has no real token", values.get("AWS_SESSION_TOKEN") != "real")
-        check(f"{who} has the configuration's region", (values.get("AWS_REGION"), values.get("AWS_DEFAULT_REGION")),
-              ("us-west-2", "us-west-2"))
-        check(f"{who} is led here",
-              ("127.0.0.1" in values["AWS_ENDPOINT_URL_LAMBDA"], values.get("AWS_IGNORE_CONFIGURED_ENDPOINT_URLS")),
-              (True, "false"))
-    check("true, numbers and texts are variables as in JSON", [seen[1].get(name) for name in "TNX"],
-          ["true", "1.5", "x"])
-    for who, values in zip(("the command", "the function"), variables_of(["--keep-credentials"], real)):
-        check(f"{who} keeps credentials if asked",
-              [values.get(name) for name in ("AWS_ACCESS_KEY_ID", "AWS_SESSION_TOKEN", "AWS_PROFILE")],
-              ["real", "real", "production"])
-        check(f"{who} has the region all the same", values.get("AWS_REGION"), "us-west-2")
-
-
-def proxies():
-    """A proxy that the shell names gets no payload: curl, as most clients, would send it there."""
-    real = {"http_proxy": "http://127.0.0.1:9", "HTTP_PROXY": "http://127.0.0.1:9", "no_proxy": "example.org"}
-    for who, values in zip(("the command", "the function"), variables_of([], real)):
-        check(f"{who} passes a proxy by", (values.get("no_proxy"), values.get("NO_PROXY")),
-              2 * ("example.org,127.0.0.1,localhost",))
 
 
 def variables_of(options, real):
@@ -155,54 +63,6 @@ def variables_of(options, real):
     return json.loads(own), json.loads(function)
 
 
-def old_clients():
-    for versions, wanted in ((("2.9.19", "1.26.27"), ["aws 2.9 ignores", "boto3 1.26 ignores"]),
-                             (("1.22.34", "1.28.0"), ["aws 1.22 ignores"]), (("2.13.0", "1.43.1"), [])):
-        with tempfile.TemporaryDirectory() as folder:
-            with open(os.path.join(folder, "aws"), "w") as file:
-                file.write(f"#!/bin/sh\necho aws-cli/{versions[0]} Python/3.11.2 Linux/6.1 source/x86_64\n")
-            os.chmod(os.path.join(folder, "aws"), 0o755)
-            os.mkdir(os.path.join(folder, f"boto3-{versions[1]}.dist-info"))
-            with open(os.path.join(folder, f"boto3-{versions[1]}.dist-info", "METADATA"), "w") as file:
-                file.write(f"Metadata-Version: 2.1\nName: boto3\nVersion: {versions[1]}\n")
-            up = Up(environ={**os.environ, "PATH": folder + os.pathsep + os.environ["PATH"], "PYTHONPATH": folder})
-            up.until("[up] ready")
-            for words in wanted:
-                up.until(words, 10)
-            time.sleep(0 if wanted else 2)
-            check(f"aws {versions[0]} and boto3 {versions[1]}",
-                  sorted(re.findall(r"\b(?:aws|boto3) [0-9.]+ ignores", "\n".join(up.lines))), wanted)
-            up.end()
-
-
-def identifiers():
-    seen = []
-    for options, whole in (((), {}), ((), {}), (("--salt", str(0x0123456789ABCDEF)), {"salt": 7}), ((), {"salt": 7})):
-        up = Up(*options,
-                whole=whole,
-                command=["--", "sh", "-c",
-                         'curl -s -d "{}" $AWS_ENDPOINT_URL_LAMBDA/2015-03-31/functions/f/invocations'])
-        up.end(None)
-        seen.append(next(re.findall(r"\[f/1\] (\S+) ok", line)[0] for line in up.lines if " ok " in line))
-    check("two runs have other identifiers", seen[0] != seen[1])
-    check("--salt gives them again", seen[2], "01234567-89ab-8def-8001-000000000001")
-    check("so does UP.json", seen[3], "00000000-0000-8007-8001-000000000001")
-
-
-def taken_ports():
-    with socket.socket() as listener:
-        listener.bind(("127.0.0.1", 0))
-        listener.listen()
-        port = listener.getsockname()[1]
-        for name, more in (("invokePort", {"whole": {"invokePort": port}}), ("function f", {"ports": [0, port]})):
-            up = Up(**more)
-            status = up.end(None)
-            check(f"a taken port of {name} is named", (status, up.lines),
-                  ((4, []),
-                   [f"up: up.json: port {port} ({name}): another program listens there: "
-                    "leave the port out, and a free one is used"]))
-
-
 def is_answered(up):
     """Whether an invocation gets its output: once the history is full it gets 500, or waits for the stop."""
     try:
@@ -215,60 +75,190 @@ def is_answered(up):
     return True
 
 
-def full_history():
-    up = Up(whole={"maxEntries": 600})
-    up.until("[up] ready")
-    until(lambda: not is_answered(up), 60)
-    check("a history that is nearly full is told", up.until("of its 600 entries", 5))
-    check("so is a full one", up.until("answered 500 `Journal is full`", 5))
-    check("each of them once", (up.count("of its 600 entries"), up.count("answered 500 `Journal is full`")), (1, 1))
-    check("and all ends in order", up.end(), (0, []))
+class UpCommand(Case):
+    def test_interrupts(self):
+        for name, send in (("its group is interrupted", os.killpg), ("it alone is interrupted", os.kill)):
+            up = running(TIDY)
+            send(up.process.pid, signal.SIGINT)
+            up.process.wait(30)
+            torn_down = is_there(up, "torn_down")
+            self.check(f"if {name}, the command ends by itself", (up.end(None), torn_down), ((2, []), True))
+        up = running(STUBBORN)
+        up.process.send_signal(signal.SIGINT)
+        up.until("Ctrl-C again ends it")
+        time.sleep(0.5)
+        self.check("a command that goes on is waited for", up.process.poll(), None)
+        self.check("a second Ctrl-C ends it", up.end(signal.SIGINT), (128 + signal.SIGTERM, []))
 
+    def test_in_a_terminal(self):
+        up = Up(command=["--", "true"], files={"tidy.py": TIDY})  # (for its folder)
+        up.process.wait(30)
+        child, terminal = pty.fork()
+        if child == 0:
+            os.chdir(up.at)
+            os.execv(LAUNCHER, [LAUNCHER, "up", "up.json", "--", sys.executable, "tidy.py"])
+        until(lambda: is_there(up, "running"), 30)
+        os.write(terminal, b"\x03")
+        try:
+            while os.read(terminal, 4096):
+                pass
+        except OSError:
+            pass  # (the end of a terminal)
+        _, status = os.waitpid(child, 0)
+        os.close(terminal)
+        self.check("in a terminal Ctrl-C leaves time for the command's end",
+                   (os.WEXITSTATUS(status), is_there(up, "torn_down")), (2, True))
+        self.check("nothing is left of it", up.end(None), (0, []))
 
-def other_ends():
-    up = Up()
-    up.until("[up] ready")
-    up.get("/_local/stop", b"", "POST")
-    check("a stop from outside is no fault", (up.end(None), up.has("the service was stopped by POST /_local/stop")),
-          ((0, []), True))
-    up = Up(command=["pytest", "-x"])
-    check("a command without -- is told", (up.end(None), up.lines),
-          ((2, []), ["up: write -- before the command: lambda_local up up.json -- pytest -x"]))
-    up = Up("--ready", "1", command=["--", "true"], extensions={"late": ["sleep", "100"]})
-    check("what is not ready is told with who is waited for",
-          (up.end(None)[0], up.has("not ready after 1 s: f/1, which waited for its extension late, which must register "
-                                   "by this name")),
-          (5, True))
-    up = Up("--ready", "10", command=["--", "true"],
-            functions=[{"name": "f", "command": [*RUNTIME[:2], "nothing.run"]}])
-    check("and with why its Init fails",
-          (up.end(None)[0], up.has("not ready after 10 s: f/1, whose Init fails: Runtime.ImportModuleError")),
-          (5, True))
+    def test_killed(self):
+        for name, words in (("while it serves", []), ("while a command runs", ["--", sys.executable, "tidy.py"])):
+            up = Up(command=words,
+                    files={"tidy.py": TIDY, "x": "#!/bin/sh\nsleep 1000 & sleep 1000\n"},
+                    environments=2,
+                    extensions={"x": ["./x"]})
+            until(lambda: len(children(up.process.pid)) >= 9, 30)
+            below = children(up.process.pid)
+            folder = next(word for pid in below for word in command_of(pid) if word.endswith("configuration.json"))
+            self.check(f"kill -9 {name}: there are processes and a file to leave",
+                       (len(below) >= 9, os.path.exists(folder)),
+                       (True, True))
+            up.process.kill()
+            gone = until(lambda: not any(map(lives, below)), 5)
+            self.check(f"kill -9 {name} leaves no process", gone, shown=[command_of(pid) for pid in below
+                                                                         if lives(pid)])
+            self.check(f"kill -9 {name} leaves no file", until(lambda: not os.path.exists(os.path.dirname(folder)), 5))
+            up.end(None)
 
+    def test_credentials(self):
+        real = {
+            "AWS_ACCESS_KEY_ID": "real", "AWS_SECRET_ACCESS_KEY": "real", "AWS_SESSION_TOKEN": "real",
+            "AWS_PROFILE": "production",
+            "AWS_REGION": "eu-west-1", "AWS_DEFAULT_REGION": "eu-west-1", "AWS_IGNORE_CONFIGURED_ENDPOINT_URLS": "true"
+        }
+        seen = variables_of([], real)
+        for who, values in zip(("the command", "the function"), seen):
+            self.check(f"{who} has dummy credentials",
+                       (values.get("AWS_ACCESS_KEY_ID"), values.get("AWS_SECRET_ACCESS_KEY"),
+                        values.get("AWS_PROFILE")),
+                       ("local", "local", None))
+            self.check(f"{who} has no real token", values.get("AWS_SESSION_TOKEN") != "real")
+            self.check(f"{who} has the configuration's region", (values.get("AWS_REGION"),
+                                                                 values.get("AWS_DEFAULT_REGION")),
+                       ("us-west-2", "us-west-2"))
+            self.check(f"{who} is led here",
+                       ("127.0.0.1" in values["AWS_ENDPOINT_URL_LAMBDA"],
+                        values.get("AWS_IGNORE_CONFIGURED_ENDPOINT_URLS")),
+                       (True, "false"))
+        self.check("true, numbers and texts are variables as in JSON", [seen[1].get(name) for name in "TNX"],
+                   ["true", "1.5", "x"])
+        for who, values in zip(("the command", "the function"), variables_of(["--keep-credentials"], real)):
+            self.check(f"{who} keeps credentials if asked",
+                       [values.get(name) for name in ("AWS_ACCESS_KEY_ID", "AWS_SESSION_TOKEN", "AWS_PROFILE")],
+                       ["real", "real", "production"])
+            self.check(f"{who} has the region all the same", values.get("AWS_REGION"), "us-west-2")
 
-def runtimes():
-    node = "export const run = async (event, context) => ({ name: context.functionName, hello: event.name });\n"
-    python = "def run(event, context):\n    return {'name': context.function_name, 'hello': event['name']}\n"
-    functions = [{"name": "snake", "runtime": "python", "handler": "app.run"},
-                 {"name": "node", "runtime": "node", "handler": "index.run"}]
-    up = Up(functions=functions, app=python, files={"index.mjs": node})
-    up.until("[up] ready")
-    for name in ("snake", "node"):
-        check(f"the bundled runtime of {name}", up.invoke(name, name="Ada")[0], {"name": name, "hello": "Ada"})
-    check("nothing is left of bundled runtimes", up.end(), (0, []))
-    with tempfile.TemporaryDirectory() as folder:
-        path = os.path.join(folder, "up.json")
-        with open(path, "w") as file:
-            json.dump({"functions": functions[1:]}, file)
-        done = subprocess.run([sys.executable, TOOLS, "up", path],
-                              env={**os.environ, "PATH": folder},
-                              capture_output=True,
-                              text=True)
-        check("a node that is not here is named", (done.returncode, done.stderr),
-              (4, f'up: {path}: function node: "runtime": "node" needs the program node, which is '
-               "not on PATH: install it, or write a command\n"))
+    def test_proxies(self):
+        """A proxy that the shell names gets no payload: curl, as most clients, would send it there."""
+        real = {"http_proxy": "http://127.0.0.1:9", "HTTP_PROXY": "http://127.0.0.1:9", "no_proxy": "example.org"}
+        for who, values in zip(("the command", "the function"), variables_of([], real)):
+            self.check(f"{who} passes a proxy by", (values.get("no_proxy"), values.get("NO_PROXY")),
+                       2 * ("example.org,127.0.0.1,localhost",))
 
+    def test_old_clients(self):
+        for versions, wanted in ((("2.9.19", "1.26.27"), ["aws 2.9 ignores", "boto3 1.26 ignores"]),
+                                 (("1.22.34", "1.28.0"), ["aws 1.22 ignores"]), (("2.13.0", "1.43.1"), [])):
+            with tempfile.TemporaryDirectory() as folder:
+                with open(os.path.join(folder, "aws"), "w") as file:
+                    file.write(f"#!/bin/sh\necho aws-cli/{versions[0]} Python/3.11.2 Linux/6.1 source/x86_64\n")
+                os.chmod(os.path.join(folder, "aws"), 0o755)
+                os.mkdir(os.path.join(folder, f"boto3-{versions[1]}.dist-info"))
+                with open(os.path.join(folder, f"boto3-{versions[1]}.dist-info", "METADATA"), "w") as file:
+                    file.write(f"Metadata-Version: 2.1\nName: boto3\nVersion: {versions[1]}\n")
+                up = Up(environ={**os.environ, "PATH": folder + os.pathsep + os.environ["PATH"], "PYTHONPATH": folder})
+                up.until("[up] ready")
+                for words in wanted:
+                    up.until(words, 10)
+                time.sleep(0 if wanted else 2)
+                self.check(f"aws {versions[0]} and boto3 {versions[1]}",
+                           sorted(re.findall(r"\b(?:aws|boto3) [0-9.]+ ignores", "\n".join(up.lines))), wanted)
+                up.end()
 
-if __name__ == "__main__":
-    sys.exit(counted.run(interrupts, in_a_terminal, killed, credentials, proxies, old_clients, identifiers, taken_ports,
-                         full_history, other_ends, runtimes))
+    def test_identifiers(self):
+        seen = []
+        for options, whole in (((), {}), ((), {}), (("--salt", str(0x0123456789ABCDEF)), {"salt": 7}),
+                               ((), {"salt": 7})):
+            up = Up(*options,
+                    whole=whole,
+                    command=["--", "sh", "-c",
+                             'curl -s -d "{}" $AWS_ENDPOINT_URL_LAMBDA/2015-03-31/functions/f/invocations'])
+            up.end(None)
+            seen.append(next(re.findall(r"\[f/1\] (\S+) ok", line)[0] for line in up.lines if " ok " in line))
+        self.check("two runs have other identifiers", seen[0] != seen[1])
+        self.check("--salt gives them again", seen[2], "01234567-89ab-8def-8001-000000000001")
+        self.check("so does UP.json", seen[3], "00000000-0000-8007-8001-000000000001")
+
+    def test_taken_ports(self):
+        with socket.socket() as listener:
+            listener.bind(("127.0.0.1", 0))
+            listener.listen()
+            port = listener.getsockname()[1]
+            for name, more in (("invokePort", {"whole": {"invokePort": port}}), ("function f", {"ports": [0, port]})):
+                up = Up(**more)
+                status = up.end(None)
+                self.check(f"a taken port of {name} is named", (status, up.lines),
+                           ((4, []),
+                            [f"up: up.json: port {port} ({name}): another program listens there: "
+                             "leave the port out, and a free one is used"]))
+
+    def test_full_history(self):
+        up = Up(whole={"maxEntries": 600})
+        up.until("[up] ready")
+        until(lambda: not is_answered(up), 60)
+        self.check("a history that is nearly full is told", up.until("of its 600 entries", 5))
+        self.check("so is a full one", up.until("answered 500 `Journal is full`", 5))
+        self.check("each of them once", (up.count("of its 600 entries"), up.count("answered 500 `Journal is full`")),
+                   (1, 1))
+        self.check("and all ends in order", up.end(), (0, []))
+
+    def test_other_ends(self):
+        up = Up()
+        up.until("[up] ready")
+        up.get("/_local/stop", b"", "POST")
+        self.check("a stop from outside is no fault",
+                   (up.end(None), up.has("the service was stopped by POST /_local/stop")),
+                   ((0, []), True))
+        up = Up(command=["pytest", "-x"])
+        self.check("a command without -- is told", (up.end(None), up.lines),
+                   ((2, []), ["up: write -- before the command: lambda_local up up.json -- pytest -x"]))
+        up = Up("--ready", "1", command=["--", "true"], extensions={"late": ["sleep", "100"]})
+        self.check("what is not ready is told with who is waited for",
+                   (up.end(None)[0], up.has("not ready after 1 s: f/1, which waited for its extension late, which must "
+                                            "register by this name")),
+                   (5, True))
+        up = Up("--ready", "10", command=["--", "true"],
+                functions=[{"name": "f", "command": [*RUNTIME[:2], "nothing.run"]}])
+        self.check("and with why its Init fails",
+                   (up.end(None)[0], up.has("not ready after 10 s: f/1, whose Init fails: Runtime.ImportModuleError")),
+                   (5, True))
+
+    def test_runtimes(self):
+        node = "export const run = async (event, context) => ({ name: context.functionName, hello: event.name });\n"
+        python = "def run(event, context):\n    return {'name': context.function_name, 'hello': event['name']}\n"
+        functions = [{"name": "snake", "runtime": "python", "handler": "app.run"},
+                     {"name": "node", "runtime": "node", "handler": "index.run"}]
+        up = Up(functions=functions, app=python, files={"index.mjs": node})
+        up.until("[up] ready")
+        for name in ("snake", "node"):
+            self.check(f"the bundled runtime of {name}", up.invoke(name, name="Ada")[0], {"name": name, "hello": "Ada"})
+        self.check("nothing is left of bundled runtimes", up.end(), (0, []))
+        with tempfile.TemporaryDirectory() as folder:
+            path = os.path.join(folder, "up.json")
+            with open(path, "w") as file:
+                json.dump({"functions": functions[1:]}, file)
+            done = subprocess.run([sys.executable, TOOLS, "up", path],
+                                  env={**os.environ, "PATH": folder},
+                                  capture_output=True,
+                                  text=True)
+            self.check("a node that is not here is named", (done.returncode, done.stderr),
+                       (4, f'up: {path}: function node: "runtime": "node" needs the program node, which is '
+                        "not on PATH: install it, or write a command\n"))

@@ -1,23 +1,18 @@
-#!/usr/bin/env python3
 """Checks what lambda_local up says and does when functions fail: a line for each invocation, Inits that fail,
-extensions that exit. The program is LAMBDA_LOCAL_PROGRAM, else ./lambda_local. Ends with 'N passed, M failed'."""
+extensions that exit. The program is LAMBDA_LOCAL_PROGRAM, else ./lambda_local."""
 import json
 import os
 import pty
 import re
 import subprocess
-import sys
 import threading
 import time
 
-ROOT = os.path.dirname(os.path.dirname(os.path.dirname(os.path.realpath(__file__))))
-sys.path[:0] = [os.path.join(ROOT, "tools"), os.path.join(ROOT, "tests", "library")]
-import counted  # noqa: E402
-from counted import check  # noqa: E402
-from lambda_local.history import opened  # noqa: E402
-from lambda_local.up.reports import Report  # noqa: E402
-from lambda_local.up.restarts import Restarts  # noqa: E402
-from up_kit import LAUNCHER, RUNTIME, Up, until  # noqa: E402
+from lambda_local.history import opened
+from lambda_local.up.reports import Report
+from lambda_local.up.restarts import Restarts
+from tests.library.cases import Case
+from tests.library.up_kit import LAUNCHER, RUNTIME, Up, until
 
 REQUEST = "[0-9a-f]{8}-[0-9a-f]{4}-8[0-9a-f]{3}-8[0-9a-f]{3}-[0-9a-f]{12}"
 # Reports a failed Init as Lambda's runtime clients do, and exits.
@@ -56,157 +51,6 @@ def failing(*options, **members):
     return Up(*options, functions=[function], files={"failing": FAILING, "report.json": json.dumps(REPORT)})
 
 
-def init_failures():
-    late = Up(extensions={"late": ["sleep", "100"]})  # (its Init takes 10 s to fail)
-    four, two = failing(environments=4), failing("--reload", environments=2, watch=["mended"])
-    check("a failed Init is told with type, message and place",
-          until(lambda: four.count(r"\[f/[1-4]\] Init failed Runtime\.ImportModuleError: Unable to import module x "
-                                   r"\(app\.py:3\)$"), 10))
-    check("and with its trace", four.until("import x", 5))
-    check("it is started again after a pause", four.until("started again in 1 s", 10))
-    answer, took = four.invoke()
-    # (Without it, after the Init's 10 s.)
-    check("a caller in a pause hears the report at once", (answer, took < 5), ("Runtime.ImportModuleError", True))
-    reload_until_mended(two)
-    time.sleep(max(0, starts(four)[0] + 10 - time.time()))
-    seen = sum(1 for moment in starts(four) if moment < starts(four)[0] + 10)
-    check("four environments start at most 20 times in 10 s", 8 <= seen <= 20, shown=seen)
-    check("nothing is left of failing Inits", four.end(), (0, []))
-    check("an Init that takes too long names who was waited for",
-          late.until("Init failed: timed out after 10 s, which waited for its extension late, which must register by "
-                     "this name", 20))
-    check("nothing is left of late ones", late.end(), (0, []))
-
-
-def reload_until_mended(up):
-    check("with --reload the third failed Init waits for a file",
-          until(lambda: up.count("started again when a file changes") == 2, 20))
-    seen = len(starts(up))
-    answer, took = up.invoke()
-    check("its callers hear the report at once", (answer, took < 5), ("Runtime.ImportModuleError", True))
-    time.sleep(1.5)
-    check("nothing starts until then", (seen, len(starts(up))), (6, 6))
-    mended(up)
-    check("a change starts it again", until(lambda: isinstance(up.invoke()[0], int), 10))
-    check("nothing is left of mended ones", up.end(), (0, []))
-
-
-def pauses():
-    restarts, seen = Restarts(False), []
-    for _ in range(6):
-        restarts.note(True)
-        seen.append(restarts.pause)
-    check("pauses behind early ends in a row", seen, [0, 1, 2, 4, 5, 5])
-    restarts.note(False)
-    check("one that ends well makes no pause", restarts.pause, 0)
-    check("without --reload no change is waited for", restarts.needs_a_change, False)
-
-
-def crashing_extension():
-    up = Up("--ready", "5", command=["--", "true"], extensions={"bad": ["sh", "-c", "exit 4"]})
-    check("an extension that exits in Init", up.end(None)[0], 5)
-    check("is told in one line each time",
-          up.count(r"\[f/1\].* bad: Extension exited") == up.count(r"\[f/1\].*Extension exited") > 1)
-    check("as a failed Init", up.count(r"-- Init failed: f/1 bad: Extension exited with error: exit status 4$") > 1)
-
-
-def reset_and_stop(**members):
-    """The entries of two timeouts of a function with these members, how many milliseconds each reset takes, and how
-    many seconds the stop."""
-    up = Up(functions=[{"name": "f", "command": RUNTIME, "timeout": 1, **members}], files={"exiting": EXITING})
-    up.until("[up] ready")
-    seen = [up.invoke(do=do)[0] for do in ("hang", "", "hang", "")]
-    check("two timeouts are each followed by a new process", (seen[::2], [type(answer) for answer in seen[1::2]]),
-          (2 * ["Function.Timeout"], 2 * [int]))
-    entries = list(opened(up.history())[1])
-    ends = [number for number, entry in enumerate(entries) if any(answer.kind == "timeout" for answer in entry.answers)]
-    resets = [entries[end:next(entry.number for entry in entries[end:] if entry.kind == "register") + 1]
-              for end in ends]
-    begun = time.monotonic()
-    up.process.terminate()
-    up.process.wait(40)
-    stop = time.monotonic() - begun
-    check("nothing is left of them", up.end(None), (0, []))
-    return entries, resets, [reset[-1].moment - reset[0].moment for reset in resets], stop
-
-
-def extensions():
-    _, _, plain, plain_stop = reset_and_stop()
-    entries, resets, took, stop = reset_and_stop(extensions={"exiting": ["./exiting"]})
-    check("the extension is told each end",
-          [answer.kind for reset in resets for answer in reset[0].answers].count("shutdown"), 2 * 2)
-    check("no registration is refused",
-          [entry.own.kind for entry in entries if entry.kind == "register"].count("refused"), 0)
-    check("no reset lasts until its deadline", [entry.kind for reset in resets for entry in reset[1:]].count("expire"),
-          0)
-    # (A machine that does much else is slow without an extension as well.)
-    check("resets with an extension that exits take under 0.4 s", max(took) < max(400, 8 * max(plain)),
-          shown=(took, plain))
-    stops = [(stop, plain_stop)]
-    while stops[-1][0] >= max(0.4, 2.5 * stops[-1][1]) and len(stops) < 3:
-        stops.append((reset_and_stop(extensions={"exiting": ["./exiting"]})[3], reset_and_stop()[3]))
-    check("and so does a stop", stops[-1][0] < max(0.4, 2.5 * stops[-1][1]), shown=stops)
-
-
-def lines():
-    up = Up(functions=[{"name": "f", "command": RUNTIME, "timeout": 1}, {"name": "none", "ports": [0], "reserved": 0}])
-    up.until("[up] ready")
-    for event in ({}, {"do": "fail"}, {"do": "hang"}, {"do": "crash"}):
-        up.invoke(**event)
-    for _ in range(5):
-        up.invoke("none", patience=0)
-    wanted = {"an invocation": r"ok \d+ ms", "an error": r"error KeyError: 'missing' \(app\.py:7\)",
-              "a timeout": "timeout after 1 s",
-              "a crash": "error Runtime.ExitError: Runtime exited with error: exit status 7"}
-    for name, pattern in wanted.items():
-        check(f"a line for {name}",
-              until(lambda: up.count(rf"^\d\d:\d\d:\d\d\.\d{{3}} \[f/1\] {REQUEST} {pattern}$"), 5)
-              and up.count(f"{REQUEST} {pattern}"), 1)
-    check("one line for a burst of throttles", up.until("[none] throttled 5 times: reserved concurrency", 5))
-    check("and no other", up.count("throttled"), 1 + up.count("admitted"))
-    check("a line names the request as the history does",
-          re.findall(f"({REQUEST}) ok", "\n".join(up.lines))[0] in up.history())
-    check("nothing is left of lines", up.end(), (0, []))
-
-
-def as_json():
-    up = Up("--log",
-            "json",
-            functions=[{"name": "f", "command": RUNTIME, "timeout": 1}],
-            app="import sys\ndef run(event):\n    print('from here')\n    return {}['x']\n")
-    up.until('"ready"')
-    up.invoke()
-    up.until("from here")
-    up.until('"invocation"')
-    check("nothing is left of JSON", up.end(), (0, []))
-    seen = [json.loads(line) for line in up.lines]
-    check("each line is an object with its time, level, kind, source and text",
-          all({"time", "level", "kind", "source", "text"} <= set(line) for line in seen))
-    invocation = next(line for line in seen if line["kind"] == "invocation")
-    wanted = {
-        "source": "f/1", "level": "error", "function": "f", "environment": 1, "status": "error",
-        "errorType": "KeyError", "errorMessage": "'x'", "place": "app.py:4"
-    }
-    check("an invocation has members of its own", {name: invocation.get(name) for name in wanted}, wanted)
-    check("a time is in UTC", bool(re.fullmatch(r"\d{4}-\d\d-\d\dT\d\d:\d\d:\d\d\.\d{3}Z", invocation["time"])))
-    check("what the function prints",
-          [line["source"] for line in seen if line["kind"] == "output" and line["text"] == "from here"], ["f/1"])
-
-
-def quietly():
-    up = Up("--quiet",
-            functions=[{"name": "f", "command": RUNTIME, "timeout": 1}],
-            app="def run(event):\n    print('from here')\n    return event['x']\n")
-    up.until("AWS_ENDPOINT_URL_LAMBDA")
-    check("quietly it serves", up.invoke(x=1)[0], 1)
-    up.invoke()
-    up.until("error KeyError")
-    check("nothing is left of the quiet one", up.end(), (0, []))
-    check("what is printed and what fails is told", (up.has("from here"), up.has("error KeyError: 'x' (app.py:3)")),
-          (True, True))
-    check("all else is not", [line for line in up.lines if " ok " in line or "ready" in line or "admitted" in line], [])
-
-
 def on_a_terminal(**variables):
     """What lambda_local up writes to a terminal."""
     master, slave = pty.openpty()
@@ -236,11 +80,6 @@ def on_a_terminal(**variables):
     return b"".join(written).decode()
 
 
-def colours():
-    check("on a terminal an ok is green", bool(re.search(rf"\x1b\[32m{REQUEST} ok \d+ ms\x1b\[0m", on_a_terminal())))
-    check("not if NO_COLOR is set", "\x1b" in on_a_terminal(NO_COLOR="1"), False)
-
-
 def trace(*frames):
     return {"errorType": "E", "errorMessage": "m", "stackTrace": list(frames)}
 
@@ -265,24 +104,177 @@ REPORTS = {
 }
 
 
-def reports():
-    for name, (body, wanted) in REPORTS.items():
-        check(f"a report {name}", str(Report(json.dumps(body).encode(), "/at")), wanted)
-    check("a report that is no JSON", str(Report(b"it broke", "/at")), "it broke")
+class UpFailures(Case):
+    def test_init_failures(self):
+        late = Up(extensions={"late": ["sleep", "100"]})  # (its Init takes 10 s to fail)
+        four, two = failing(environments=4), failing("--reload", environments=2, watch=["mended"])
+        self.check("a failed Init is told with type, message and place",
+                   until(lambda: four.count(r"\[f/[1-4]\] Init failed Runtime\.ImportModuleError: Unable to import "
+                                            r"module x \(app\.py:3\)$"), 10))
+        self.check("and with its trace", four.until("import x", 5))
+        self.check("it is started again after a pause", four.until("started again in 1 s", 10))
+        answer, took = four.invoke()
+        # (Without it, after the Init's 10 s.)
+        self.check("a caller in a pause hears the report at once", (answer, took < 5),
+                   ("Runtime.ImportModuleError", True))
+        self.reload_until_mended(two)
+        time.sleep(max(0, starts(four)[0] + 10 - time.time()))
+        seen = sum(1 for moment in starts(four) if moment < starts(four)[0] + 10)
+        self.check("four environments start at most 20 times in 10 s", 8 <= seen <= 20, shown=seen)
+        self.check("nothing is left of failing Inits", four.end(), (0, []))
+        self.check("an Init that takes too long names who was waited for",
+                   late.until("Init failed: timed out after 10 s, which waited for its extension late, which must "
+                              "register by this name", 20))
+        self.check("nothing is left of late ones", late.end(), (0, []))
 
+    def reload_until_mended(self, up):
+        self.check("with --reload the third failed Init waits for a file",
+                   until(lambda: up.count("started again when a file changes") == 2, 20))
+        seen = len(starts(up))
+        answer, took = up.invoke()
+        self.check("its callers hear the report at once", (answer, took < 5), ("Runtime.ImportModuleError", True))
+        time.sleep(1.5)
+        self.check("nothing starts until then", (seen, len(starts(up))), (6, 6))
+        mended(up)
+        self.check("a change starts it again", until(lambda: isinstance(up.invoke()[0], int), 10))
+        self.check("nothing is left of mended ones", up.end(), (0, []))
 
-def told_once():
-    """The trace that the bundled runtime has printed of a failed Init is not told again."""
-    up = Up("--ready", "3", command=("--", "true"), app='def helper():\n    return {}["missing"]\nhelper()\n',
-            functions=[{"name": "f", "runtime": "python", "handler": "app.run"}])
-    up.until("not ready after")
-    up.end(None)
-    check("a failed Init is told in a line", up.count(r"Init failed KeyError: 'missing' \(app\.py:2\)$") > 0)
-    # (a trace that tools/up tells is indented by two more)
-    check("its trace is the runtime's", (up.count(r"\]     helper\(\)$") > 0, up.count(r"\]       helper\(\)$")),
-          (True, 0))
+    def test_pauses(self):
+        restarts, seen = Restarts(False), []
+        for _ in range(6):
+            restarts.note(True)
+            seen.append(restarts.pause)
+        self.check("pauses behind early ends in a row", seen, [0, 1, 2, 4, 5, 5])
+        restarts.note(False)
+        self.check("one that ends well makes no pause", restarts.pause, 0)
+        self.check("without --reload no change is waited for", restarts.needs_a_change, False)
 
+    def test_crashing_extension(self):
+        up = Up("--ready", "5", command=["--", "true"], extensions={"bad": ["sh", "-c", "exit 4"]})
+        self.check("an extension that exits in Init", up.end(None)[0], 5)
+        self.check("is told in one line each time",
+                   up.count(r"\[f/1\].* bad: Extension exited") == up.count(r"\[f/1\].*Extension exited") > 1)
+        self.check("as a failed Init",
+                   up.count(r"-- Init failed: f/1 bad: Extension exited with error: exit status 4$") > 1)
 
-if __name__ == "__main__":
-    sys.exit(counted.run(pauses, reports, lines, as_json, quietly, colours, crashing_extension, extensions,
-                         init_failures, told_once))
+    def reset_and_stop(self, **members):
+        """The entries of two timeouts of a function with these members, how many milliseconds each reset takes, and how
+        many seconds the stop."""
+        up = Up(functions=[{"name": "f", "command": RUNTIME, "timeout": 1, **members}], files={"exiting": EXITING})
+        up.until("[up] ready")
+        seen = [up.invoke(do=do)[0] for do in ("hang", "", "hang", "")]
+        self.check("two timeouts are each followed by a new process",
+                   (seen[::2], [type(answer) for answer in seen[1::2]]),
+                   (2 * ["Function.Timeout"], 2 * [int]))
+        entries = list(opened(up.history())[1])
+        ends = [number for number, entry in enumerate(entries) if any(answer.kind == "timeout"
+                                                                      for answer in entry.answers)]
+        resets = [entries[end:next(entry.number for entry in entries[end:] if entry.kind == "register") + 1]
+                  for end in ends]
+        begun = time.monotonic()
+        up.process.terminate()
+        up.process.wait(40)
+        stop = time.monotonic() - begun
+        self.check("nothing is left of them", up.end(None), (0, []))
+        return entries, resets, [reset[-1].moment - reset[0].moment for reset in resets], stop
+
+    def test_extensions(self):
+        _, _, plain, plain_stop = self.reset_and_stop()
+        entries, resets, took, stop = self.reset_and_stop(extensions={"exiting": ["./exiting"]})
+        self.check("the extension is told each end",
+                   [answer.kind for reset in resets for answer in reset[0].answers].count("shutdown"), 2 * 2)
+        self.check("no registration is refused",
+                   [entry.own.kind for entry in entries if entry.kind == "register"].count("refused"), 0)
+        self.check("no reset lasts until its deadline",
+                   [entry.kind for reset in resets for entry in reset[1:]].count("expire"),
+                   0)
+        # (A machine that does much else is slow without an extension as well.)
+        self.check("resets with an extension that exits take under 0.4 s", max(took) < max(400, 8 * max(plain)),
+                   shown=(took, plain))
+        stops = [(stop, plain_stop)]
+        while stops[-1][0] >= max(0.4, 2.5 * stops[-1][1]) and len(stops) < 3:
+            stops.append((self.reset_and_stop(extensions={"exiting": ["./exiting"]})[3], self.reset_and_stop()[3]))
+        self.check("and so does a stop", stops[-1][0] < max(0.4, 2.5 * stops[-1][1]), shown=stops)
+
+    def test_lines(self):
+        up = Up(functions=[{"name": "f", "command": RUNTIME, "timeout": 1}, {"name": "none", "ports": [0],
+                                                                             "reserved": 0}])
+        up.until("[up] ready")
+        for event in ({}, {"do": "fail"}, {"do": "hang"}, {"do": "crash"}):
+            up.invoke(**event)
+        for _ in range(5):
+            up.invoke("none", patience=0)
+        wanted = {"an invocation": r"ok \d+ ms", "an error": r"error KeyError: 'missing' \(app\.py:7\)",
+                  "a timeout": "timeout after 1 s",
+                  "a crash": "error Runtime.ExitError: Runtime exited with error: exit status 7"}
+        for name, pattern in wanted.items():
+            self.check(f"a line for {name}",
+                       until(lambda: up.count(rf"^\d\d:\d\d:\d\d\.\d{{3}} \[f/1\] {REQUEST} {pattern}$"), 5)
+                       and up.count(f"{REQUEST} {pattern}"), 1)
+        self.check("one line for a burst of throttles", up.until("[none] throttled 5 times: reserved concurrency", 5))
+        self.check("and no other", up.count("throttled"), 1 + up.count("admitted"))
+        self.check("a line names the request as the history does",
+                   re.findall(f"({REQUEST}) ok", "\n".join(up.lines))[0] in up.history())
+        self.check("nothing is left of lines", up.end(), (0, []))
+
+    def test_as_json(self):
+        up = Up("--log",
+                "json",
+                functions=[{"name": "f", "command": RUNTIME, "timeout": 1}],
+                app="import sys\ndef run(event):\n    print('from here')\n    return {}['x']\n")
+        up.until('"ready"')
+        up.invoke()
+        up.until("from here")
+        up.until('"invocation"')
+        self.check("nothing is left of JSON", up.end(), (0, []))
+        seen = [json.loads(line) for line in up.lines]
+        self.check("each line is an object with its time, level, kind, source and text",
+                   all({"time", "level", "kind", "source", "text"} <= set(line) for line in seen))
+        invocation = next(line for line in seen if line["kind"] == "invocation")
+        wanted = {
+            "source": "f/1", "level": "error", "function": "f", "environment": 1, "status": "error",
+            "errorType": "KeyError", "errorMessage": "'x'", "place": "app.py:4"
+        }
+        self.check("an invocation has members of its own", {name: invocation.get(name) for name in wanted}, wanted)
+        self.check("a time is in UTC", bool(re.fullmatch(r"\d{4}-\d\d-\d\dT\d\d:\d\d:\d\d\.\d{3}Z",
+                                                         invocation["time"])))
+        self.check("what the function prints",
+                   [line["source"] for line in seen if line["kind"] == "output" and line["text"] == "from here"],
+                   ["f/1"])
+
+    def test_quietly(self):
+        up = Up("--quiet",
+                functions=[{"name": "f", "command": RUNTIME, "timeout": 1}],
+                app="def run(event):\n    print('from here')\n    return event['x']\n")
+        up.until("AWS_ENDPOINT_URL_LAMBDA")
+        self.check("quietly it serves", up.invoke(x=1)[0], 1)
+        up.invoke()
+        up.until("error KeyError")
+        self.check("nothing is left of the quiet one", up.end(), (0, []))
+        self.check("what is printed and what fails is told",
+                   (up.has("from here"), up.has("error KeyError: 'x' (app.py:3)")),
+                   (True, True))
+        self.check("all else is not", [line for line in up.lines if " ok " in line or "ready" in line
+                                       or "admitted" in line], [])
+
+    def test_colours(self):
+        self.check("on a terminal an ok is green", bool(re.search(rf"\x1b\[32m{REQUEST} ok \d+ ms\x1b\[0m",
+                                                                  on_a_terminal())))
+        self.check("not if NO_COLOR is set", "\x1b" in on_a_terminal(NO_COLOR="1"), False)
+
+    def test_reports(self):
+        for name, (body, wanted) in REPORTS.items():
+            self.check(f"a report {name}", str(Report(json.dumps(body).encode(), "/at")), wanted)
+        self.check("a report that is no JSON", str(Report(b"it broke", "/at")), "it broke")
+
+    def test_told_once(self):
+        """The trace that the bundled runtime has printed of a failed Init is not told again."""
+        up = Up("--ready", "3", command=("--", "true"), app='def helper():\n    return {}["missing"]\nhelper()\n',
+                functions=[{"name": "f", "runtime": "python", "handler": "app.run"}])
+        up.until("not ready after")
+        up.end(None)
+        self.check("a failed Init is told in a line", up.count(r"Init failed KeyError: 'missing' \(app\.py:2\)$") > 0)
+        # (a trace that tools/up tells is indented by two more)
+        self.check("its trace is the runtime's", (up.count(r"\]     helper\(\)$") > 0,
+                                                  up.count(r"\]       helper\(\)$")),
+                   (True, 0))

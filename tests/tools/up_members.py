@@ -1,19 +1,15 @@
-#!/usr/bin/env python3
 """Checks what lambda_local up says about an invalid UP.json: one line that names file, function and member, status 2,
-and nothing left behind. The program is LAMBDA_LOCAL_PROGRAM, else ./lambda_local. Ends with 'N passed, M failed'."""
+and nothing left behind. The program is LAMBDA_LOCAL_PROGRAM, else ./lambda_local."""
 import glob
 import json
 import os
 import subprocess
-import sys
 import tempfile
 
-ROOT = os.path.dirname(os.path.dirname(os.path.dirname(os.path.realpath(__file__))))
-sys.path[:0] = [os.path.join(ROOT, "tools"), os.path.join(ROOT, "tests", "library")]
-import counted  # noqa: E402
-from counted import check  # noqa: E402
-from lambda_local.configuration import SENTENCES, explained  # noqa: E402
-from up_kit import LAUNCHER  # noqa: E402
+from lambda_local.configuration import SENTENCES, explained
+from tests import ROOT
+from tests.library.cases import Case
+from tests.library.up_kit import LAUNCHER
 
 
 def told(text, folder, *options):
@@ -111,53 +107,6 @@ OF_SERVICE = {
 }
 
 
-def mistakes():
-    with tempfile.TemporaryDirectory() as folder:
-        for name, (members, line) in OF_FUNCTION.items():
-            seen = told({"functions": [{"name": "greet", "command": ["true"], **members}]}, folder)
-            check(name, seen, (2, [f"up: up.json: function greet: {line}"]))
-        for name, (members, line) in OF_SERVICE.items():
-            check(name, told({"functions": [{"name": "a"}], **members}, folder), (2, [f"up: up.json: {line}"]))
-        check("no functions", told({}, folder),
-              (2, ["up: up.json: there is no functions, which must be a list of objects"]))
-        check("a list", told([1], folder),
-              (2, ['up: up.json: it must be an object with a list of "functions", not [1]']))
-        check("no JSON is told with line and column", told('{"functions": [}', folder),
-              (2, ["up: up.json: this is not JSON: Expecting value: line 1 column 16 (char 15)"]))
-        for name, text in {"a million brackets": "[" * 1_000_000, "101 levels": "[" * 101 + "]" * 101}.items():
-            status, lines = told(text, folder)
-            check(f"{name} are told in a line",
-                  (status, [line.startswith("up: up.json: this is not JSON: it is nested too deep") for line in lines]),
-                  (2, [True]))
-        check("nothing is left of them", sorted(os.listdir(folder)), ["up.json"])
-
-
-def absent():
-    one = {"functions": [{"name": "greet", "command": ["./none"]}]}
-    with tempfile.TemporaryDirectory() as folder:
-        check("an absent program", told(one, folder),
-              (4, [f"up: up.json: function greet: ./none is not a program (looked for in {folder}/)"]))
-        one["functions"][0].update(command=["true"], directory="none")
-        check("an absent folder", told(one, folder),
-              (2, [f"up: up.json: function greet: directory: there is no folder {folder}/none"]))
-        del one["functions"][0]["directory"]
-        check("--debug of none", told(one, folder, "--debug", "x"),
-              (2, ["up: --debug x: up.json has no such function with a command"]))
-        status, lines = told(one, folder, "--salt", "x")
-        check("a salt that is none", (status, lines[-1]),
-              (2, "lambda_local up: error: argument --salt: invalid whole number below 2^64 value: 'x'"))
-        status, lines = told(one, folder, "--relaod")
-        check("an option that is none", (status, "there is no option --relaod" in lines[-1]), (2, True))
-        os.remove(os.path.join(folder, "up.json"))
-        words = [LAUNCHER, "up", "none.json"]
-        done = subprocess.run(words, cwd=folder, capture_output=True, text=True)
-        check("an absent file", (done.returncode, done.stderr),
-              (2, "up: none.json: No such file or directory: name a file as `lambda_local up --help` describes it\n"))
-        done = subprocess.run([*words, "--log", "json"], cwd=folder, capture_output=True, text=True)
-        check("a fault in JSON", (json.loads(done.stderr)["status"], json.loads(done.stderr)["level"]), (2, "error"))
-        check("nothing is left of those", os.listdir(folder), [])
-
-
 # Of each fault of docs/formats.md a configuration that has it, and words that the sentence must have.
 FAULTS = {
     "BadAccount": ({"account": "1"}, "12 digits"),
@@ -194,31 +143,75 @@ FAULTS = {
 }
 
 
-def faults():
-    """The service gives each of these names to a configuration that has it, and each is explained."""
-    # (the program itself: the launcher explains what it refuses)
-    program = subprocess.run([LAUNCHER, "path"], stdout=subprocess.PIPE, text=True, check=True).stdout.rstrip("\n")
-    with tempfile.TemporaryDirectory() as folder:
-        for name, (members, words) in FAULTS.items():
-            whole = {"account": "123456789012", "region": "us-east-1", "functions": [{"name": "a", "ports": [1]}],
-                     **members}
-            path = os.path.join(folder, "service.json")
-            with open(path, "w") as file:
-                json.dump(whole, file)
-            done = subprocess.run([program, "serve", path], capture_output=True, text=True, timeout=60)
-            check(f"the service says {name}", done.stderr.splitlines()[-1:], [f"configuration: {name}"])
-            check(f"{name} is explained", words in explained(name, whole), shown=explained(name, whole))
-    check("all of them", set(FAULTS), set(SENTENCES))
-    check("a name that nobody knows is not explained", explained("Other", {"functions": []}), "")
-
-
-def examples():
-    for path in glob.glob(os.path.join(ROOT, "examples", "**", "up*.json"), recursive=True):
+class UpMembers(Case):
+    def test_mistakes(self):
         with tempfile.TemporaryDirectory() as folder:
-            done = subprocess.run([LAUNCHER, "up", path, "--", "true"], cwd=folder, capture_output=True,
-                                  text=True, timeout=60)
-            check(f"{os.path.relpath(path, ROOT)} runs", done.returncode, 0)
+            for name, (members, line) in OF_FUNCTION.items():
+                seen = told({"functions": [{"name": "greet", "command": ["true"], **members}]}, folder)
+                self.check(name, seen, (2, [f"up: up.json: function greet: {line}"]))
+            for name, (members, line) in OF_SERVICE.items():
+                self.check(name, told({"functions": [{"name": "a"}], **members}, folder), (2, [f"up: up.json: {line}"]))
+            self.check("no functions", told({}, folder),
+                       (2, ["up: up.json: there is no functions, which must be a list of objects"]))
+            self.check("a list", told([1], folder),
+                       (2, ['up: up.json: it must be an object with a list of "functions", not [1]']))
+            self.check("no JSON is told with line and column", told('{"functions": [}', folder),
+                       (2, ["up: up.json: this is not JSON: Expecting value: line 1 column 16 (char 15)"]))
+            for name, text in {"a million brackets": "[" * 1_000_000, "101 levels": "[" * 101 + "]" * 101}.items():
+                status, lines = told(text, folder)
+                self.check(f"{name} are told in a line",
+                           (status, [line.startswith("up: up.json: this is not JSON: it is nested too deep")
+                                     for line in lines]),
+                           (2, [True]))
+            self.check("nothing is left of them", sorted(os.listdir(folder)), ["up.json"])
 
+    def test_absent(self):
+        one = {"functions": [{"name": "greet", "command": ["./none"]}]}
+        with tempfile.TemporaryDirectory() as folder:
+            self.check("an absent program", told(one, folder),
+                       (4, [f"up: up.json: function greet: ./none is not a program (looked for in {folder}/)"]))
+            one["functions"][0].update(command=["true"], directory="none")
+            self.check("an absent folder", told(one, folder),
+                       (2, [f"up: up.json: function greet: directory: there is no folder {folder}/none"]))
+            del one["functions"][0]["directory"]
+            self.check("--debug of none", told(one, folder, "--debug", "x"),
+                       (2, ["up: --debug x: up.json has no such function with a command"]))
+            status, lines = told(one, folder, "--salt", "x")
+            self.check("a salt that is none", (status, lines[-1]),
+                       (2, "lambda_local up: error: argument --salt: invalid whole number below 2^64 value: 'x'"))
+            status, lines = told(one, folder, "--relaod")
+            self.check("an option that is none", (status, "there is no option --relaod" in lines[-1]), (2, True))
+            os.remove(os.path.join(folder, "up.json"))
+            words = [LAUNCHER, "up", "none.json"]
+            done = subprocess.run(words, cwd=folder, capture_output=True, text=True)
+            self.check("an absent file", (done.returncode, done.stderr),
+                       (2, "up: none.json: No such file or directory: name a file as `lambda_local up --help` "
+                           "describes it\n"))
+            done = subprocess.run([*words, "--log", "json"], cwd=folder, capture_output=True, text=True)
+            self.check("a fault in JSON", (json.loads(done.stderr)["status"], json.loads(done.stderr)["level"]),
+                       (2, "error"))
+            self.check("nothing is left of those", os.listdir(folder), [])
 
-if __name__ == "__main__":
-    sys.exit(counted.run(mistakes, absent, faults, examples))
+    def test_faults(self):
+        """The service gives each of these names to a configuration that has it, and each is explained."""
+        # (the program itself: the launcher explains what it refuses)
+        program = subprocess.run([LAUNCHER, "path"], stdout=subprocess.PIPE, text=True, check=True).stdout.rstrip("\n")
+        with tempfile.TemporaryDirectory() as folder:
+            for name, (members, words) in FAULTS.items():
+                whole = {"account": "123456789012", "region": "us-east-1", "functions": [{"name": "a", "ports": [1]}],
+                         **members}
+                path = os.path.join(folder, "service.json")
+                with open(path, "w") as file:
+                    json.dump(whole, file)
+                done = subprocess.run([program, "serve", path], capture_output=True, text=True, timeout=60)
+                self.check(f"the service says {name}", done.stderr.splitlines()[-1:], [f"configuration: {name}"])
+                self.check(f"{name} is explained", words in explained(name, whole), shown=explained(name, whole))
+        self.check("all of them", set(FAULTS), set(SENTENCES))
+        self.check("a name that nobody knows is not explained", explained("Other", {"functions": []}), "")
+
+    def test_examples(self):
+        for path in glob.glob(os.path.join(ROOT, "examples", "**", "up*.json"), recursive=True):
+            with tempfile.TemporaryDirectory() as folder:
+                done = subprocess.run([LAUNCHER, "up", path, "--", "true"], cwd=folder, capture_output=True,
+                                      text=True, timeout=60)
+                self.check(f"{os.path.relpath(path, ROOT)} runs", done.returncode, 0)

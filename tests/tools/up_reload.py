@@ -1,17 +1,12 @@
-#!/usr/bin/env python3
 """Checks which files --reload watches, that equal paths are walked once, and that a change of UP.json is reported. The
-program is LAMBDA_LOCAL_PROGRAM, else ./lambda_local. Ends with 'N passed, M failed'."""
+program is LAMBDA_LOCAL_PROGRAM, else ./lambda_local."""
 import os
-import sys
 import tempfile
 import types
 
-ROOT = os.path.dirname(os.path.dirname(os.path.dirname(os.path.realpath(__file__))))
-sys.path[:0] = [os.path.join(ROOT, "tools"), os.path.join(ROOT, "tests", "library")]
-import counted  # noqa: E402
-from counted import check  # noqa: E402
-from lambda_local.up import reload  # noqa: E402
-from up_kit import RUNTIME, Up  # noqa: E402
+from lambda_local.up import reload
+from tests.library.cases import Case
+from tests.library.up_kit import RUNTIME, Up
 
 # By gitignore(5): the last pattern that matches decides; one with a slash is of its own folder; one that ends with a
 # slash is of folders.
@@ -29,53 +24,49 @@ def seen_below(root, **members):
     return {os.path.relpath(path, root) for path in reload.Files(function).times()}
 
 
-def watched():
-    with tempfile.TemporaryDirectory() as root:
-        for name in FILES:
-            os.makedirs(os.path.dirname(os.path.join(root, name)), exist_ok=True)
-            with open(os.path.join(root, name), "w") as file:
-                file.write("x")
-        check("without .gitignore", seen_below(root) & {"a.log", "only_here", "generated/x.py", "dist/app.js"},
-              {"a.log", "only_here", "generated/x.py"})
-        with open(os.path.join(root, ".gitignore"), "w") as file:
-            file.write(GITIGNORE)
-        check("with one", seen_below(root), {name for name, is_watched in FILES.items() if is_watched})
-        check("what the handler names is watched", "dist/app.js" in seen_below(root, handler="dist/app.handler"))
-        check("and what the command names", "generated/x.py" in seen_below(root, command=["./generated/x.py"]))
-        check("a folder that is watched by name", seen_below(os.path.join(root, "dist")), {"app.js"})
-        check("a file that is watched by name", len(reload.times([os.path.join(root, "a.log")])), 1)
-        check("what is not there", reload.times([os.path.join(root, "nothing")]), {})
-        os.symlink(root, os.path.join(root, "lib", "loop"))
-        check("a link to a folder above ends", "lib/x.py" in seen_below(root))
+class UpReload(Case):
+    def test_watched(self):
+        with tempfile.TemporaryDirectory() as root:
+            for name in FILES:
+                os.makedirs(os.path.dirname(os.path.join(root, name)), exist_ok=True)
+                with open(os.path.join(root, name), "w") as file:
+                    file.write("x")
+            self.check("without .gitignore", seen_below(root) & {"a.log", "only_here", "generated/x.py", "dist/app.js"},
+                       {"a.log", "only_here", "generated/x.py"})
+            with open(os.path.join(root, ".gitignore"), "w") as file:
+                file.write(GITIGNORE)
+            self.check("with one", seen_below(root), {name for name, is_watched in FILES.items() if is_watched})
+            self.check("what the handler names is watched", "dist/app.js" in seen_below(root,
+                                                                                        handler="dist/app.handler"))
+            self.check("and what the command names", "generated/x.py" in seen_below(root, command=["./generated/x.py"]))
+            self.check("a folder that is watched by name", seen_below(os.path.join(root, "dist")), {"app.js"})
+            self.check("a file that is watched by name", len(reload.times([os.path.join(root, "a.log")])), 1)
+            self.check("what is not there", reload.times([os.path.join(root, "nothing")]), {})
+            os.symlink(root, os.path.join(root, "lib", "loop"))
+            self.check("a link to a folder above ends", "lib/x.py" in seen_below(root))
 
+    def test_one_walk(self):
+        with tempfile.TemporaryDirectory() as root:
+            functions = [types.SimpleNamespace(name=name, watch=[root], handler=handler, command=["x"])
+                         for name, handler in (("a", "app.run"), ("b", "app.run"), ("c", "other.run"))]
+            walks, walk = [], reload.Files.walk
+            reload.Files.walk = lambda self, *words: (walks.append(self), walk(self, *words))[1]
+            try:
+                looker = reload.Reload([], None, None, None, os.path.join(root, "up.json"))
+                looker.look({function.name: reload.Files(function) for function in functions})
+            finally:
+                reload.Files.walk = walk
+            self.check("functions with the same files are walked once", len(walks), 2)
 
-def one_walk():
-    with tempfile.TemporaryDirectory() as root:
-        functions = [types.SimpleNamespace(name=name, watch=[root], handler=handler, command=["x"])
-                     for name, handler in (("a", "app.run"), ("b", "app.run"), ("c", "other.run"))]
-        walks, walk = [], reload.Files.walk
-        reload.Files.walk = lambda self, *words: (walks.append(self), walk(self, *words))[1]
-        try:
-            looker = reload.Reload([], None, None, None, os.path.join(root, "up.json"))
-            looker.look({function.name: reload.Files(function) for function in functions})
-        finally:
-            reload.Files.walk = walk
-        check("functions with the same files are walked once", len(walks), 2)
-
-
-def under_up():
-    up = Up("--reload", functions=[{"name": "f", "command": RUNTIME}], files={".gitignore": "data\n"})
-    up.until("[up] ready")
-    up.write("data", "changed")
-    with open(os.path.join(up.at, "up.json"), "a") as file:
-        file.write("\n")
-    check("a change of UP.json is reported", up.until("up.json has changed: start anew to use it", 20))
-    check("and what is ignored begins nothing anew", up.has("begins anew"), False)
-    with open(os.path.join(up.at, "app.py"), "a") as file:
-        file.write("# changed\n")
-    check("a change of the code does", up.until("f begins anew: app.py changed", 20))
-    check("nothing is left", up.end(), (0, []))
-
-
-if __name__ == "__main__":
-    sys.exit(counted.run(watched, one_walk, under_up))
+    def test_under_up(self):
+        up = Up("--reload", functions=[{"name": "f", "command": RUNTIME}], files={".gitignore": "data\n"})
+        up.until("[up] ready")
+        up.write("data", "changed")
+        with open(os.path.join(up.at, "up.json"), "a") as file:
+            file.write("\n")
+        self.check("a change of UP.json is reported", up.until("up.json has changed: start anew to use it", 20))
+        self.check("and what is ignored begins nothing anew", up.has("begins anew"), False)
+        with open(os.path.join(up.at, "app.py"), "a") as file:
+            file.write("# changed\n")
+        self.check("a change of the code does", up.until("f begins anew: app.py changed", 20))
+        self.check("nothing is left", up.end(), (0, []))

@@ -1,19 +1,15 @@
-#!/usr/bin/env python3
 """Checks environments beyond a function's least number: parallel callers, fan-out, a function that calls itself, an
 Init that fails, reserved concurrency, and that idle ones end. The program is LAMBDA_LOCAL_PROGRAM, else
-./lambda_local. Ends with 'N passed, M failed'."""
+./lambda_local."""
 import json
 import os
-import sys
 import threading
 
-ROOT = os.path.dirname(os.path.dirname(os.path.dirname(os.path.realpath(__file__))))
-sys.path[:0] = [os.path.join(ROOT, "tools"), os.path.join(ROOT, "tests", "library")]
-import counted  # noqa: E402
-from counted import check  # noqa: E402
-from lambda_local.history import opened  # noqa: E402
-from lambda_local.life import Life  # noqa: E402
-from up_kit import Up, lives, until  # noqa: E402
+from lambda_local.history import opened
+from lambda_local.life import Life
+from tests import ROOT
+from tests.library.cases import Case
+from tests.library.up_kit import Up, lives, until
 
 RUNTIME = os.path.join(ROOT, "examples", "runtime.sh")  # (which starts soon, also on a busy machine)
 # The event is how long it takes, and how often it calls itself; the output names the processes.
@@ -55,53 +51,6 @@ def processes(answers):
     return {pid for answer in answers if isinstance(answer, list) for pid in answer}
 
 
-def callers():
-    up = scaled({"min": 1, "max": 4, "idle": 4})
-    check("the least number is ready", up.until("[up] ready", 60))
-    check("no other is started", (up.has("is started"), up.invoke()[1] < 20), (False, True))
-    seen = at_once(up, 4, sleep=3)
-    check("four callers at once get four processes", len(processes(seen)), 4)
-    seen = up.invoke(depth=3)[0]
-    check("a function that calls itself three times", len(processes([seen])), 4)
-    seen = at_once(up, 6, sleep=8)
-    check("more than there can be are throttled", sorted(answer for answer in seen if isinstance(answer, str)),
-          ["status 429", "status 429"])
-    entries = list(opened(up.history())[1])
-    check("no Init has expired", [entry.kind for entry in entries if entry.kind == "expire"], [])
-    check("idle ones end",
-          until(lambda: up.count(r"\[f/[234]\] -- ends, since it had no work for 4 s") >= 3, 40))
-    check("but for the least number", up.count(r"\[f/1\] -- ends"), 0)
-    settle(up)
-    first = up.invoke()[0][0]
-    check("their processes go", until(lambda: not [pid for pid in processes(seen) if lives(pid) and pid != first], 20))
-    check("and come again when they are needed", len(processes(at_once(up, 2, sleep=3))), 2)
-    check("nothing is left of them", up.end(), (0, []))
-
-
-def from_nothing():
-    up = scaled({"min": 0, "max": 2})
-    check("with none at the start it is ready at once", up.until("[up] ready", 60))
-    check("the first caller waits for a process, and no longer", isinstance(up.invoke()[0], list))
-    settle(up)
-    first = up.invoke()[0][0]
-    settle(up)
-    up.write("broken", "")
-    os.kill(first, 9)
-    check("one whose Init fails", (until(lambda: up.has("Runtime exited with error: signal 9"), 10), up.invoke()[0]),
-          (True, "Runtime.ExitError"))
-    os.remove(os.path.join(up.at, "broken"))
-    check("and is mended", until(lambda: isinstance(up.invoke()[0], list), 20))
-    check("nothing is left of it", up.end(), (0, []))
-
-
-def reserved():
-    up = scaled({"min": 1, "max": 4}, reserved=2)
-    up.until("[up] ready", 60)
-    seen = at_once(up, 4, sleep=4)
-    check("reserved concurrency is exact", (len(processes(seen)), seen.count("status 429")), (2, 2))
-    check("nothing is left of reserved ones", up.end(), (0, []))
-
-
 CONFIGURATION = {"account": "123456789012", "region": "us-east-1", "functions": [
     {"name": "f", "ports": [9001, 9002, 9003], "extensions": ["x"]}, {"name": "g", "ports": [9004]}]}
 # By the rules of docs/semantics.md: on the lowest-numbered Starting environment without an invocation.
@@ -118,15 +67,58 @@ HISTORY = """0 invoke f - - =1
 """
 
 
-def placement():
-    life = Life(CONFIGURATION)
-    seen = []
-    for entry in opened("form 2\n{}\n" + HISTORY)[1]:
-        list(life.take(entry))
-        seen.append([number for number, environment in life.environments.items() if environment.is_bound])
-    check("where invocations are bound", seen, [[1], [1, 4], [1, 2, 4], [1, 2, 3, 4], [1, 2, 3, 4], [1, 3, 4],
-                                                [1, 2, 3, 4]])
+class UpScaling(Case):
+    def test_callers(self):
+        up = scaled({"min": 1, "max": 4, "idle": 4})
+        self.check("the least number is ready", up.until("[up] ready", 60))
+        self.check("no other is started", (up.has("is started"), up.invoke()[1] < 20), (False, True))
+        seen = at_once(up, 4, sleep=3)
+        self.check("four callers at once get four processes", len(processes(seen)), 4)
+        seen = up.invoke(depth=3)[0]
+        self.check("a function that calls itself three times", len(processes([seen])), 4)
+        seen = at_once(up, 6, sleep=8)
+        self.check("more than there can be are throttled", sorted(answer for answer in seen if isinstance(answer, str)),
+                   ["status 429", "status 429"])
+        entries = list(opened(up.history())[1])
+        self.check("no Init has expired", [entry.kind for entry in entries if entry.kind == "expire"], [])
+        self.check("idle ones end",
+                   until(lambda: up.count(r"\[f/[234]\] -- ends, since it had no work for 4 s") >= 3, 40))
+        self.check("but for the least number", up.count(r"\[f/1\] -- ends"), 0)
+        settle(up)
+        first = up.invoke()[0][0]
+        self.check("their processes go", until(lambda: not [pid for pid in processes(seen) if lives(pid)
+                                                            and pid != first], 20))
+        self.check("and come again when they are needed", len(processes(at_once(up, 2, sleep=3))), 2)
+        self.check("nothing is left of them", up.end(), (0, []))
 
+    def test_from_nothing(self):
+        up = scaled({"min": 0, "max": 2})
+        self.check("with none at the start it is ready at once", up.until("[up] ready", 60))
+        self.check("the first caller waits for a process, and no longer", isinstance(up.invoke()[0], list))
+        settle(up)
+        first = up.invoke()[0][0]
+        settle(up)
+        up.write("broken", "")
+        os.kill(first, 9)
+        self.check("one whose Init fails", (until(lambda: up.has("Runtime exited with error: signal 9"), 10),
+                                            up.invoke()[0]),
+                   (True, "Runtime.ExitError"))
+        os.remove(os.path.join(up.at, "broken"))
+        self.check("and is mended", until(lambda: isinstance(up.invoke()[0], list), 20))
+        self.check("nothing is left of it", up.end(), (0, []))
 
-if __name__ == "__main__":
-    sys.exit(counted.run(placement, callers, from_nothing, reserved))
+    def test_reserved(self):
+        up = scaled({"min": 1, "max": 4}, reserved=2)
+        up.until("[up] ready", 60)
+        seen = at_once(up, 4, sleep=4)
+        self.check("reserved concurrency is exact", (len(processes(seen)), seen.count("status 429")), (2, 2))
+        self.check("nothing is left of reserved ones", up.end(), (0, []))
+
+    def test_placement(self):
+        life = Life(CONFIGURATION)
+        seen = []
+        for entry in opened("form 2\n{}\n" + HISTORY)[1]:
+            list(life.take(entry))
+            seen.append([number for number, environment in life.environments.items() if environment.is_bound])
+        self.check("where invocations are bound", seen, [[1], [1, 4], [1, 2, 4], [1, 2, 3, 4], [1, 2, 3, 4], [1, 3, 4],
+                                                         [1, 2, 3, 4]])

@@ -1,0 +1,61 @@
+"""unittest cases whose checks are printed one by one and counted: one that fails hides none of the next. What a module
+of them prints ends with the line 'N passed, M failed'."""
+import atexit
+import textwrap
+import unittest
+from typing import Any, List, Optional, Tuple
+
+from tests.library import counted
+
+MOST_COMPARED = 2000  # characters of what is compared line by line
+
+
+class Case(unittest.TestCase):
+    """What a test does is seen in its checks. A class of very many says only how many of each test have passed."""
+
+    maxDiff = None
+    prints_each = True
+
+    def check(self, name: str, seen: object, wanted: object = True, *, shown: object = None) -> None:
+        """Checks in a subtest whether what was seen is what is expected, prints that, and counts it."""
+        with self.subTest(name):
+            try:
+                self.compare(name, seen, wanted, shown)
+            except Exception as fault:
+                print("FAIL", name + "\n" + textwrap.indent(str(fault), "     "), flush=True)
+                raise
+            counted.passed += 1
+            if self.prints_each:
+                print("ok  ", name, flush=True)
+
+    def compare(self, name: str, seen: object, wanted: object, shown: object) -> None:
+        """Raises what differs, if anything does; of values of several lines or members, line by line."""
+        fault = counted.difference(name, seen, wanted, shown)
+        if fault is None:
+            return
+        are_alike = type(seen) is type(wanted) and isinstance(seen, (str, list, tuple, dict))
+        if are_alike and 80 < len(fault) < MOST_COMPARED:
+            self.assertEqual(seen, wanted, fault)
+        self.fail(fault)
+
+    def run(self, result: Optional[unittest.TestResult] = None) -> Optional[unittest.TestResult]:
+        """Runs the test, counts what failed, and prints what ended it before its time, or why it was skipped."""
+        result = self.defaultTestResult() if result is None else result
+        before, skipped, checks = len(faults_of(result)), len(result.skipped), counted.passed
+        super().run(result)
+        for _, reason in result.skipped[skipped:]:
+            print(f"note {self._testMethodName} is skipped: {reason}", flush=True)
+        for test, trace in faults_of(result)[before:]:
+            counted.failed += 1
+            if test is self:
+                print(f"FAIL {self._testMethodName} runs to its end\n" + textwrap.indent(trace, "     "), flush=True)
+        if not self.prints_each:
+            print(f"ok   {self._testMethodName}: {counted.passed - checks}", flush=True)
+        return result
+
+
+def faults_of(result: unittest.TestResult) -> List[Tuple[Any, str]]:
+    return [*result.failures, *result.errors]
+
+
+atexit.register(counted.end)
