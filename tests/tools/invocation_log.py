@@ -162,8 +162,7 @@ class InvocationLog(Case):
         lines, report = parts(log)
         self.check("a timeout", (lines[0], bool(re.fullmatch(
             rf"\d{{4}}-\d\d-\d\dT\d\d:\d\d:\d\d\.\d\d\dZ {ID} Task timed out after 2\.00 seconds", lines[1])),
-                                 report[-2:],
-            2000 <= float(report[0]) < 3000), ("before", True, ("timeout", None), True))
+            report[-2:], 2000 <= float(report[0]) < 3000), ("before", True, ("timeout", None), True))
         up.until("Runtime exited")
 
     def test_together(self):

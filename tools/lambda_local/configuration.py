@@ -119,8 +119,8 @@ def repeated(values: Iterable[Hashable]) -> Optional[Hashable]:
 
 def first(functions: List[Members], is_wrong: Callable[[Members], bool]) -> Tuple[Members, str]:
     """The first function of which this holds, and its name in a sentence."""
-    found = next(member for member in functions if is_wrong(member))
-    return found, f"function {found['name']}: "
+    function = next(member for member in functions if is_wrong(member))
+    return function, f"function {function['name']}: "
 
 
 def bad_least_remainder(whole: Members, functions: List[Members]) -> str:
@@ -135,18 +135,18 @@ def duplicate_name(whole: Members, functions: List[Members]) -> str:
 
 
 def bad_name(whole: Members, functions: List[Members]) -> str:
-    found, _ = first(functions, lambda member: not re.fullmatch(r"[A-Za-z0-9_-]{1,64}", member["name"]))
-    return f"function {shown(found['name'])}: a name has 1 to 64 of A-Z, a-z, 0-9, - and _"
+    function, _ = first(functions, lambda member: not re.fullmatch(r"[A-Za-z0-9_-]{1,64}", member["name"]))
+    return f"function {shown(function['name'])}: a name has 1 to 64 of A-Z, a-z, 0-9, - and _"
 
 
 def bad_handler(whole: Members, functions: List[Members]) -> str:
-    found, where = first(functions, lambda member: not is_label(member.get("handler", "index.handler")))
-    return f"{where}handler must have 1 to 128 printable ASCII characters, not {shown(found['handler'])}"
+    function, where = first(functions, lambda member: not is_label(member.get("handler", "index.handler")))
+    return f"{where}handler must have 1 to 128 printable ASCII characters, not {shown(function['handler'])}"
 
 
 def bad_timeout(whole: Members, functions: List[Members]) -> str:
-    found, where = first(functions, lambda member: not 1 <= member.get("timeout", 3) <= 900)
-    return f"{where}timeout must be from 1 to 900 seconds, not {found['timeout']}"
+    function, where = first(functions, lambda member: not 1 <= member.get("timeout", 3) <= 900)
+    return f"{where}timeout must be from 1 to 900 seconds, not {function['timeout']}"
 
 
 def no_environment(whole: Members, functions: List[Members]) -> str:
@@ -180,24 +180,24 @@ def duplicate_port(whole: Members, functions: List[Members]) -> str:
 
 
 def too_many_extensions(whole: Members, functions: List[Members]) -> str:
-    found, where = first(functions, lambda member: len(member.get("extensions", [])) > 10)
-    return f"{where}{len(found['extensions'])} extensions: ten are the most"
+    function, where = first(functions, lambda member: len(member.get("extensions", [])) > 10)
+    return f"{where}{len(function['extensions'])} extensions: ten are the most"
 
 
 def bad_extension(whole: Members, functions: List[Members]) -> str:
-    found, where = first(functions, lambda member: not all(map(is_label, member.get("extensions", []))))
-    name = next(name for name in found["extensions"] if not is_label(name))
+    function, where = first(functions, lambda member: not all(map(is_label, member.get("extensions", []))))
+    name = next(name for name in function["extensions"] if not is_label(name))
     return f"{where}the name of an extension has 1 to 128 printable ASCII characters, not {shown(name)}"
 
 
 def duplicate_extension(whole: Members, functions: List[Members]) -> str:
-    found, where = first(functions, lambda member: repeated(member.get("extensions", [])) is not None)
-    return f"{where}the extension {shown(repeated(found['extensions']))} appears twice"
+    function, where = first(functions, lambda member: repeated(member.get("extensions", [])) is not None)
+    return f"{where}the extension {shown(repeated(function['extensions']))} appears twice"
 
 
 def reservation_above_environments(whole: Members, functions: List[Members]) -> str:
-    found, where = first(functions, lambda member: bool(member.get("reserved", 0) > len(member["ports"])))
-    return (f"{where}it reserves {found['reserved']} and has {len(found['ports'])} environments: "
+    function, where = first(functions, lambda member: bool(member.get("reserved", 0) > len(member["ports"])))
+    return (f"{where}it reserves {function['reserved']} and has {len(function['ports'])} environments: "
             "reserve at most as many, or give it more")
 
 

@@ -99,8 +99,8 @@ class Entry(NamedTuple):
 
 def text_of(fields: Sequence[str]) -> Optional[bytes]:
     """The last text field, decoded; none if there is none."""
-    found = next((field for field in reversed(fields) if field.startswith("=")), None)
-    return None if found is None else decoded(found)
+    field_of_text = next((field for field in reversed(fields) if field.startswith("=")), None)
+    return None if field_of_text is None else decoded(field_of_text)
 
 
 def decoded(field: str) -> bytes:

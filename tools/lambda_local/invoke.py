@@ -46,12 +46,12 @@ def samples() -> Dict[str, str]:
 
 
 def sample(kind: str) -> bytes:
-    found = samples()
-    if kind not in found:
-        near = difflib.get_close_matches(kind, found, 1, 0.5)
+    files = samples()
+    if kind not in files:
+        near = difflib.get_close_matches(kind, files, 1, 0.5)
         raise Fault(2, f"--sample {kind}: " + (f"did you mean {near[0]}? " if near else "") + "there are "
-                    + ", ".join(found))
-    with open(found[kind], "rb") as file:
+                    + ", ".join(files))
+    with open(files[kind], "rb") as file:
         return file.read()
 
 
@@ -128,12 +128,12 @@ def address_of(given: Optional[str]) -> Tuple[str, int, str]:
 
 
 def headers_of(options: argparse.Namespace) -> Dict[str, str]:
-    found = {"Content-Type": "application/json"}
+    headers = {"Content-Type": "application/json"}
     if options.event:
-        found["X-Amz-Invocation-Type"] = "Event"
+        headers["X-Amz-Invocation-Type"] = "Event"
     if options.tail:
-        found["X-Amz-Log-Type"] = "Tail"
-    return found
+        headers["X-Amz-Log-Type"] = "Tail"
+    return headers
 
 
 def ask(options: argparse.Namespace, payload: bytes) -> Answer:

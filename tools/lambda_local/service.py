@@ -50,15 +50,15 @@ class NoProgram(Fault):
 
 def program_path(given: Optional[str] = None) -> str:
     """The program that a tool starts."""
-    found = given or os.environ.get("LAMBDA_LOCAL_PROGRAM") or own_program()
-    path = shutil.which(found)
+    program = given or os.environ.get("LAMBDA_LOCAL_PROGRAM") or own_program()
+    path = shutil.which(program)
     if not path:
-        raise NoProgram(f"{found} is not a program: name one by --program or LAMBDA_LOCAL_PROGRAM")
+        raise NoProgram(f"{program} is not a program: name one by --program or LAMBDA_LOCAL_PROGRAM")
     if os.path.realpath(path) == LAUNCHER:
-        found = launched(path)
-    if found.endswith(".unproved"):
-        tell_unproved(found)
-    return found
+        program = launched(path)
+    if program.endswith(".unproved"):
+        tell_unproved(program)
+    return program
 
 
 @functools.lru_cache(maxsize=None)
@@ -123,9 +123,9 @@ def free_ports(count: int, taken: Collection[int]) -> List[int]:
             raise Fault(2, f"LAMBDA_LOCAL_PORTS={words}: write it as FIRST-LAST, for example 20000-23999") from None
     candidates = iter(random.sample(range(first, last + 1), last + 1 - first)) if first else None
     held: List[socket.socket] = []
-    found: List[int] = []
+    ports: List[int] = []
     try:
-        while len(found) < count:
+        while len(ports) < count:
             port = next(candidates, None) if candidates else 0
             if port is None:
                 raise Fault(4, f"LAMBDA_LOCAL_PORTS={words}: not enough of these ports are free, {count} are needed")
@@ -143,8 +143,8 @@ def free_ports(count: int, taken: Collection[int]) -> List[int]:
                     continue
                 raise
             if listener.getsockname()[1] not in taken:
-                found.append(listener.getsockname()[1])
-        return found
+                ports.append(listener.getsockname()[1])
+        return ports
     finally:
         for listener in held:
             listener.close()
@@ -230,11 +230,11 @@ class Service:
         given = {configuration.get("invokePort", 0)} | {port for function in functions for port in function["ports"]}
         wanted = sum(1 for function in functions for port in function["ports"]
                      if port == 0) + (not configuration.get("invokePort"))
-        found = iter(free_ports(wanted, given))
+        ports = iter(free_ports(wanted, given))
         if not configuration.get("invokePort"):
-            configuration["invokePort"] = next(found)
+            configuration["invokePort"] = next(ports)
         for function in functions:
-            function["ports"] = [port or next(found) for port in function["ports"]]
+            function["ports"] = [port or next(ports) for port in function["ports"]]
         self.configuration, self.port = configuration, configuration["invokePort"]
         self.endpoint_url = f"http://127.0.0.1:{self.port}"
         return wanted

@@ -43,20 +43,20 @@ def past_proxies(environ: Mapping[str, str] = os.environ) -> Dict[str, str]:
     """Clients take the first of no_proxy and NO_PROXY that they know: both say that this machine needs no proxy."""
     if not any(environ.get(name) or environ.get(name.upper()) for name in ("http_proxy", "all_proxy")):
         return {}
-    found = {}
+    exceptions = {}
     for name in ("no_proxy", "NO_PROXY"):
         others = [word for word in re.split(r"[\s,]+", environ.get(name) or environ.get(name.swapcase()) or "")
                   if word and word not in LOOPBACK]
-        found[name] = "*" if "*" in others else ",".join([*others, *LOOPBACK])
-    return found
+        exceptions[name] = "*" if "*" in others else ",".join([*others, *LOOPBACK])
+    return exceptions
 
 
 def of_callers(service: Serving, keeps_credentials: bool) -> Dict[str, str]:
     """Returns the variables of a command that calls functions: this process's own, and those that lead here."""
-    found = dict(os.environ)
+    variables = dict(os.environ)
     if not keeps_credentials:
-        found = {**{name: value for name, value in found.items() if name not in LEFT_OUT}, **DUMMIES}
-    return {**found, **leading_to(service.endpoint_url, service.configuration["region"])}
+        variables = {**{name: value for name, value in variables.items() if name not in LEFT_OUT}, **DUMMIES}
+    return {**variables, **leading_to(service.endpoint_url, service.configuration["region"])}
 
 
 def of_function(name: str, memory: int, number: int = 1) -> Dict[str, str]:

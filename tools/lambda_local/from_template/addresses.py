@@ -48,10 +48,10 @@ class Addresses:
         """By the members that FunctionUrlConfig and AWS::Lambda::Url have in common."""
         if given.get("AuthType") == "AWS_IAM":
             self.tell("its URL takes requests without a signature here")
-        found = url_with(cors_of(given.get("Cors"), "its URL", self.scope, self.tell))
+        url = url_with(cors_of(given.get("Cors"), "its URL", self.scope, self.tell))
         if given.get("InvokeMode") == "RESPONSE_STREAM":
-            return {**(found if isinstance(found, dict) else {}), "invoke": "RESPONSE_STREAM"}
-        return found
+            return {**(url if isinstance(url, dict) else {}), "invoke": "RESPONSE_STREAM"}
+        return url
 
     # --- its routes ---
 

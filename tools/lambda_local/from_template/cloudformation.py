@@ -60,7 +60,7 @@ def is_wanted(key: str, resource: Members, scope: Scope) -> bool:
 def listed(template: Members, stack: str) -> Tuple[List[Tuple[str, Members]], Scope]:
     """Each function's logical id and properties, and the scope of their expressions."""
     scope, left = Scope(template, stack), Grouped("leaves out {names}, {line}")
-    found: List[Tuple[str, Members]] = []
+    functions: List[Tuple[str, Members]] = []
     shared = members_of(members_of(template, "Globals"), "Function")
     for key, resource in template["Resources"].items():
         kind = resource.get("Type") if isinstance(resource, dict) else shown(resource)
@@ -71,6 +71,6 @@ def listed(template: Members, stack: str) -> Tuple[List[Tuple[str, Members]], Sc
         elif is_wanted(key, resource, scope):
             properties = properties_of(key, resource, shared)
             if properties is not None:
-                found.append((str(key), properties))
+                functions.append((str(key), properties))
     left.say()
-    return found, scope
+    return functions, scope

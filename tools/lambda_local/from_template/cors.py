@@ -35,14 +35,14 @@ def known(given: object, where: str, scope: Scope, tell: Tell) -> object:
 
 def taken(given: Members, names: Callable[[str], str], where: str, tell: Tell) -> Optional[Members]:
     """The members that UP.json takes."""
-    found: Members = {}
+    cors: Members = {}
     for name, value in given.items():
         member = names(str(name))
         if member in settings.OF_CORS and settings.OF_CORS[member].accepts(value):
-            found[member] = value
+            cors[member] = value
         else:
             tell(f"leaves out {member} of the Cors of {where}: {shown(value)}")
-    return found or None
+    return cors or None
 
 
 def cors_of(given: object, where: str, scope: Scope, tell: Tell) -> Optional[Members]:
@@ -67,9 +67,9 @@ def rest_cors_of(given: object, where: str, scope: Scope, tell: Tell) -> Optiona
         given = {"AllowOrigin": given}
     if not isinstance(given, dict):
         return None
-    found = taken({name: plain(OF_REST.get(str(name)), value) for name, value in given.items()},
-                  lambda name: OF_REST.get(name, name), where, tell)
-    return {"allowMethods": ["*"], **found} if found else None
+    cors = taken({name: plain(OF_REST.get(str(name)), value) for name, value in given.items()},
+                 lambda name: OF_REST.get(name, name), where, tell)
+    return {"allowMethods": ["*"], **cors} if cors else None
 
 
 def plain(member: Optional[str], value: object) -> object:

@@ -103,9 +103,9 @@ class Maker:
         self.variables()
         self.code()
         self.command()
-        found = addresses.Addresses(self.properties, self.scope, self.tell)
-        self.put("url", found.url())
-        self.put("routes", found.routes() or None)
+        addressed = addresses.Addresses(self.properties, self.scope, self.tell)
+        self.put("url", addressed.url())
+        self.put("routes", addressed.routes() or None)
         self.put("layers", layers_of(self.properties.get("Layers"), self.scope, self.base, self.tell) or None)
         schedules.put(self.made, schedules.of_events(self.properties, self.scope, self.tell))
         if left := sorted(str(name) for name in set(self.properties) - READ):

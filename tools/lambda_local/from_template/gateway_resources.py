@@ -40,8 +40,8 @@ def invoked(uri: object, functions: List[Members], scope: Scope) -> Optional[Mem
         text = scope.known(uri).value
     except Unknown:
         return None
-    found = INVOKED.search(text) if isinstance(text, str) else None
-    return function_of(found[1] if found else text, functions, scope)
+    match = INVOKED.search(text) if isinstance(text, str) else None
+    return function_of(match[1] if match else text, functions, scope)
 
 
 def put(made: Members, where: str, of: Of, key: Callable[[], str]) -> None:
@@ -63,15 +63,15 @@ class RestApis:
 
     def path(self, resource: object) -> Optional[str]:
         """The path of a resource; None if it is not known."""
-        found: List[str] = []
-        while (key := named(resource)) is not None and key in self.parts and len(found) < MOST_PARTS:
+        parts: List[str] = []
+        while (key := named(resource)) is not None and key in self.parts and len(parts) < MOST_PARTS:
             part = text_of(self.parts[key], "PathPart", self.scope)
             if part is None:
                 return None
-            found.append(part)
+            parts.append(part)
             resource = self.parts[key].get("ParentId")
-        is_root = key in self.apis and len(found) < MOST_PARTS
-        return "/" + "/".join(reversed(found)) if is_root else None
+        is_root = key in self.apis and len(parts) < MOST_PARTS
+        return "/" + "/".join(reversed(parts)) if is_root else None
 
     def add_routes(self, functions: List[Members]) -> None:
         for key, properties in resources_of(REST + "Method", self.scope):
@@ -101,24 +101,24 @@ class RestApis:
         responses = integration.get("IntegrationResponses")
         for response in responses if isinstance(responses, list) else ():
             headers = members_of(response, "ResponseParameters")
-            found = {name[len(HEADER):].replace("-", ""): value for name, value in headers.items()
-                     if str(name).startswith(HEADER)}
+            cors = {name[len(HEADER):].replace("-", ""): value for name, value in headers.items()
+                    if str(name).startswith(HEADER)}
             names = {"AllowOrigin", "AllowHeaders", "AllowMethods", "AllowCredentials", "MaxAge", "ExposeHeaders"}
-            found = {name: value for name, value in found.items() if name in names}
-            if found and api is not None:
-                self.cors.setdefault(api, found)
+            cors = {name: value for name, value in cors.items() if name in names}
+            if cors and api is not None:
+                self.cors.setdefault(api, cors)
 
     def properties(self) -> Dict[str, Members]:
-        found: Dict[str, Members] = {}
+        by_api: Dict[str, Members] = {}
         for key, given in self.apis.items():
-            found[key] = {"BinaryMediaTypes": given["BinaryMediaTypes"]} if "BinaryMediaTypes" in given else {}
+            by_api[key] = {"BinaryMediaTypes": given["BinaryMediaTypes"]} if "BinaryMediaTypes" in given else {}
             if key in self.cors:
-                found[key]["Cors"] = self.cors[key]
+                by_api[key]["Cors"] = self.cors[key]
         for _, given in resources_of(REST + "Stage", self.scope):
-            api = found.get(named(given.get("RestApiId")) or "")
+            api = by_api.get(named(given.get("RestApiId")) or "")
             if api is not None:
                 api.update({name: given[name] for name in ("StageName", "Variables") if name in given})
-        return found
+        return by_api
 
 
 class HttpApis:

@@ -22,10 +22,10 @@ def resource(name: str, scope: Scope) -> Optional[Layer]:
     """A layer of the template's own; none if there is no such layer, or its content is elsewhere."""
     if name in scope.layers:
         return Layer(name, scope.layers[name])
-    found = scope.resources.get(name)
-    if not isinstance(found, dict) or found.get("Type") not in OF_LAYERS:
+    layer = scope.resources.get(name)
+    if not isinstance(layer, dict) or layer.get("Type") not in OF_LAYERS:
         return None
-    properties, metadata = members_of(found, "Properties"), members_of(found, "Metadata")
+    properties, metadata = members_of(layer, "Properties"), members_of(layer, "Metadata")
     path = metadata.get(ASSET) or properties.get("ContentUri")
     return Layer(name, path, "BuildMethod" not in metadata) if isinstance(path, str) and "://" not in path else None
 
@@ -61,10 +61,10 @@ def path_of(given: Any, scope: Scope, base: str, tell: Tell) -> Optional[str]:
 
 def of_serverless(whole: Dict[str, Any]) -> Dict[str, str]:
     """The paths of the layers of a serverless.yml, by their logical ids in its CloudFormation."""
-    found = {}
+    paths = {}
     for key, member in members_of(whole, "layers").items():
         path = members_of({"layer": member}, "layer").get("path")
         if isinstance(path, str):
             key = str(key)
-            found[(key[:1].upper() + key[1:]).replace("-", "Dash").replace("_", "Underscore") + "LambdaLayer"] = path
-    return found
+            paths[(key[:1].upper() + key[1:]).replace("-", "Dash").replace("_", "Underscore") + "LambdaLayer"] = path
+    return paths

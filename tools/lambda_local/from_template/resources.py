@@ -23,8 +23,8 @@ def resources_of(kind: str, scope: Scope) -> Iterator[Tuple[str, Members]]:
 
 def function_of(target: object, functions: List[Members], scope: Scope) -> Optional[Members]:
     """The function that a name or an ARN names; none if none has that name."""
-    found = NAMED.fullmatch(target) if isinstance(target, str) else None
-    return next((made for made in functions if found and made["name"] == (found[1] or found[2])), None)
+    match = NAMED.fullmatch(target) if isinstance(target, str) else None
+    return next((made for made in functions if match and made["name"] == (match[1] or match[2])), None)
 
 
 def add_urls(functions: List[Members], scope: Scope) -> None:

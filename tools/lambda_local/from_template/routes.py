@@ -56,17 +56,17 @@ def checked(key: str) -> str:
 def taken_from(functions: List[Members]) -> Dict[str, Tuple[str, Mapped]]:
     """Takes the routes out of the functions: each by its key, with its function's name. Of two that take the same
     requests the first counts."""
-    found: Dict[str, Tuple[str, Mapped]] = {}
+    routes: Dict[str, Tuple[str, Mapped]] = {}
     shapes: Dict[object, str] = {}
     for made in functions:
         for mapped in made.pop("routes", ()):
             shape = Route(mapped.key).shape
             if shape in shapes:
-                tell(f"{made['name']}: leaves out the route {mapped.key}, since {found[shapes[shape]][0]} has "
+                tell(f"{made['name']}: leaves out the route {mapped.key}, since {routes[shapes[shape]][0]} has "
                      f"{shapes[shape]}")
             else:
-                found[mapped.key], shapes[shape] = (made["name"], mapped), mapped.key
-    return found
+                routes[mapped.key], shapes[shape] = (made["name"], mapped), mapped.key
+    return routes
 
 
 class Apis:
@@ -110,12 +110,12 @@ class Apis:
             tell(f"leaves out {', '.join(left)} of {of.name}")
         if not of.is_rest:
             return {"payload": "1.0", "type": "HTTP"} if of.payload == "1.0" else {}
-        found: Members = {"payload": "1.0", "stage": self.value(of, "StageName"),
-                 "stageVariables": self.variables(of), "binaryMediaTypes": self.binary(of)}
-        if found["stage"] is not None and not settings.OF_INTEGRATION["stage"].accepts(found["stage"]):
-            tell(f"leaves out StageName of {of.name}: {shown(found['stage'])}")
-            found["stage"] = None
-        return {name: value for name, value in found.items() if value}
+        integration: Members = {"payload": "1.0", "stage": self.value(of, "StageName"),
+                                "stageVariables": self.variables(of), "binaryMediaTypes": self.binary(of)}
+        if integration["stage"] is not None and not settings.OF_INTEGRATION["stage"].accepts(integration["stage"]):
+            tell(f"leaves out StageName of {of.name}: {shown(integration['stage'])}")
+            integration["stage"] = None
+        return {name: value for name, value in integration.items() if value}
 
     def variables(self, of: Of) -> Optional[Dict[str, str]]:
         given = self.value(of, "Variables") or {}
@@ -131,12 +131,12 @@ class Apis:
             return None
         return [re.sub("~1", "/", kind) for kind in given]  # (which is how SAM writes it)
 
-    def cors(self, found: Dict[str, Tuple[str, Mapped]], used: Sequence[Of]) -> Members:
+    def cors(self, routes: Dict[str, Tuple[str, Mapped]], used: Sequence[Of]) -> Members:
         """The member `cors`: all routes have one port here."""
         if not used:
             return {}
         given = {of.key: self.cors_of_api(of) for of in used}
-        for _, mapped in found.values():
+        for _, mapped in routes.values():
             given[mapped.of.key] = given[mapped.of.key] or mapped.cors
         first = next(iter(given))
         if any(cors != given[first] for cors in given.values()):

@@ -45,8 +45,8 @@ def schedule_of(where: str, expression: Any, given: Any, scope: Scope, tell: Tel
 
 def of_events(properties: Dict[str, Any], scope: Scope, tell: Tell) -> List[object]:
     """Those of a function's own events."""
-    found = [*of_sam(properties.get("Events"), scope, tell), *of_serverless(properties.get("events"), scope, tell)]
-    return [schedule for schedule in found if schedule is not None]
+    schedules = [*of_sam(properties.get("Events"), scope, tell), *of_serverless(properties.get("events"), scope, tell)]
+    return [schedule for schedule in schedules if schedule is not None]
 
 
 def is_off(given: Dict[str, Any], where: str, tell: Tell) -> bool:
@@ -76,9 +76,9 @@ def of_serverless(events: Any, scope: Scope, tell: Tell) -> Iterator[Optional[ob
                     yield schedule_of("schedule", rate, given.get("input"), scope, tell)
 
 
-def put(made: Dict[str, Any], found: List[object]) -> None:
+def put(made: Dict[str, Any], schedules: List[object]) -> None:
     """Adds schedules to a function of UP.json."""
-    if found:
+    if schedules:
         before = made.get("schedule", [])
-        every = [*(before if isinstance(before, list) else [before]), *found]
+        every = [*(before if isinstance(before, list) else [before]), *schedules]
         made["schedule"] = every[0] if len(every) == 1 else every

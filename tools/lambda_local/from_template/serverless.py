@@ -55,24 +55,24 @@ class ServerlessScope(Scope):
     def text(self, text: str) -> object:
         """Returns a text with its variables replaced, the innermost first; for a single variable, returns its value."""
         for _ in range(MOST_STEPS):
-            found = INNERMOST.search(text)
-            if found is None:
+            match = INNERMOST.search(text)
+            if match is None:
                 return super().text(text)
-            value = self.value(self.variable(found[1]))
-            if found[0] == text:
+            value = self.value(self.variable(match[1]))
+            if match[0] == text:
                 return value
-            text = text[:found.start()] + ("" if value is None else text_of(value)) + text[found.end():]
+            text = text[:match.start()] + ("" if value is None else text_of(value)) + text[match.end():]
         raise Unknown("its variables go round in a circle")
 
     def variable(self, inside: str) -> object:
         """The first of its sources that has a value; else a placeholder."""
         if inside.startswith("AWS::"):
             return self.ref(inside)
-        for found in SOURCE.finditer(inside):
-            if found["quote"]:
-                return found["text"]
+        for match in SOURCE.finditer(inside):
+            if match["quote"]:
+                return match["text"]
             try:
-                return self.source(found["source"].strip())
+                return self.source(match["source"].strip())
             except LookupError:
                 continue
         options = {"opt:stage": self.stage, "opt:region": self.region}  # (given at a deployment, which this is not)

@@ -113,8 +113,8 @@ class Scope:
                 return work_out(argument)
             if str(name).startswith("Fn::"):
                 raise Unknown(f"{name} is not worked out here")
-        found = ((name, self.value(member)) for name, member in expression.items())
-        return {name: value for name, value in found if value is not NO_VALUE}
+        members = ((name, self.value(member)) for name, member in expression.items())
+        return {name: value for name, value in members if value is not NO_VALUE}
 
     # --- the functions ---
 
@@ -174,10 +174,10 @@ class Scope:
 
         names: Members = own
 
-        def replaced(found: Match[str]) -> str:
-            literal, name = found[1], found[2].strip()
+        def replaced(match: Match[str]) -> str:
+            literal, name = match[1], match[2].strip()
             if literal:
-                return "${" + found[2] + "}"
+                return "${" + match[2] + "}"
             value = self.value(names[name]) if name in names else self.get_att(name) if "." in name else self.ref(name)
             return "" if value is NO_VALUE else text_of(value)
         return IN_TEXT.sub(replaced, text)
@@ -207,10 +207,10 @@ class Scope:
         try:
             if not isinstance(argument, list):
                 raise TypeError
-            found: Any = self.mappings
+            entry: Any = self.mappings
             for name in argument[:3]:
-                found = found[self.value(name)]
-            return self.value(found)
+                entry = entry[self.value(name)]
+            return self.value(entry)
         except (KeyError, TypeError, IndexError):
             raise Unknown(f"Mappings has no {argument!r}") from None
 

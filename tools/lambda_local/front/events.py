@@ -23,8 +23,8 @@ def target_of(function: str) -> str:
 
 def function_of(target: str) -> Optional[str]:
     """Returns the name of the function in an Invoke's target, in one of its forms; None if it is not an Invoke."""
-    found = PATH.fullmatch(target)
-    named = NAMED.fullmatch(unquote(found[1])) if found else None
+    path = PATH.fullmatch(target)
+    named = NAMED.fullmatch(unquote(path[1])) if path else None
     return (named[1] or named[2]) if named else None
 
 

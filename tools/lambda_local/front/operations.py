@@ -100,12 +100,12 @@ class Operation(NamedTuple):
 
 
 def _operations() -> List[Operation]:
-    found = []
+    operations = []
     for line in TABLE.strip().splitlines():
         method, path, name = line.split(" ")
         parts = "([^/]+)".join(map(re.escape, path.split("{}")))
-        found.append(Operation(name, method, re.compile(parts + "/?")))
-    return found
+        operations.append(Operation(name, method, re.compile(parts + "/?")))
+    return operations
 
 
 OPERATIONS = _operations()
@@ -119,9 +119,9 @@ class Asked(NamedTuple):
 def asked(method: str, path: str) -> Optional[Asked]:
     """The operation that a request is; none if none is known."""
     for operation in OPERATIONS:
-        found = operation.path.fullmatch(path) if operation.method == method else None
-        if found:
-            return Asked(operation.name, list(found.groups()))
+        match = operation.path.fullmatch(path) if operation.method == method else None
+        if match:
+            return Asked(operation.name, list(match.groups()))
     return None
 
 

@@ -45,10 +45,10 @@ def wrong_host(head: Request, further: Collection[str]) -> Optional[Refusal]:
         named = next(iter(every(head.headers, "host")), None)
     if named is None:
         return None
-    found = HOST.fullmatch(named)
-    if found is None:
+    match = HOST.fullmatch(named)
+    if match is None:
         return MALFORMED_HOST
-    return None if found[1] is None or is_local(found[1], further) else FOREIGN_HOST
+    return None if match[1] is None or is_local(match[1], further) else FOREIGN_HOST
 
 
 def is_from_page(headers: Headers) -> bool:

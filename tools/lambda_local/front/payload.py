@@ -40,28 +40,28 @@ def event_of(request: Request, body: bytes, context: Members, parameters: Option
 
 
 def cookies_of(request: Request) -> Dict[str, List[str]]:
-    found = [cookie.strip() for value in every(request.headers, "cookie") for cookie in value.split(";")
-             if cookie.strip()]
-    return {"cookies": found} if found else {}
+    cookies = [cookie.strip() for value in every(request.headers, "cookie") for cookie in value.split(";")
+               if cookie.strip()]
+    return {"cookies": cookies} if cookies else {}
 
 
 def headers_of(request: Request) -> Dict[str, str]:
     """Returns headers by their names in lower case; the values of a repeated header are joined by commas."""
-    found: Dict[str, str] = {}
+    headers: Dict[str, str] = {}
     for name, value in request.headers:
         name = name.lower()
         if name not in OF_CONNECTION and name not in ("cookie", "expect"):
-            found[name] = f"{found[name]},{value}" if name in found else value
-    found["x-forwarded-for"] = f"{found['x-forwarded-for']}, {HERE}" if "x-forwarded-for" in found else HERE
-    found.setdefault("x-forwarded-proto", "http")
-    return found
+            headers[name] = f"{headers[name]},{value}" if name in headers else value
+    headers["x-forwarded-for"] = f"{headers['x-forwarded-for']}, {HERE}" if "x-forwarded-for" in headers else HERE
+    headers.setdefault("x-forwarded-proto", "http")
+    return headers
 
 
 def query_of(request: Request) -> Dict[str, Dict[str, str]]:
-    found: Dict[str, str] = {}
+    query: Dict[str, str] = {}
     for name, value in parse_qsl(request.query, keep_blank_values=True):
-        found[name] = f"{found[name]},{value}" if name in found else value
-    return {"queryStringParameters": found} if found else {}
+        query[name] = f"{query[name]},{value}" if name in query else value
+    return {"queryStringParameters": query} if query else {}
 
 
 def body_of(request: Request, body: bytes, is_text: Optional[bool] = None) -> Dict[str, object]:

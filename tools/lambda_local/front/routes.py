@@ -41,10 +41,10 @@ class Route:
 
     @staticmethod
     def part_of(part: str) -> Part:
-        found = PARAMETER.fullmatch(part)
-        if not found and re.search("[{}]", part):
+        parameter = PARAMETER.fullmatch(part)
+        if not parameter and re.search("[{}]", part):
             raise WrongRoute(f"a parameter is a whole part of the path, {{NAME}}, not {part}")
-        return ("rest" if found[2] else "one", found[1]) if found else ("text", part)
+        return ("rest" if parameter[2] else "one", parameter[1]) if parameter else ("text", part)
 
     @property
     def shape(self) -> Tuple[str, Optional[Tuple[Part, ...]]]:
@@ -65,16 +65,16 @@ class Route:
             return None
         if self.parts is None:
             return {}
-        found: Dict[str, str] = {}
+        parameters: Dict[str, str] = {}
         given = parts_of(path)
         for number, (kind, name) in enumerate(self.parts):
             if kind == "rest" and len(given) > number:
-                return {**found, name: unquote("/".join(given[number:]))}
+                return {**parameters, name: unquote("/".join(given[number:]))}
             if number >= len(given) or kind == "text" and unquote(given[number]) != name or kind == "rest":
                 return None
             if kind == "one":
-                found[name] = unquote(given[number])
-        return found if len(given) == len(self.parts) else None
+                parameters[name] = unquote(given[number])
+        return parameters if len(given) == len(self.parts) else None
 
 
 class Routes:
@@ -84,7 +84,7 @@ class Routes:
     def find(self, method: str, path: str) -> Optional[Tuple[Route, Dict[str, str]]]:
         """The route that takes a request, and its parameters; none if none does."""
         for route in self.routes:
-            found = route.match(method, path)
-            if found is not None:
-                return route, found
+            parameters = route.match(method, path)
+            if parameters is not None:
+                return route, parameters
         return None

@@ -27,10 +27,10 @@ class Begun(NamedTuple):
 def fault_of(result: bytes) -> Fault:
     """What the service answers for a function that has failed."""
     try:
-        found = read_json(result)
+        report = read_json(result)
     except NotJson:
-        found = None
-    kind = found.get("errorType") if isinstance(found, dict) else None
+        report = None
+    kind = report.get("errorType") if isinstance(report, dict) else None
     return Fault(kind if isinstance(kind, str) and kind else "Unhandled", result.decode(errors="replace"))
 
 
@@ -152,11 +152,11 @@ async def invoke_with_response_stream(client: Client, streams: Streams, target: 
                                       when_answered: Callable[[], None]) -> Reply:
     asking = Asking(client, streams, target, headers, payload)
     asking.asking.add_done_callback(lambda _: when_answered())
-    found = await asking.first()
-    if isinstance(found, Begun):
-        return Reply(200, stream_headers(found.identifier), pieces=Streamed(asking, framed(found.stream)))
+    begun = await asking.first()
+    if isinstance(begun, Begun):
+        return Reply(200, stream_headers(begun.identifier), pieces=Streamed(asking, framed(begun.stream)))
     await asking.aclose()
-    status, answered, result = found
+    status, answered, result = begun
     if status != 200:
         kept = [(name, value) for name, value in answered
                 if name.lower() in ("content-type", "x-amzn-errortype", "x-amzn-requestid")]

@@ -46,8 +46,8 @@ class Chunks:
     def _plain(text: bytes, at: int, parts: List[bytes]) -> int:
         """Takes the whole chunks from here on whose lines are nothing but a size. Returns the place after them."""
         last = 0
-        while found := PLAIN_LINE.match(text, at):
-            size, start = int(found[1], 16), found.end()
+        while line := PLAIN_LINE.match(text, at):
+            size, start = int(line[1], 16), line.end()
             if text[start + size:start + size + 2] != b"\r\n":
                 break
             parts.append(text[start:start + size])
@@ -59,11 +59,11 @@ class Chunks:
 
     def _size(self, text: bytes, at: int, is_cut: bool) -> int:
         """The place after the line of a chunk's size; the same one if the line is not whole."""
-        found = LINE.match(text, at)
-        if not found:
+        line = LINE.match(text, at)
+        if not line:
             self._look_at(text, at, is_cut)
             return at
-        digits, blanks, extension = found.groups(b"")
+        digits, blanks, extension = line.groups(b"")
         significant = digits.lstrip(b"0")
         if len(significant) > MOST_DIGITS:
             raise Malformed(400, "the size of a chunk is too large")
@@ -72,7 +72,7 @@ class Chunks:
             raise Malformed(400, "the extensions of the chunks are too long")
         self.left = int(significant or b"0", 16)
         self.is_over = self.left == 0
-        return found.end()
+        return line.end()
 
     def _look_at(self, text: bytes, at: int, is_cut: bool) -> None:
         """Malformed if what has come of a line cannot become one."""
@@ -83,10 +83,10 @@ class Chunks:
 
     def _end(self, text: bytes, at: int) -> int:
         """The place after a chunk's CR LF; the same one if it has not come."""
-        found = text[at:at + 2]
-        if not b"\r\n".startswith(found):
+        line_end = text[at:at + 2]
+        if not b"\r\n".startswith(line_end):
             raise Malformed(400, "a chunk is longer than its size")
-        if len(found) < 2:
+        if len(line_end) < 2:
             return at
         self.left = None
         return at + 2

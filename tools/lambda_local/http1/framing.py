@@ -12,12 +12,12 @@ LARGEST = 2 ** 64
 
 def known_in(headers: Headers) -> Dict[str, List[str]]:
     """The values of the headers that the connection itself acts on, by their names in lower case."""
-    found: Dict[str, List[str]] = {}
+    values: Dict[str, List[str]] = {}
     for name, value in headers:
         lower = name.lower()
         if lower in KNOWN:
-            found.setdefault(lower, []).append(value)
-    return found
+            values.setdefault(lower, []).append(value)
+    return values
 
 
 def has_word(values: Optional[List[str]], word: str) -> bool:
@@ -26,7 +26,7 @@ def has_word(values: Optional[List[str]], word: str) -> bool:
 
 def length_in(values: List[str]) -> int:
     """What several Content-Length say, if they say the same."""
-    numbers = {int(found[1] or "0") if (found := re.fullmatch("0*([0-9]{0,20})", value)) and value else None
+    numbers = {int(match[1] or "0") if (match := re.fullmatch("0*([0-9]{0,20})", value)) and value else None
                for value in values}
     number = numbers.pop()
     if numbers or number is None or number >= LARGEST:

@@ -66,11 +66,11 @@ class Reader:
     def _head(self) -> Event:
         self._skip_empty_lines()
         most = self.limits.head - self._blank
-        found = END.search(self.buffer, max(0, self._seen - 2), max(0, most))
-        if found and self._is_bare:
+        end_of_head = END.search(self.buffer, max(0, self._seen - 2), max(0, most))
+        if end_of_head and self._is_bare:
             raise Malformed(400, "each line of a head must end with CR LF")
-        if found:
-            return self._message(self._take(found.end()).decode("latin-1"))
+        if end_of_head:
+            return self._message(self._take(end_of_head.end()).decode("latin-1"))
         if len(self.buffer) >= most:
             is_long_line = b"\n" not in self.buffer[:max(0, most)]
             raise Malformed(414 if is_long_line else 431, "the head is too long")
@@ -80,12 +80,12 @@ class Reader:
     def _skip_empty_lines(self) -> None:
         """Those before a request are ignored (RFC 9112, section 2.2). If one ends with LF alone, the head is refused
         once it is whole, as any of its lines would be."""
-        found = EMPTY_LINES.match(self.buffer)
-        if found:
-            end = found.end()
+        empty_lines = EMPTY_LINES.match(self.buffer)
+        if empty_lines:
+            end = empty_lines.end()
             self._is_bare = self._is_bare or 2 * self.buffer.count(b"\n", 0, end) > end
             self._blank += end
-            del found, self.buffer[:end]
+            del empty_lines, self.buffer[:end]
 
     def _look_at(self, has_first_line: bool) -> None:
         """Malformed if what has come of a head, or of trailers, cannot become one. Each line is looked at once more
@@ -154,8 +154,8 @@ class Reader:
         if self.buffer[:1] in (b"\r", b"\n"):
             end = 2 if len(self.buffer) > 1 or self.buffer == b"\n" else 0
         else:
-            found = END.search(self.buffer, max(0, self._seen - 2), most)
-            end = found.end() if found else 0
+            end_of_trailers = END.search(self.buffer, max(0, self._seen - 2), most)
+            end = end_of_trailers.end() if end_of_trailers else 0
         if end:
             return self._end(fields_of(self._take(end).decode("latin-1"), 0, self.limits.fields))
         if len(self.buffer) >= most:

@@ -100,19 +100,19 @@ def fields_of(text: str, at: int, most: int) -> Headers:
     """The fields from here on to the end of the text, which is the empty line after them."""
     if not SECTION.fullmatch(text, at):
         raise wrong_field(text, at, most)
-    found = FIELD.findall(text, at)
-    if len(found) > most:
+    fields = FIELD.findall(text, at)
+    if len(fields) > most:
         raise Malformed(431, f"there are more than {most} fields")
-    return [(name, value.strip(" \t")) for name, value in found]
+    return [(name, value.strip(" \t")) for name, value in fields]
 
 
 def wrong_field(text: str, at: int, most: int) -> Malformed:
     """The first fault of a section that is not well formed."""
     for _ in range(most + 1):
-        found = FIELD.match(text, at)
-        if not found:
+        field = FIELD.match(text, at)
+        if not field:
             return wrong_line(text[at:text.find("\n", at) + 1])
-        at = found.end()
+        at = field.end()
     return Malformed(431, f"there are more than {most} fields")
 
 
@@ -136,14 +136,14 @@ def target_of(text: str) -> Target:
         raise Malformed(400, "the target is not UTF-8")
     if text == "*" or text.startswith("/"):
         return path_of(None, text)
-    found = SCHEME.match(text) if len(text) > 3 else None
-    rest = text[found.end():] if found else text
-    if found and len(found[1]) > MOST_SCHEME:
+    scheme = SCHEME.match(text) if len(text) > 3 else None
+    rest = text[scheme.end():] if scheme else text
+    if scheme and len(scheme[1]) > MOST_SCHEME:
         raise Malformed(400, "the target's scheme is too long")
     authority = re.match("[^/?#]*", rest)[0]  # type: ignore[index]
-    if not authority or not found and authority != rest or not is_authority(authority):
+    if not authority or not scheme and authority != rest or not is_authority(authority):
         raise Malformed(400, "the target's authority is not HOST:PORT")
-    if not found:
+    if not scheme:
         return Target(authority, "", None)
     return path_of(authority, rest[len(authority):] or "/")
 

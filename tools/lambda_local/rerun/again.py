@@ -24,9 +24,9 @@ def rerun(service: Service, recording: Recording, pointers: Sequence[Pointer] = 
     now = parsed(history.encode(), "the new history").invocations
     results = []
     for then, made in zip(served, sent):
-        found = find(now, then.function, made.identifier) if made.identifier else None
-        kind = found.kind if found else f"status {made.status}"
-        body = found.body if found else made.body
+        answer = find(now, then.function, made.identifier) if made.identifier else None
+        kind = answer.kind if answer else f"status {made.status}"
+        body = answer.body if answer else made.body
         if kind == "stopped":
             raise Fault(
                 2, f"the service has ended while call {then.ticket} of {then.function} was sent again: it was stopped")

@@ -30,9 +30,9 @@ async def prelude_of(pieces: AsyncIterator[bytes]) -> Tuple[Dict[str, object], b
 
 def read(text: bytes) -> Dict[str, object]:
     try:
-        found: Optional[object] = read_json(text)
+        prelude: Optional[object] = read_json(text)
     except NotJson as fault:
         raise NoPrelude(f"its prelude is not JSON: {fault}") from None
-    if not isinstance(found, dict):
+    if not isinstance(prelude, dict):
         raise NoPrelude("its prelude is not a JSON object")
-    return found
+    return prelude

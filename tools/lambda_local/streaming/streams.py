@@ -127,8 +127,8 @@ class Streams:
             self.delivered_to.pop(expected.identifier, None)
 
     def delivered(self, identifier: str, trace: Optional[str]) -> None:
-        found = LINEAGE.fullmatch(trace or "")
-        expected = self.expected.get(found[1]) if found else None
+        lineage = LINEAGE.fullmatch(trace or "")
+        expected = self.expected.get(lineage[1]) if lineage else None
         if expected:
             expected.identifier = identifier
             self.delivered_to[identifier] = expected

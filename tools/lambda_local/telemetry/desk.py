@@ -212,9 +212,9 @@ class Desk:
     def _note(self, subscription: Subscription, records: int, size: int) -> bytes:
         event = Event(self.clock().time, "platform.logsDropped",
                       {"reason": REASON, "droppedRecords": records, "droppedBytes": size})
-        found = rendered(event, subscription.schema)
-        assert found is not None
-        return found
+        line = rendered(event, subscription.schema)
+        assert line is not None
+        return line
 
     def flushed(self, identifier: str) -> Optional[Awaitable[object]]:
         """Done once the extension's receiver has taken what there is, or has had its time."""

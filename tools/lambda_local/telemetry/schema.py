@@ -53,10 +53,10 @@ def rendered(event: Event, schema: str, has_json_lines: bool = False) -> Optiona
     function logs JSON."""
     kind, record = event.type, event.record
     if event.category == "platform":
-        found = of_logs(kind, record, schema) if schema in LOGS_SCHEMAS else of_telemetry(kind, record, schema)
-        if found is None:
+        fitting = of_logs(kind, record, schema) if schema in LOGS_SCHEMAS else of_telemetry(kind, record, schema)
+        if fitting is None:
             return None
-        kind, record = found
+        kind, record = fitting
     elif has_json_lines and kind == "function" and schema not in (FIRST, *LOGS_SCHEMAS):
         record = object_in(record)
     told = {"time": timestamp(event.time), "type": kind, "record": record}
@@ -68,10 +68,10 @@ def object_in(line: str) -> Any:
     if not line.startswith("{"):
         return line
     try:
-        found = read_json(line)
+        value = read_json(line)
     except NotJson:
         return line
-    return found if isinstance(found, dict) else line
+    return value if isinstance(value, dict) else line
 
 
 def of_telemetry(kind: str, record: Record, schema: str) -> Optional[Tuple[str, Record]]:
@@ -89,10 +89,10 @@ def of_logs(kind: str, record: Record, schema: str) -> Optional[Tuple[str, Any]]
     if kind not in OF_LOGS:
         return None
     name, members = OF_LOGS[kind]
-    found = {member: record[member] for member in members if member in record}
+    kept = {member: record[member] for member in members if member in record}
     if kind == "platform.report":
-        found["metrics"] = {member: record["metrics"][member] for member in OF_REPORT if member in record["metrics"]}
-    return name, found
+        kept["metrics"] = {member: record["metrics"][member] for member in OF_REPORT if member in record["metrics"]}
+    return name, kept
 
 
 def of_status(status: str) -> str:

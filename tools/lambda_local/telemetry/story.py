@@ -140,21 +140,22 @@ class Story:
 
     def open(self, identifier: str) -> Optional[Invocation]:
         """The invocation of this name if it has no answer."""
-        found = self.invocation
-        return found if found and found.identifier == identifier and not found.status else None
+        invocation = self.invocation
+        return invocation if invocation and invocation.identifier == identifier and not invocation.status else None
 
     def responds(self, identifier: str) -> None:
         """The first byte of its response has come."""
-        found = self.open(identifier)
-        if found:
-            found.responds = found.responds or self.clock()
+        invocation = self.open(identifier)
+        if invocation:
+            invocation.responds = invocation.responds or self.clock()
 
     def answered(self, identifier: str, status: str, kind: Optional[str], size: int) -> None:
         """The service has taken its response, or its error."""
-        found = self.open(identifier)
-        if found:
-            found.responds = found.responds or self.clock()
-            found.responded, found.status, found.error, found.size = self.clock(), status, kind, size
+        invocation = self.open(identifier)
+        if invocation:
+            invocation.responds = invocation.responds or self.clock()
+            invocation.responded, invocation.status = self.clock(), status
+            invocation.error, invocation.size = kind, size
 
     def init_fails(self, kind: str) -> None:
         """By the runtime's own report."""

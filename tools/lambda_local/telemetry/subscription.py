@@ -96,7 +96,7 @@ def types_in(given: object, faults: List[str]) -> List[str]:
 
 
 def buffering_in(given: object, faults: List[str]) -> Buffering:
-    found = {name: default for name, (_, _, default) in RANGES.items()}
+    buffering = {name: default for name, (_, _, default) in RANGES.items()}
     if given is not None and not isinstance(given, dict):
         faults.append(f"buffering must be an object, not {shown(given)}")
     for name, (least, most, _) in RANGES.items() if isinstance(given, dict) else ():
@@ -106,8 +106,8 @@ def buffering_in(given: object, faults: List[str]) -> Buffering:
         if isinstance(value, bool) or not isinstance(value, int) or not least <= value <= most:
             faults.append(f"{name} must be a number from {least} to {most}, not {shown(value)}")
         else:
-            found[name] = value
-    return Buffering(found["maxItems"], found["maxBytes"], found["timeoutMs"] / 1000)
+            buffering[name] = value
+    return Buffering(buffering["maxItems"], buffering["maxBytes"], buffering["timeoutMs"] / 1000)
 
 
 # ---- destinations ----------------------------------------------------------------------------------------------------
@@ -147,15 +147,15 @@ def address_in(address: object, method: str, faults: List[str]) -> Destination:
         faults.append(f"URI must be http://{HOSTS[0]}:PORT/.., not {shown(address)}")
         return nothing
     try:
-        found = urlsplit(address)
-        port = found.port
+        address_parts = urlsplit(address)
+        port = address_parts.port
     except ValueError:
         faults.append(f"URI is malformed: {shown(address)}")
         return nothing
-    if found.scheme != "http" or found.hostname not in HOSTS or "@" in found.netloc:
+    if address_parts.scheme != "http" or address_parts.hostname not in HOSTS or "@" in address_parts.netloc:
         faults.append(f"URI must be http://{HOSTS[0]}:PORT/.., not {shown(address)}")
     if port is None:
         faults.append("URI port is not provided")
         return nothing
-    target = (found.path or "/") + (f"?{found.query}" if found.query else "")
-    return Destination("HTTP", port_in(port, faults), str(found.hostname), target, method)
+    target = (address_parts.path or "/") + (f"?{address_parts.query}" if address_parts.query else "")
+    return Destination("HTTP", port_in(port, faults), str(address_parts.hostname), target, method)

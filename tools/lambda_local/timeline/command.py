@@ -45,13 +45,13 @@ DIFFERS = "differs"
 
 def moment(word: str) -> Moment:
     """A MOMENT of the command line."""
-    found = re.fullmatch(r"(\+?)(\d+)(?:\.(\d{1,3}))?", word)
-    if not found or (found[3] and not found[1]):
+    match = re.fullmatch(r"(\+?)(\d+)(?:\.(\d{1,3}))?", word)
+    if not match or (match[3] and not match[1]):
         raise argparse.ArgumentTypeError(f"{word!r} is not a moment: write milliseconds as in the history, such as "
                                          "1795556558434, or +SECONDS from its first entry, such as +1.5")
-    if found[1]:
-        return Moment(1000 * int(found[2]) + int((found[3] or "0").ljust(3, "0")), True)
-    return Moment(int(found[2]), False)
+    if match[1]:
+        return Moment(1000 * int(match[2]) + int((match[3] or "0").ljust(3, "0")), True)
+    return Moment(int(match[2]), False)
 
 
 def arguments() -> argparse.Namespace:

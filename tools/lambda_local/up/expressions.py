@@ -77,7 +77,7 @@ def value_of(text: str, field: Field) -> int:
 
 def values_of(part: str, field: Field) -> FrozenSet[int]:
     """The values of `*`, `a`, `a-b`, and each of them with `/n`, in a list between commas."""
-    found: List[int] = []
+    values: List[int] = []
     for item in part.split(","):
         begin, slash, step = item.partition("/")
         if slash and not (re.fullmatch("[0-9]{1,4}", step) and 0 < int(step) <= field.most):
@@ -90,8 +90,8 @@ def values_of(part: str, field: Field) -> FrozenSet[int]:
             most = value_of(last, field) if dash else field.most if slash else least
         if least > most:
             raise WrongExpression(f"{field.name}: {begin[:40]} ends before it begins")
-        found += range(least, most + 1, int(step) if slash else 1)
-    return frozenset(found)
+        values += range(least, most + 1, int(step) if slash else 1)
+    return frozenset(values)
 
 
 def last_of(date: datetime) -> int:
@@ -117,8 +117,8 @@ def nearest_weekday(date: datetime, day: int) -> int:
 def by_day_of_month(part: str) -> Callable[[datetime], bool]:
     if part == "L":
         return lambda date: date.day == last_of(date)
-    if found := re.fullmatch("([0-9]{1,2})W", part):
-        day = value_of(found[1], DAY_OF_MONTH)
+    if match := re.fullmatch("([0-9]{1,2})W", part):
+        day = value_of(match[1], DAY_OF_MONTH)
         return lambda date: day <= last_of(date) and date.day == nearest_weekday(date, day)
     days = values_of(part, DAY_OF_MONTH)
     return lambda date: date.day in days
@@ -127,11 +127,11 @@ def by_day_of_month(part: str) -> Callable[[datetime], bool]:
 def by_day_of_week(part: str) -> Callable[[datetime], bool]:
     if part == "L":
         return lambda date: day_of_week(date) == 7
-    if found := re.fullmatch("([0-9]|[A-Za-z]{3})L", part):
-        last = value_of(found[1], DAY_OF_WEEK)
+    if match := re.fullmatch("([0-9]|[A-Za-z]{3})L", part):
+        last = value_of(match[1], DAY_OF_WEEK)
         return lambda date: day_of_week(date) == last and date.day > last_of(date) - 7
-    if found := re.fullmatch("([0-9]|[A-Za-z]{3})#([0-9])", part):
-        day, number = value_of(found[1], DAY_OF_WEEK), int(found[2])
+    if match := re.fullmatch("([0-9]|[A-Za-z]{3})#([0-9])", part):
+        day, number = value_of(match[1], DAY_OF_WEEK), int(match[2])
         if not 1 <= number <= 5:
             raise WrongExpression(f"day-of-week: after # there is a number from 1 to 5, not {number}")
         return lambda date: day_of_week(date) == day and (date.day - 1) // 7 + 1 == number
@@ -153,22 +153,22 @@ def cron_of(inside: str) -> Cron:
 
 
 def rate_of(text: str) -> Rate:
-    found = RATE.fullmatch(text)
-    if not found or int(found[1]) == 0:
+    match = RATE.fullmatch(text)
+    if not match or int(match[1]) == 0:
         raise WrongExpression("rate has a whole number from 1 and minutes, hours or days, such as rate(5 minutes)")
-    if (int(found[1]) == 1) == (found[3] == "s"):
+    if (int(match[1]) == 1) == (match[3] == "s"):
         raise WrongExpression("rate(1 minute) has its unit in the singular, and rate(2 minutes) in the plural")
-    return Rate(int(found[1]) * SECONDS[found[2]])
+    return Rate(int(match[1]) * SECONDS[match[2]])
 
 
 def expression_of(text: str) -> "Rate | Cron":
     """What a text says; WrongExpression if it is no expression, or never fires again."""
     if len(text) > 256:
         raise WrongExpression("an expression has at most 256 characters")
-    found = CRON.fullmatch(text)
-    if not found and not text.startswith("rate("):
+    match = CRON.fullmatch(text)
+    if not match and not text.startswith("rate("):
         raise WrongExpression(f"write {EXAMPLES}")
-    made: "Rate | Cron" = cron_of(found[1]) if found else rate_of(text)
+    made: "Rate | Cron" = cron_of(match[1]) if match else rate_of(text)
     if made.next_after(datetime.now(timezone.utc)) is None:
         raise WrongExpression("it never fires: no date is as it says")
     return made

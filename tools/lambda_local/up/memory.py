@@ -79,11 +79,11 @@ def peak_of(pid: int) -> int:
     most. Nothing of one that has ended."""
     try:
         with open(f"/proc/{pid}/status", "rb") as file:
-            found = [int(line.split()[1]) << 10 for line in file if line.startswith(b"VmHWM:")]
+            peaks = [int(line.split()[1]) << 10 for line in file if line.startswith(b"VmHWM:")]
         tasks = os.listdir(f"/proc/{pid}/task")
     except OSError:
         return 0
-    return sum(found) + sum(peak_of(child) for task in tasks for child in children_of(pid, task))
+    return sum(peaks) + sum(peak_of(child) for task in tasks for child in children_of(pid, task))
 
 
 def children_of(pid: int, task: str) -> List[int]:

@@ -42,7 +42,8 @@ def python_of(runtime: str, given: Optional[str], directory: str) -> Tuple[str, 
     if is_there and version_of(f"python3.{minor}", "python") == f"3.{minor}":
         return f"python3.{minor}", ""
     return own, (f"python3.{minor} {'does not start here' if is_there else 'is not on PATH'}, and Python "
-                 f"{sys.version_info[0]}.{sys.version_info[1]} runs it: write another \"python\" to have it run by that")
+                 f"{sys.version_info[0]}.{sys.version_info[1]} runs it: write another \"python\" to have it run by "
+                 f"that")
 
 
 def program_of_runtime(runtime: str, given: Optional[str], directory: str, where: str) -> Tuple[str, str]:

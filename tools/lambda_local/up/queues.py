@@ -52,12 +52,13 @@ def client_of(queue: Queue, region: str, keeps_credentials: bool) -> Any:
 
 def attribute_of(given: Dict[str, Any]) -> Dict[str, Any]:
     """A message's own attribute."""
-    found: Dict[str, Any] = {"stringListValues": [], "binaryListValues": [], "dataType": str(given.get("DataType", ""))}
+    attribute: Dict[str, Any] = {"stringListValues": [], "binaryListValues": [],
+                                 "dataType": str(given.get("DataType", ""))}
     if "StringValue" in given:
-        found["stringValue"] = str(given["StringValue"])
+        attribute["stringValue"] = str(given["StringValue"])
     if isinstance(given.get("BinaryValue"), bytes):
-        found["binaryValue"] = base64.b64encode(given["BinaryValue"]).decode()
-    return found
+        attribute["binaryValue"] = base64.b64encode(given["BinaryValue"]).decode()
+    return attribute
 
 
 def record_of(message: Dict[str, Any], arn: str, region: str) -> Dict[str, Any]:
@@ -81,8 +82,8 @@ def failures_in(result: bytes, identifiers: List[str]) -> Optional[List[str]]:
     given = value["batchItemFailures"]
     if not isinstance(given, list):
         return None
-    found = [str(one.get("itemIdentifier")) if isinstance(one, dict) else "" for one in given]
-    return found if all(one in identifiers for one in found) else None
+    failed = [str(one.get("itemIdentifier")) if isinstance(one, dict) else "" for one in given]
+    return failed if all(one in identifiers for one in failed) else None
 
 
 # ---- a poller --------------------------------------------------------------------------------------------------------
@@ -141,17 +142,17 @@ class Poller(threading.Thread):
 
     def collected(self) -> List[Dict[str, Any]]:
         """Messages, until a batch is full or its window is over."""
-        found: List[Dict[str, Any]] = []
+        messages: List[Dict[str, Any]] = []
         end = None
         while not self.stopping.is_set():
-            taken = self.received(min(MOST_AT_ONCE, self.queue.batch - len(found)))
-            found += taken
-            if found and end is None:
+            taken = self.received(min(MOST_AT_ONCE, self.queue.batch - len(messages)))
+            messages += taken
+            if messages and end is None:
                 end = time.monotonic() + self.queue.window
-            size = sum(len(str(message.get("Body", ""))) for message in found)
-            if (end is None or len(found) >= self.queue.batch or size >= MOST_BYTES or time.monotonic() >= end):
+            size = sum(len(str(message.get("Body", ""))) for message in messages)
+            if (end is None or len(messages) >= self.queue.batch or size >= MOST_BYTES or time.monotonic() >= end):
                 break
-        return found
+        return messages
 
     def received(self, count: int) -> List[Dict[str, Any]]:
         answer = self.client.receive_message(
@@ -244,9 +245,9 @@ def shortened(fault: Exception) -> str:
 
 def pollers_of(queues: Dict[str, Queue], service: Any, keeps_credentials: bool, stopping: threading.Event,
                log: Log) -> List[Poller]:
-    found = []
+    pollers = []
     environments = {part["name"]: len(part["ports"]) for part in service.configuration["functions"]}
     for name, queue in queues.items():
         count = 1 if queue.is_fifo else min(MOST_POLLERS, environments[name])
-        found += [Poller(name, queue, service, keeps_credentials, stopping, log) for _ in range(count)]
-    return found
+        pollers += [Poller(name, queue, service, keeps_credentials, stopping, log) for _ in range(count)]
+    return pollers

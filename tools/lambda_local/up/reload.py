@@ -50,13 +50,13 @@ class Ignored:
         return Ignored((*self.patterns, *filter(None, (pattern_of(line, folder) for line in lines))))
 
     def has(self, path: str, is_folder: bool) -> bool:
-        found = False
+        is_ignored = False
         for is_taken_back, of_folders, folder, pattern in self.patterns:
             if is_folder or not of_folders:
                 name = os.path.basename(path) if folder is None else os.path.relpath(path, folder)
                 if fnmatch.fnmatchcase(name, pattern):
-                    found = not is_taken_back
-        return found
+                    is_ignored = not is_taken_back
+        return is_ignored
 
 
 def pattern_of(line: str, folder: str) -> Optional[Pattern]:
@@ -188,13 +188,13 @@ class Reload(threading.Thread):
 
     def look(self, files: Dict[str, Files]) -> Dict[str, Times]:
         """The times of each function's files. UP.json is none of them: its changes are told apart."""
-        found: Dict[Tuple[Tuple[str, ...], FrozenSet[str]], Times] = {}
+        times: Dict[Tuple[Tuple[str, ...], FrozenSet[str]], Times] = {}
         own = os.path.realpath(self.path)
         for each in files.values():
-            if each.key not in found:
-                found[each.key] = {path: moment for path, moment in each.times().items()
+            if each.key not in times:
+                times[each.key] = {path: moment for path, moment in each.times().items()
                                    if os.path.realpath(path) != own}
-        return {name: found[each.key] for name, each in files.items()}
+        return {name: times[each.key] for name, each in files.items()}
 
     def changed(self, function: Function, paths: List[str]) -> None:
         self.log("up", f"{function.name} begins anew: {os.path.relpath(paths[0])} changed")

@@ -91,9 +91,9 @@ def mistakes(whole: Dict[str, Any]) -> Iterator[str]:
 
 
 def mistakes_of_queue(given: Dict[str, Any], where: str) -> Iterator[str]:
-    found = list(mistakes_of(given, OF_QUEUE, where, ["url"]))
-    yield from found
-    if found:
+    mistakes = list(mistakes_of(given, OF_QUEUE, where, ["url"]))
+    yield from mistakes
+    if mistakes:
         return
     if parts_of(given["url"]) is None:
         yield f"{where}url: {shown(given['url'])} must be the address of a queue, http://HOST:PORT/ACCOUNT/NAME"
@@ -106,9 +106,9 @@ def mistakes_of_queue(given: Dict[str, Any], where: str) -> Iterator[str]:
 
 
 def mistakes_of_schedule(given: Dict[str, Any], where: str) -> Iterator[str]:
-    found = list(mistakes_of(given, OF_SCHEDULE, where, ["expression"]))
-    yield from found
-    if found:
+    mistakes = list(mistakes_of(given, OF_SCHEDULE, where, ["expression"]))
+    yield from mistakes
+    if mistakes:
         return
     try:
         expression_of(given["expression"])

@@ -22,13 +22,13 @@ LONGEST_SECONDS = 10.0  # for a client to say its version
 def of_environment(service: Service, function: Function, number: int, port: int,
                    keeps_credentials: bool) -> Dict[str, str]:
     """The variables of an environment's processes."""
-    found = {
+    variables = {
         "TZ": ":UTC", "PYTHONUNBUFFERED": "1", **of_callers(service, keeps_credentials),
         **({} if keeps_credentials else {"AWS_SESSION_TOKEN": "local"}),
         "AWS_LAMBDA_RUNTIME_API": f"127.0.0.1:{port}",
         "_HANDLER": function.handler, "LAMBDA_TASK_ROOT": os.path.realpath(function.directory),
         **of_function(function.name, function.memory, number), **function.variables}
-    return {**found, **past_proxies(found)}
+    return {**variables, **past_proxies(variables)}
 
 
 def written(version: Sequence[int]) -> str:
@@ -80,5 +80,5 @@ class Clients(threading.Thread):
                 if self.stopping.is_set() or time.monotonic() > end:
                     os.killpg(child.pid, signal.SIGKILL)
         GUARD.release(child.pid)
-        found = re.search(r"(?:^|/)(\d+)\.(\d+)", printed) if child.returncode == 0 else None
-        return (int(found[1]), int(found[2])) if found else None
+        match = re.search(r"(?:^|/)(\d+)\.(\d+)", printed) if child.returncode == 0 else None
+        return (int(match[1]), int(match[2])) if match else None
