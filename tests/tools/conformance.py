@@ -4,8 +4,8 @@ some in the shapes of AWS's own clients; each wrong one is caught by the check n
 The program is LAMBDA_LOCAL_PROGRAM, else ./lambda_local.
 Ends with 'N passed, M failed'.
 
-Each wrong one is run with the scenarios of its own check, and one in fifteen of them with all; of the further sound
-ones in Python one in three is run. With --whole all are, with all scenarios, which takes a quarter of an hour.
+Each wrong one is run with the scenarios of its own check, and a quarter of them with all: each day another quarter.
+With --whole all are, which takes ten minutes.
 
 usage: tests/tools/conformance.py [--whole] [NAME ..]   (a mistake, `sound` or `shipped`; default: everything)"""
 import concurrent.futures
@@ -35,16 +35,18 @@ import subscribers  # noqa: E402
 import wrong_extensions  # noqa: E402
 import wrong_runtimes  # noqa: E402
 from counted import check  # noqa: E402
+from forked_kit import Kits  # noqa: E402
 from lambda_local.conformance import extension, runtime  # noqa: E402
 
-LENIENT = {"runtime": {"keep_alive", "continue_first", "header_spaces", "same_process", "error_header"},
+LENIENT = {"runtime": {"keep_alive", "continue_first", "header_spaces", "same_process", "error_header",
+                       "environments_apart"},
            "extension": {"takes_empty_batch", "takes_in_shutdown"}}
 OF_TELEMETRY = [check.name for part in (extension.telemetry, extension.delivery, extension.batches,
                                         extension.last_batches) for scenario in part.SCENARIOS
                 for check in scenario.checks]
 AT_ONCE = max(2, len(os.sched_getaffinity(0)))  # runs of the kit, each of which waits half of its time
-EACH = 15  # wrong programs, of which one is run with all scenarios
-THIRD = 3  # further programs in shapes, of which one is run
+EACH = 4  # wrong programs, of which one is run with all scenarios
+TODAY = int(time.time() // 86400) % EACH  # which one of these
 WHOLE, CHOSEN = "--whole" in sys.argv, [word for word in sys.argv[1:] if word != "--whole"]
 PYTHON = [sys.executable, "-S"]  # (it starts in half the time)
 TOOL = [*PYTHON, os.path.join(ROOT, "tools"), "conformance"]
@@ -66,16 +68,34 @@ def checks_of(part):
 
 
 KINDS = (Kind("runtime", checks_of(runtime), wrong_runtimes.MISTAKES, {"idle-seconds": 1, "invocations": 20}),
-         Kind("extension", checks_of(extension), wrong_extensions.MISTAKES, {"idle-seconds": 1, "name": "sound"}))
+         Kind("extension", checks_of(extension), wrong_extensions.MISTAKES,
+              {"idle-seconds": 1, "invocations": 20, "name": "sound"}))
+
+
+def runs(table):
+    """What runs a program of a file that has such a table."""
+    return lambda name, *_: table[name]().run()
+
+
+FORKED = {  # by the names of their files
+    "wrong_runtimes.py": runs(wrong_runtimes.MISTAKES), "wrong_extensions.py": runs(wrong_extensions.MISTAKES),
+    "shapes.py": runs(shapes.SHAPES), "clients.py": runs(clients.CLIENTS), "libraries.py": runs(libraries.LIBRARIES),
+    "extensions.py": runs(extensions.SHAPES), "subscribers.py": runs(subscribers.SHAPES)}
+KITS = []  # the process of which runs are forked, if there is one
 
 
 class Run:
     """A finished run of the kit."""
 
-    def __init__(self, *words, **variables):
-        done = subprocess.run([*TOOL, *words], cwd=HANDLERS, env={**os.environ, **variables}, capture_output=True,
-                              text=True, timeout=3600)
-        self.words, self.status, self.output, self.errors = words, done.returncode, done.stdout, done.stderr
+    def __init__(self, *words, is_forked=False, **variables):
+        self.words, variables, begun = words, {**os.environ, **variables}, time.monotonic()
+        if is_forked:
+            self.status, self.output, self.errors = KITS[0].run(words, HANDLERS, variables)
+        else:
+            done = subprocess.run([*TOOL, *words], cwd=HANDLERS, env=variables, capture_output=True, text=True,
+                                  timeout=3600)
+            self.status, self.output, self.errors = done.returncode, done.stdout, done.stderr
+        self.seconds = time.monotonic() - begun
 
     def verdicts(self, outcome):
         """The checks with this outcome; FAILs of one cause after the first are only named."""
@@ -116,11 +136,12 @@ def shipped_runtime(*command):
 
 
 def other_runtime(*command):
-    return Run("runtime", "--invocations", "100", "--idle-seconds", "2", "--", *command)
+    return Run("runtime", "--invocations", "100", "--idle-seconds", "2", "--", *command, is_forked=True)
 
 
 def other_extension(*command):
-    return Run("extension", "--name", "sound", "--idle-seconds", "2", "--", *command)
+    return Run("extension", "--name", "sound", "--idle-seconds", "2", "--invocations", "100", "--", *command,
+               is_forked=True)
 
 
 def shipped():
@@ -145,14 +166,10 @@ def in_shapes():
     if shutil.which("perl"):
         yield "a Perl client", ["perl", os.path.join(SHAPES, "perl_tiny.pl")]
         yield "a Node client by fetch", ["node", os.path.join(SHAPES, "fetch.mjs")]
-    for file, names in (("shapes.py", shapes.SHAPES), ("clients.py", some_of(clients.CLIENTS)),
-                        ("libraries.py", some_of(libraries.LIBRARIES))):
+    for file, names in (("shapes.py", shapes.SHAPES), ("clients.py", clients.CLIENTS),
+                        ("libraries.py", libraries.LIBRARIES)):
         for name in names:
             yield f"a client in the shape of {name}", [*PYTHON, os.path.join(SHAPES, file), name]
-
-
-def some_of(names):
-    return list(names)[::1 if WHOLE else THIRD]
 
 
 def extensions_in_shapes():
@@ -161,14 +178,14 @@ def extensions_in_shapes():
         yield "an extension by fetch", ["node", os.path.join(SHAPES, "extension_fetch.mjs")]
     if shutil.which("bash") and shutil.which("curl"):
         yield "an extension with curl", [os.path.join(SHAPES, "extension_curl.sh")]
-    for name in some_of(extensions.SHAPES):
+    for name in extensions.SHAPES:
         yield f"an extension that is {name}", [*PYTHON, os.path.join(SHAPES, "extensions.py"), name]
 
 
 def subscriber(name):
     """One that takes telemetry, run with the checks of that alone."""
     return Run("extension", "--name", "sound", *(word for check in OF_TELEMETRY for word in ("--only", check)), "--",
-               *PYTHON, os.path.join(SHAPES, "subscribers.py"), name)
+               *PYTHON, os.path.join(SHAPES, "subscribers.py"), name, is_forked=True)
 
 
 def in_java(kind):
@@ -199,7 +216,7 @@ def wrong(kind, mistake, is_whole):
     options = [word for name, value in settings.items() for word in (f"--{name}", str(value))]
     with tempfile.TemporaryDirectory() as temporary:
         return Run(kind.name, *options, "--", *PYTHON, program(f"wrong_{kind.name}s.py"), mistake.__name__,
-                   TMPDIR=temporary)
+                   is_forked=True, TMPDIR=temporary)
 
 
 def caught(run, kind, mistake):
@@ -210,7 +227,9 @@ def caught(run, kind, mistake):
     is_own = mistake.check in run.verdicts(outcome)
     seen = (run.status, len(told), is_own, [name for name in told if name not in {mistake.check, *also}])
     wanted = (1, 1, True, []) if outcome == "FAIL" else (0, 0, True, [])
-    check(f"{kind.name} {mistake.__name__} is a {outcome} of {mistake.check}, and of no other cause", seen, wanted)
+    scenarios = "of some scenarios" if "--only" in run.words else "of all scenarios"
+    check(f"{kind.name} {mistake.__name__} is a {outcome} of {mistake.check}, {scenarios}, and of no other cause", seen,
+          wanted)
     run.told(seen == wanted)
 
 
@@ -255,7 +274,7 @@ def jobs():
     yield Job("sound", sound_extension, (), passes, ("the sound extension", {"takes_logs", "takes_in_shutdown"}))
     for name, shape in subscribers.SHAPES.items():
         yield Job("sound", subscriber, (name,), passes, (f"an extension that {name}", shape.leaves_open))
-    mistakes = [(kind, mistake, WHOLE or place % EACH == 0)
+    mistakes = [(kind, mistake, WHOLE or place % EACH == TODAY)
                 for kind in KINDS for place, mistake in enumerate(kind.mistakes.values())]
     for kind, mistake, is_whole in sorted(mistakes, key=lambda each: (not hasattr(each[1], "settings"), not each[2])):
         yield Job(mistake.__name__, wrong, (kind, mistake, is_whole), caught, (kind, mistake))
@@ -370,6 +389,7 @@ def the_page_has_each_check():
 
 
 if __name__ == "__main__":
+    KITS.append(Kits(FORKED))  # (before there are threads)
     others = () if CHOSEN else (each_check_can_fail, the_page_has_each_check, wrong_usage, a_failure_is_explained,
                                       nothing_is_left)
     with concurrent.futures.ThreadPoolExecutor(AT_ONCE) as pool:

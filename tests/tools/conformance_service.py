@@ -15,14 +15,15 @@ import xml.etree.ElementTree as xml
 
 ROOT = os.path.dirname(os.path.dirname(os.path.dirname(os.path.realpath(__file__))))
 EMULATOR = os.path.join(ROOT, "tests", "tools", "emulator")
-TOOL = [sys.executable, "-S", os.path.join(ROOT, "tools"), "conformance", "service"]
 sys.path[:0] = [EMULATOR, os.path.join(ROOT, "tools"), os.path.join(ROOT, "tests", "library")]
 import counted  # noqa: E402
 from counted import check  # noqa: E402
 from faults import FAULTS, OF_PAIRS  # noqa: E402
+from forked_kit import Kits  # noqa: E402
 from lambda_local.conformance.service import known, oracle, pairs, sequences  # noqa: E402
 from lambda_local.service import Service, free_ports, program_path  # noqa: E402
 
+KITS = Kits({})  # (before there are threads)
 POOL = concurrent.futures.ThreadPoolExecutor(4 * len(os.sched_getaffinity(0)))  # of runs, which wait most of the time
 PARTS, IN_PART = 20, 50  # of the random sequences for lambda_local, each part with a service and a seed of its own
 IN_EMULATOR = 60  # random sequences
@@ -107,8 +108,7 @@ class Run:
     """A finished run of the tool."""
 
     def __init__(self, *words):
-        done = subprocess.run([*TOOL, *words], capture_output=True, text=True, timeout=1500)
-        self.status, self.output, self.errors = done.returncode, done.stdout, done.stderr
+        self.status, self.output, self.errors = KITS.run(["service", *words], ROOT, dict(os.environ), 1500)
 
     @property
     def words(self):
@@ -132,15 +132,14 @@ class Run:
 
 def against_emulator(faults, *words, is_pair=False):
     """A run against an emulator with these faults, with one environment or with two."""
-    invoke_port, runtime_port, second_port = free_ports(3, set())
-    ports = f"{runtime_port},{second_port}" if is_pair else runtime_port
-    words = (*words, "--second", f"127.0.0.1:{second_port}") if is_pair else words
-    numbers = map(str, (invoke_port, ports, EMULATOR_TIMEOUT))
+    numbers = map(str, (2 if is_pair else 1, EMULATOR_TIMEOUT))
     emulator = subprocess.Popen([sys.executable, "-S", os.path.join(EMULATOR, "emulator.py"), *numbers, *faults],
                                 stdout=subprocess.PIPE, text=True, start_new_session=True)
     try:
-        emulator.stdout.readline()
-        return Run("--invoke", f"http://127.0.0.1:{invoke_port}", "--runtime", f"127.0.0.1:{runtime_port}", *words)
+        _, invoke_port, runtime_port, *more = emulator.stdout.readline().split()
+        second = [word for port in more for word in ("--second", f"127.0.0.1:{port}")]
+        return Run("--invoke", f"http://127.0.0.1:{invoke_port}", "--runtime", f"127.0.0.1:{runtime_port}", *second,
+                   *words)
     finally:
         emulator.kill()
         emulator.wait()

@@ -2,8 +2,8 @@
 """A small emulator, shaped like AWS's Runtime Interface Emulator: one function named `function`, one port for callers,
 one for the Runtime API and the Extensions API. For tests of tools/conformance.
 
-usage: emulator.py INVOKE_PORT RUNTIME_PORT[,SECOND_PORT] TIMEOUT [FAULT ..]     it writes a line once it listens, and
-runs until it is ended; with a second port the function has two environments"""
+usage: emulator.py ENVIRONMENTS TIMEOUT [FAULT ..]     of the function there are one or two; once it listens it writes
+a line with its ports, that for callers and one for each environment, and it runs until it is ended"""
 import asyncio
 import json
 import re
@@ -97,18 +97,16 @@ async def serve(life, routes, reader, writer):
         writer.close()
 
 
-async def main(invoke_port, runtime_port, timeout, *faults):
+async def main(environments, timeout, *faults):
     if unknown := set(faults) - set(FAULTS) - set(OF_PAIRS):
         sys.exit(f"no such fault: {' '.join(unknown)}")
-    ports = runtime_port.split(",")
-    lives = Lives(Life(float(timeout), faults) for _ in ports)
+    lives = Lives(Life(float(timeout), faults) for _ in range(int(environments)))
     for life in lives:
         life.all = lives
     servers = [await asyncio.start_server(
-        lambda reader, writer, life=life, routes=routes: serve(life, routes, reader, writer), "127.0.0.1", int(port))
-        for port, life, routes in ((invoke_port, lives, of_caller),
-                                   *((port, life, of_environment) for port, life in zip(ports, lives)))]
-    print("listening", flush=True)
+        lambda reader, writer, life=life, routes=routes: serve(life, routes, reader, writer), "127.0.0.1", 0)
+        for life, routes in ((lives, of_caller), *((life, of_environment) for life in lives))]
+    print("listening", *(server.sockets[0].getsockname()[1] for server in servers), flush=True)
     await asyncio.gather(*(server.serve_forever() for server in servers))
 
 

@@ -269,7 +269,7 @@ class UpperCaseHex(Runtime):
             self.connect()
             lines = [f"{method} {path} HTTP/1.1", f"Host: {self.address}", "Transfer-Encoding: Chunked",
                      *(f"{name}: {value}" for name, value in (headers or {}).items())]
-            data = b"".join(b"00%X\r\n%b\r\n" % (len(part), part) for part in (*body, b""))
+            data = b"".join(b"00%X\r\n%b\r\n" % (len(part), part) for part in (*filter(None, body), b""))
             return self.sock.sendall("\r\n".join(lines).encode() + b"\r\n\r\n" + data)
 
     connected = Upper

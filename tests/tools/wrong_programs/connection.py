@@ -29,7 +29,8 @@ class Connection:
         self.address, self.sock, self.timeout, self.received = address, None, None, bytearray()
 
     def request(self, method, path, body=None, headers=None):
-        """Sends a request; a body that is not bytes is a sequence of parts, each of which becomes a chunk."""
+        """Sends a request; a body that is not bytes is a sequence of parts, each of which becomes a chunk if there is
+        something in it."""
         self.connect()
         lines = [f"{method} {path} HTTP/1.1", f"Host: {self.address}"]
         lines += [f"{name}: {value}" for name, value in (headers or {}).items()]
@@ -38,7 +39,7 @@ class Connection:
             data = body or b""
         else:
             lines.append("Transfer-Encoding: chunked")
-            data = b"".join(b"%x\r\n%b\r\n" % (len(part), part) for part in (*body, b""))
+            data = b"".join(b"%x\r\n%b\r\n" % (len(part), part) for part in (*filter(None, body), b""))
         self.sock.sendall("\r\n".join(lines).encode() + b"\r\n\r\n" + data)
 
     def connect(self):

@@ -8,7 +8,7 @@ import time
 
 import shared_mistakes
 import wrong_connections
-from shared_mistakes import TEMPORARY, is_scenario
+from shared_mistakes import is_scenario, temporary
 from sound_extension import Extension
 
 
@@ -91,6 +91,7 @@ class SubscribesForItself(Extension):
 # ---- many events -----------------------------------------------------------------------------------------------------
 
 class DiesAfterFortyEvents(Extension):
+    settings = {"invocations": 60}
     check, also, count = "many_events", {"memory", "descriptors", "threads", "children", "zombies", "files"}, 0
 
     def invoked(self, event):
@@ -101,6 +102,7 @@ class DiesAfterFortyEvents(Extension):
 
 
 class KeepsMuchOfEachEvent(Extension):
+    settings = {"invocations": 150}
     check, kept = "memory", []
 
     def invoked(self, event):
@@ -109,6 +111,7 @@ class KeepsMuchOfEachEvent(Extension):
 
 
 class LeavesFilesOpen(Extension):
+    settings = {"invocations": 60}
     check, files = "descriptors", []
 
     def invoked(self, event):
@@ -117,6 +120,7 @@ class LeavesFilesOpen(Extension):
 
 
 class StartsAThreadForEach(Extension):
+    settings = {"invocations": 60}
     check = "threads"
 
     def invoked(self, event):
@@ -126,6 +130,7 @@ class StartsAThreadForEach(Extension):
 
 
 class LeavesProcesses(Extension):
+    settings = {"invocations": 60}
     check = "children"
 
     def invoked(self, event):
@@ -136,6 +141,7 @@ class LeavesProcesses(Extension):
 
 
 class LeavesZombies(Extension):
+    settings = {"invocations": 60}
     check = "zombies"
 
     def invoked(self, event):
@@ -145,12 +151,13 @@ class LeavesZombies(Extension):
 
 
 class WritesAFileForEach(Extension):
+    settings = {"invocations": 60}
     check, outcome, size = "files", "SHOULD", 0
 
     def invoked(self, event):
         super().invoked(event)
         if is_scenario("many_events"):
-            with open(os.path.join(TEMPORARY, f"wrong_extension.{event['requestId']}"), "w") as file:
+            with open(os.path.join(temporary(), f"wrong_extension.{event['requestId']}"), "w") as file:
                 file.write(event["requestId"] + " " * self.size)
 
 
@@ -161,6 +168,7 @@ class WritesALargeFileForEach(WritesAFileForEach):
 # ---- what it may not rely on -----------------------------------------------------------------------------------------
 
 class ReadsItsOwnCase(Extension):
+    settings = {"invocations": 60}
     check, connected = "header_names", wrong_connections.ReadsItsOwnCase.Exact
 
 

@@ -7,7 +7,7 @@ import sys
 import time
 
 import shared_mistakes
-from shared_mistakes import TEMPORARY, TOO_LONG, is_scenario
+from shared_mistakes import TOO_LONG, is_scenario, temporary
 from sound_extension import Extension
 
 
@@ -94,7 +94,7 @@ class PollsTwice(shared_mistakes.PollsTwice, Extension):
 
 def file_for(purpose):
     """The file in which the processes of one scenario keep something."""
-    return os.path.join(TEMPORARY, f"wrong_extension.{os.environ.get('AWS_LAMBDA_FUNCTION_NAME')}.{purpose}")
+    return os.path.join(temporary(), f"wrong_extension.{os.environ.get('AWS_LAMBDA_FUNCTION_NAME')}.{purpose}")
 
 
 class GoesOnAtSpindown(Extension):
@@ -140,7 +140,7 @@ class GoesOnAtFailure(GoesOnAtSpindown):
 class KeepsItsIdentifier(Extension):
     """In a file, from one process to the next, and so does not register again."""
     check = "registers_anew"
-    path = file_for("identifier")
+    path = property(lambda self: file_for("identifier"))
 
     def register(self):
         if os.path.exists(self.path):
@@ -176,7 +176,7 @@ class HidesItsCrash(Extension):
 class LeavesALockBehind(Extension):
     """Ends at once if another one was killed before it."""
     check = "works_after_crash"
-    path = file_for("lock")
+    path = property(lambda self: file_for("lock"))
 
     def begin(self):
         with open(self.path, "x"):

@@ -308,6 +308,7 @@ class ReadsTheSubscriptionAsAnObject(Extension):
 # ---- many events, and other answers ----------------------------------------------------------------------------------
 
 class DiesAfterAHundredEvents(Extension):
+    settings = {"invocations": 200}
     check, count = "many_events", 0
 
     def invoked(self, event):
@@ -318,6 +319,7 @@ class DiesAfterAHundredEvents(Extension):
 
 
 class KeepsItsConnections(Extension):
+    settings = {"invocations": 60}
     check, kept = "descriptors", []
 
     def next(self):
@@ -328,6 +330,7 @@ class KeepsItsConnections(Extension):
 
 
 class OpensItsLogForEach(Extension):
+    settings = {"invocations": 60}
     check, files = "descriptors", []
 
     def invoked(self, event):
@@ -337,6 +340,7 @@ class OpensItsLogForEach(Extension):
 
 
 class KeepsALittleOfEach(Extension):
+    settings = {"invocations": 500}
     check, kept = "memory", []
 
     def invoked(self, event):

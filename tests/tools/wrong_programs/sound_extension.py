@@ -6,6 +6,7 @@ import os
 import socket
 import sys
 import threading
+import time
 
 from connection import Client
 
@@ -92,6 +93,8 @@ class Extension(Client):
         answer = self.next()
         if answer.status == 500:
             return self.at_500()
+        if answer.status != 200:
+            time.sleep(0.1)
         event = json.loads(answer.body) if answer.status == 200 else {}
         kind = event.get("eventType")
         if kind == "INVOKE":

@@ -10,7 +10,7 @@ import time
 
 import shared_mistakes
 from connection import Connection
-from shared_mistakes import TEMPORARY, TOO_LONG, is_scenario
+from shared_mistakes import TOO_LONG, is_scenario, temporary
 from sound_runtime import Parts, Runtime
 
 
@@ -72,7 +72,7 @@ class LeavesALockBehind(Runtime):
 
     def begin(self):
         names = (os.environ["AWS_LAMBDA_FUNCTION_NAME"], os.environ["AWS_LAMBDA_RUNTIME_API"].rpartition(":")[2])
-        path = os.path.join(TEMPORARY, "wrong_runtime.{}.{}.lock".format(*names))
+        path = os.path.join(temporary(), "wrong_runtime.{}.{}.lock".format(*names))
         with open(path, "x"):
             atexit.register(os.remove, path)
 
@@ -192,17 +192,37 @@ class LeavesPayloads(Runtime):
     def read(self, payload):
         if len(payload) > 10_000:
             self.count += 1
-            with open(os.path.join(TEMPORARY, f"wrong_runtime.{os.getpid()}.{self.count}.json"), "wb") as file:
+            with open(os.path.join(temporary(), f"wrong_runtime.{os.getpid()}.{self.count}.json"), "wb") as file:
                 file.write(payload)
+        return super().read(payload)
+
+
+class WritesOneLog(Runtime):
+    """All payloads, one behind the other."""
+    check, settings = "files", {"invocations": 100}
+
+    def read(self, payload):
+        with open(os.path.join(temporary(), f"wrong_runtime.{os.getpid()}.log"), "ab") as file:
+            file.write(payload)
+        return super().read(payload)
+
+
+class LeavesFolders(Runtime):
+    """One without a file, for each invocation."""
+    check, outcome, settings, count = "files", "SHOULD", {"invocations": 60}, 0
+
+    def read(self, payload):
+        self.count += 1
+        os.mkdir(os.path.join(temporary(), f"wrong_runtime.{os.getpid()}.{self.count}"))
         return super().read(payload)
 
 
 class SharesAFile(Runtime):
     """Passes the output on through a file that all environments of the function share."""
-    check = "environments_apart"
+    check, outcome = "environments_apart", "SHOULD"
 
     def respond(self, request, output):
-        path = os.path.join(TEMPORARY, f"wrong_runtime.{os.environ['AWS_LAMBDA_FUNCTION_NAME']}.output")
+        path = os.path.join(temporary(), f"wrong_runtime.{os.environ['AWS_LAMBDA_FUNCTION_NAME']}.output")
         if is_scenario("several_at_once"):
             with open(path, "a+") as file:
                 file.write(f"{output}\n")
@@ -224,7 +244,7 @@ class LeavesSmallFiles(Runtime):
     def context(self, headers):
         request = headers["Lambda-Runtime-Aws-Request-Id"]
         if is_scenario("a_thousand"):
-            with open(os.path.join(TEMPORARY, f"wrong_runtime.{request}.headers"), "w") as file:
+            with open(os.path.join(temporary(), f"wrong_runtime.{request}.headers"), "w") as file:
                 file.write(request)
         return super().context(headers)
 

@@ -6,7 +6,7 @@ import re
 from contextlib import redirect_stdout
 
 from connection import Connection
-from sound_runtime import Runtime
+from sound_runtime import Parts, Runtime
 
 
 # ---- payloads --------------------------------------------------------------------------------------------------------
@@ -139,6 +139,19 @@ class RenamesMembers(Runtime):
         if isinstance(output, dict) and "snake_case_name" in output:
             output = {re.sub(r"_(\w)", lambda found: found[1].upper(), name): value for name, value in output.items()}
         return super().dump(output)
+
+
+class CutsLongNames(Runtime):
+    """After 255 letters."""
+    check = "kinds"
+
+    def dump(self, output):
+        return super().dump(self.cut(output))
+
+    def cut(self, value):
+        if isinstance(value, dict):
+            return {name[:255]: self.cut(member) for name, member in value.items()}
+        return list(map(self.cut, value)) if isinstance(value, list) and not isinstance(value, Parts) else value
 
 
 class RewritesDates(Runtime):

@@ -194,6 +194,21 @@ class FormatsItsMessages(Runtime):
         return {**report, "errorMessage": report["errorMessage"].replace("%s", "").replace("%d", "0")}
 
 
+class TrimsItsMessages(Runtime):
+    check = "error_texts"
+
+    def report(self, fault):
+        return {**super().report(fault), "errorMessage": str(fault).strip()}
+
+
+class ReadsNumbersInItsMessages(Runtime):
+    check = "error_texts"
+
+    def report(self, fault):
+        found = super().report(fault)
+        return {**found, "errorMessage": int(str(fault)) if str(fault).isdigit() else str(fault)}
+
+
 class ColoursItsMessages(Runtime):
     check = "error_texts"
 

@@ -153,13 +153,17 @@ class CompressesItsOutputs(Runtime):
 class Streams(Connection):
     """The chunks of a body by `chunked`."""
 
+    @staticmethod
+    def given(parts):
+        return [part for part in parts if part]
+
     def request(self, method, path, body=None, headers=None):
         if body is None or isinstance(body, bytes):
             return super().request(method, path, body, headers)
         self.connect()
         lines = [f"{method} {path} HTTP/1.1", f"Host: {self.address}", "Transfer-Encoding: chunked",
                  *(f"{name}: {value}" for name, value in (headers or {}).items())]
-        return self.sock.sendall("\r\n".join(lines).encode() + b"\r\n\r\n" + self.chunked(body))
+        return self.sock.sendall("\r\n".join(lines).encode() + b"\r\n\r\n" + self.chunked(self.given(body)))
 
 
 def streaming(chunked):
@@ -179,6 +183,46 @@ class WritesSizesInDecimal(Runtime):
 class ForgetsTheEndsOfItsChunks(Runtime):
     check = "stream"
     connected = streaming(lambda parts: b"".join(b"%x\r\n%b" % (len(part), part) for part in parts) + b"0\r\n\r\n")
+
+
+class EndsItsStreamAtAnEmptyPart(Runtime):
+    check = "stream"
+
+    class connected(Streams):
+        given = staticmethod(list)
+
+        @staticmethod
+        def chunked(parts):
+            return b"".join(b"%x\r\n%b\r\n" % (len(part), part) for part in (*parts, b""))
+
+
+class CountsTheCharactersOfItsChunks(Runtime):
+    check = "stream"
+    connected = streaming(lambda parts: b"".join(
+        b"%x\r\n%b\r\n" % (len(part.decode()), part) for part in (*parts, b"")))
+
+
+class StreamsForEver(Runtime):
+    """Once it has streamed, all that it sends says that it is a stream."""
+    check, has_streamed = "stream", False
+
+    def stream(self, request, parts):
+        self.has_streamed = True
+        super().stream(request, parts)
+
+    def ask(self, method, path, body=None, headers=None):
+        if self.has_streamed and isinstance(body, bytes):
+            headers = {"Transfer-Encoding": "chunked", **(headers or {})}
+        return super().ask(method, path, body, headers)
+
+
+class EndsAfterALargeOutput(Runtime):
+    check, also = "output_limit", {"payload_limit", "too_large", "many_invocations"}
+
+    def respond(self, request, output):
+        super().respond(request, output)
+        if isinstance(output, str) and len(output) > 1_000_000:
+            sys.exit(1)
 
 
 class StreamsTheFirstPart(Runtime):

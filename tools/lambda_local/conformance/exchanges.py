@@ -102,7 +102,10 @@ class Exchange:
     def faults(self) -> Iterator[str]:
         """What the connection shows that the one who made the request may not know, as lines."""
         length = self.request.headers.get("content-length")
-        if self.behind:
+        if self.behind and self.request.chunked:
+            yield (f"{self.method} {self.path}: behind the last chunk, which is one without bytes, come the bytes "
+                   f"{shown_bytes(self.behind)}: is a part that is empty sent as a chunk?")
+        elif self.behind:
             yield (f"{self.method} {self.path}: behind the body, of Content-Length {length or 0}, come the bytes "
                    f"{shown_bytes(self.behind)}: is the length that of the body in bytes, and not in characters?")
         if self.left and not self.asked:
@@ -118,10 +121,16 @@ class Exchange:
         return as_json(self.reply.body) if self.reply else None
 
 
+def read_json(body: Union[bytes, bytearray]) -> Any:
+    """The value of a JSON text in UTF-8 without a byte order mark (RFC 8259, section 8.1); a ValueError if it is none.
+    (Python guesses the encoding of bytes.)"""
+    return json.loads(bytes(body).decode())
+
+
 def as_json(body: Union[bytes, bytearray]) -> Any:
     try:
-        return json.loads(bytes(body))
-    except ValueError:
+        return read_json(body)
+    except (ValueError, RecursionError):
         return None
 
 

@@ -12,6 +12,7 @@ OpenStage = Callable[["Scenario", "Jury"], Any]
 
 PASS, FAIL, SHOULD, NOTE = "PASS", "FAIL", "SHOULD", "NOTE"
 GRAVITY = (PASS, NOTE, SHOULD, FAIL)  # of several outcomes of one check the last of these counts
+ALONE = 2  # times that a scenario passes by itself which has failed beside others
 
 
 class Check(NamedTuple):
@@ -48,23 +49,31 @@ class Verdict(NamedTuple):
 
 
 class Missing(Exception):
-    """What a scenario needs did not come: its checks that are not judged yet fail with these words."""
+    """What a scenario needs did not come: its checks that are not judged yet fail with these words; the last one if
+    there is none."""
 
 
 class Jury:
     """The verdicts on the checks of one scenario."""
 
     def __init__(self, scenario: Scenario) -> None:
-        self.scenario, self.stops = scenario, False
+        self.scenario, self.stops, self._last = scenario, False, ""
         self.verdicts: Dict[str, Tuple[str, str]] = {}  # by the names of checks: an outcome, and what came
 
     def judge(self, name: str, outcome: str, came: str) -> None:
         """Of several outcomes of a check the worst counts, and of these the first."""
         if not any(check.name == name for check in self.scenario.checks):
             raise ValueError(f"scenario {self.scenario.name} has no check {name}")
+        self._last = name
         before = self.verdicts.get(name)
         if not before or GRAVITY.index(outcome) > GRAVITY.index(before[0]):
             self.verdicts[name] = (outcome, came)
+
+    def cannot_go_on(self, outcome: str, came: str) -> None:
+        """Judges the checks that are left, or the last one, which more was to be seen of."""
+        if len(self.verdicts) == len(self.scenario.checks):
+            self.judge(self._last, outcome, came)
+        self.rest(outcome, came)
 
     def rest(self, outcome: str, came: str) -> None:
         for check in self.scenario.checks:
@@ -103,12 +112,12 @@ def run(scenario: Scenario, open_stage: OpenStage) -> List[Verdict]:
             scenario.play(stage)
             jury.rest(FAIL, "the scenario ended before it came to this check")
         except Missing as missing:
-            jury.rest(FAIL, str(missing))
+            jury.cannot_go_on(scenario.settings.get("judged", FAIL), str(missing))
             jury.stops = scenario.settings.get("first", False)
         except Fault:
             raise
         except Exception:  # a fault of the kit itself, or the service is gone: said as it is
-            jury.rest(FAIL, "the kit could not go on: " + traceback.format_exc().strip().splitlines()[-1])
+            jury.cannot_go_on(FAIL, "the kit could not go on: " + traceback.format_exc().strip().splitlines()[-1])
         if any(outcome == FAIL for outcome, _ in jury.verdicts.values()):
             drawn = scenario.settings.get("drawn", True)
             seen = Seen(stage.history() if drawn else None, tuple(stage.acts()), tuple(stage.on_the_wire()),
@@ -118,15 +127,33 @@ def run(scenario: Scenario, open_stage: OpenStage) -> List[Verdict]:
             for check in scenario.checks]
 
 
-def run_all(scenarios: List[Scenario], open_stage: OpenStage, at_once: int) -> Iterator[List[Verdict]]:
-    """The verdicts of each scenario as a list, in the order of the scenarios, each as soon as it and those before it
-    are there."""
+def has_failed(verdicts: List[Verdict]) -> bool:
+    return any(verdict.outcome == FAIL for verdict in verdicts)
+
+
+def run_alone(scenario: Scenario, open_stage: OpenStage, before: List[Verdict]) -> List[Verdict]:
+    """Plays a scenario once more that has failed beside others: in Lambda each environment is alone, and what its
+    processes share on one machine, such as a port or the name of a file, is none of their mistakes. What passes twice
+    by itself is a NOTE."""
+    verdicts: List[Verdict] = []
+    for _ in range(ALONE):
+        verdicts = run(scenario, open_stage)
+        if has_failed(verdicts):
+            return verdicts
+    return [later._replace(outcome=NOTE, came=f"by itself it passes; beside other scenarios: {earlier.came}")
+            if earlier.outcome == FAIL and later.outcome == PASS else later
+            for earlier, later in zip(before, verdicts)]
+
+
+def run_all(scenarios: List[Scenario], open_stage: OpenStage,
+            at_once: int) -> Iterator[Tuple[Scenario, List[Verdict]]]:
+    """Each scenario with its verdicts, in their order, each as soon as it and those before it are there."""
     pool = concurrent.futures.ThreadPoolExecutor(at_once)
     # (the longest first, so that none of them begins last)
     order = sorted(scenarios, key=lambda scenario: -float(scenario.settings.get("lasts", 0)))
     running = {scenario.name: pool.submit(run, scenario, open_stage) for scenario in order}
     try:
         for scenario in scenarios:
-            yield running[scenario.name].result()
+            yield scenario, running[scenario.name].result()
     finally:  # (who ends it early ends what the scenarios wait for, and does not wait for them)
         pool.shutdown(wait=False, cancel_futures=True)

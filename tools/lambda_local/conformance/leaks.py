@@ -1,6 +1,7 @@
 """Whether what a process holds stops growing: it is looked at after each part of a long run of the same requests."""
 import os
 import tempfile
+import time
 from typing import Callable, Dict, Iterator, List, NamedTuple, Tuple
 
 from .clock import CLOCK
@@ -19,6 +20,7 @@ GROWN = 4_000_000  # and in all
 EVEN = 0.5  # of the growth before, that there is still at the end
 READ = 200_000  # bytes of a file that are searched
 FILE = 1000  # bytes of a file that may be one for each request; a larger one is a payload
+LEFT = 5  # files, from which on they are one for each
 
 
 class Look(NamedTuple):
@@ -76,22 +78,26 @@ class Looks:
         return f"{(values[-1] - values[len(values) // 4]) / 1e6:+.1f} MB in {self.done} invocations"
 
 
-def repeat(process: Process, once: Callable[[int], None], count: int, seconds: float, patience: float) -> Looks:
+def repeat(process: Process, files: "Files", once: Callable[[int], None], count: int, seconds: float,
+           patience: float) -> Looks:
     """Calls `once` with the numbers from 0 on, this often or for so many seconds, and then for as long as memory grows,
-    up to `patience` seconds more. Returns what the process held."""
+    up to `patience` seconds more. Returns what the process held; `files` looks as often."""
     looks, done, begun = Looks(process), 0, CLOCK.now()
+    files.look(0)
     part = max(1, min(PART, count // (4 * LEAST_PARTS)))
     while done < count and CLOCK.now() - begun < seconds:
         for _ in range(part):
             once(done)
             done += 1
         looks.look(done)
+        files.look(done)
     end = CLOCK.now() + patience
     while looks.grows() and CLOCK.now() < end and done < LARGEST * count:
         for _ in range(part):
             once(done)
             done += 1
         looks.look(done)
+        files.look(done)
     return looks
 
 
@@ -117,33 +123,82 @@ def judge(stage: Stage, looks: Looks, names: Dict[str, str], wanted: int) -> Non
 
 # ---- files -----------------------------------------------------------------------------------------------------------
 
-def folders(stage: Stage) -> List[str]:
-    """Where a process may write: the temporary folders, and its own."""
-    named = {tempfile.gettempdir(), stage.variables.get("TMPDIR", ""), "/tmp", "/var/tmp", "/dev/shm", os.getcwd()}
-    return sorted(folder for folder in named if folder and os.path.isdir(folder))
+class Files:
+    """What a process leaves in the folder for temporary files, which is its own, and in others, in which what is its
+    own has one of these marks in its name or in it: only the tested program knows these. `each` are the bytes for each
+    request by which a single file grows that is not to."""
 
+    def __init__(self, stage: Stage, marks: Callable[[], List[bytes]], each: int = FILE) -> None:
+        self._stage, self._marks, self._each, self._since = stage, marks, each, time.time() - 1
+        self._looks: List[Tuple[int, int, int]] = []  # requests, and entries and bytes of its own folder
 
-def left_files(stage: Stage, marks: List[bytes], since: float) -> List[int]:
-    """The sizes of the files, written since a moment, that have one of these marks in them: only the tested program
-    knows these."""
-    sizes = []
-    for folder in folders(stage):
-        for entry in entries(folder):
-            try:
-                found = entry.stat(follow_symlinks=False)
-                if not entry.is_file(follow_symlinks=False) or found.st_mtime < since or found.st_uid != os.getuid():
+    def look(self, done: int) -> None:
+        sizes = [size_of(entry) for entry in below(self._stage.variables["TMPDIR"])]
+        self._looks.append((done, len(sizes), sum(sizes)))
+
+    def judge(self, name: str) -> None:
+        """A file for each request fills the folder in the end; clients of AWS's own leave small ones."""
+        quarter = len(self._looks) // 4
+        (first, entries, size), (done, more, larger) = self._looks[quarter], self._looks[-1]
+        elsewhere = self._left_elsewhere()
+        count, total = more - entries + len(elsewhere), larger - size + sum(elsewhere)
+        words = f"{count} files with {total:,} bytes, after {done} invocations"
+        has_many = count >= LEFT
+        if total > (FILE * count if has_many else self._each * max(done - first, LEFT)):
+            return self._stage.jury.judge(name, FAIL, words)
+        if has_many:
+            return self._stage.should(name, words)
+        return self._stage.check(name, True, "", f"{max(count, 0)} left")
+
+    def _left_elsewhere(self) -> List[int]:
+        """The sizes of the files of other folders, written since it began."""
+        marks, sizes = self._marks(), []
+        for folder in self._folders():
+            for entry in entries_of(folder):
+                try:
+                    found = entry.stat(follow_symlinks=False)
+                    if found.st_mtime >= self._since and found.st_uid == os.getuid() and has_a_mark(entry, marks):
+                        sizes.append(found.st_size)
+                except OSError:
                     continue
-                with open(entry.path, "rb") as file:
-                    content = file.read(READ)
-                if any(mark in content for mark in marks):
-                    sizes.append(found.st_size)
-            except OSError:
-                continue
-    return sizes
+        return sizes
+
+    def _folders(self) -> List[str]:
+        own = self._stage.variables["TMPDIR"]
+        named = {tempfile.gettempdir(), "/tmp", "/var/tmp", "/dev/shm", os.getcwd()}
+        return sorted(folder for folder in named if folder != own and os.path.isdir(folder))
 
 
-def entries(folder: str) -> Iterator[os.DirEntry[str]]:
-    """The files of a folder, and of those in it."""
+def has_a_mark(entry: os.DirEntry[str], marks: List[bytes]) -> bool:
+    if any(mark in os.fsencode(entry.name) for mark in marks):
+        return True
+    if not entry.is_file(follow_symlinks=False):
+        return False
+    with open(entry.path, "rb") as file:
+        content = file.read(READ)
+    return any(mark in content for mark in marks)
+
+
+def size_of(entry: os.DirEntry[str]) -> int:
+    try:
+        return entry.stat(follow_symlinks=False).st_size if entry.is_file(follow_symlinks=False) else 0
+    except OSError:
+        return 0
+
+
+def below(folder: str) -> Iterator[os.DirEntry[str]]:
+    """All entries below a folder."""
+    try:
+        for entry in os.scandir(folder):
+            yield entry
+            if entry.is_dir(follow_symlinks=False):
+                yield from below(entry.path)
+    except OSError:
+        return
+
+
+def entries_of(folder: str) -> Iterator[os.DirEntry[str]]:
+    """The entries of a folder, and of those in it."""
     for entry in os.scandir(folder):
         yield entry
         try:
@@ -151,12 +206,3 @@ def entries(folder: str) -> Iterator[os.DirEntry[str]]:
                 yield from os.scandir(entry.path)
         except OSError:
             continue
-
-
-def judge_files(stage: Stage, name: str, marks: List[bytes], since: float, done: int) -> None:
-    """A file for each request fills the temporary folder in the end; clients of AWS's own leave small ones."""
-    sizes = left_files(stage, marks, since)
-    words = f"{len(sizes)} files with {sum(sizes):,} bytes, after {done} invocations"
-    if len(sizes) < 5:
-        return stage.check(name, True, "", f"{len(sizes)} left")
-    return stage.jury.judge(name, FAIL if sum(sizes) > FILE * len(sizes) else SHOULD, words)

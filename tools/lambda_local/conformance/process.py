@@ -7,11 +7,12 @@ import subprocess
 import tempfile
 import threading
 import time
-from typing import Any, Callable, Dict, Iterator, List, NamedTuple, Set
+from typing import IO, Any, Callable, Dict, Iterator, List, NamedTuple, Protocol, Set
 
 from ..guard import GUARD
 from ..service import Fault
-from .watch import OwnTime, marked, members, open_descriptors, resident, threads_of
+from .sockets import chosen_ports
+from .watch import OwnTime, open_descriptors, processes_of, resident, threads_of
 
 SHOWN = 400  # bytes of the end of what it wrote
 LOOK = 0.05  # seconds between two looks at what it does
@@ -56,6 +57,7 @@ class Processes:
         self._lock, self.closed = threading.Condition(), False
         self._running: "Set[Process]" = set()
         self._opening = 0  # stages that are being opened: their services are known to the guard only then
+        self.ports: List[int] = []  # that the command listens on, whatever else does
 
     @contextlib.contextmanager
     def opening(self) -> Iterator[None]:
@@ -96,6 +98,21 @@ class Processes:
             self._lock.wait_for(lambda: not self._opening, OPENED)
 
 
+class Child(Protocol):
+    """A process that was started: its number, and its status once it has ended, below zero by a signal."""
+    pid: int
+
+    def wait(self) -> int:
+        ...
+
+
+def begun(command: List[str], variables: Dict[str, str], output: IO[bytes]) -> Child:
+    """Starts a command in a session of its own, which the guard knows."""
+    words, pipe = GUARD.announcing([program_of(command), *command[1:]])
+    return subprocess.Popen(words, env=variables, stdin=pipe, stdout=output, stderr=subprocess.STDOUT,
+                            start_new_session=True)
+
+
 class Process:
     """A command in a session of its own. What it writes goes to a file that is gone with it."""
 
@@ -103,9 +120,7 @@ class Process:
         self.command, self.begun, self._gone = command, time.monotonic(), gone
         self.output = tempfile.TemporaryFile()
         try:
-            words, pipe = GUARD.announcing([program_of(command), *command[1:]])
-            self._child = subprocess.Popen(words, env=variables, stdin=pipe, stdout=self.output,
-                                           stderr=subprocess.STDOUT, start_new_session=True)
+            self._child = begun(command, variables, self.output)
         except OSError as fault:
             self.output.close()
             raise Fault(2, f"{command[0]} could not be started: {fault.strerror}") from None
@@ -146,7 +161,7 @@ class Process:
     def kill(self) -> None:
         """Ends all its processes as Lambda does at last."""
         self.signal(signal.SIGKILL)
-        for member in {*members(self.number), *marked(self._mark, self.number)}:
+        for member in processes_of(self.number, self._mark).running:
             try:
                 os.kill(member, signal.SIGKILL)
             except ProcessLookupError:
@@ -170,9 +185,12 @@ class Process:
             return "it runs"
         return f"it ended by signal {-self.status}" if self.status < 0 else f"it ended with status {self.status}"
 
+    def chosen_ports(self) -> List[int]:
+        """Those on which its processes listen, and which the system has not chosen."""
+        return chosen_ports(processes_of(self.number, self._mark).running)
+
     def holds(self) -> Holds:
         """What its processes hold: bytes of memory, and how many descriptors, threads, processes and zombies."""
-        running = {*members(self.number), *marked(self._mark, self.number)}
+        running, zombies = processes_of(self.number, self._mark)
         return Holds(sum(map(resident, running)), sum(map(open_descriptors, running)),
-                     sum(len(threads_of(member)) for member in running), len(running),
-                     len(members(self.number, zombies=True)))
+                     sum(len(threads_of(member)) for member in running), len(running), len(zombies))

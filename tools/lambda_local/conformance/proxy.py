@@ -310,16 +310,25 @@ class Link:
             self.proxy.note(change)
             if self.proxy.on_answer:
                 self.proxy.on_answer(exchange)
-        if manner and reply:
+        rule = exchange.by_rule if exchange else None
+        if rule and rule.close and not manner:
+            self.send_last(data)
+        elif manner and reply:
             self.send_in(manner, reply)
         elif data:
             self.client.sendall(data)
-        rule = exchange.by_rule if exchange else None
         if rule and exchange and (rule.close or (rule.stands_in and exchange.is_last)):
             return False
         if manner and manner.ends:
             return False
         return self.go_on()
+
+    def send_last(self, data: bytes) -> None:
+        """Sends bytes with the end of the stream in one segment: a client that looks for an end before it asks again
+        sees it, however soon it looks."""
+        self.client.setsockopt(socket.IPPROTO_TCP, socket.TCP_CORK, 1)
+        self.client.sendall(data)
+        self.client.shutdown(socket.SHUT_WR)
 
     def send_in(self, manner: Manner, reply: Message) -> None:
         """Writes a reply anew."""

@@ -3,7 +3,7 @@ show, and the timeline. FAILs of one cause are told once and then counted."""
 import argparse
 import os
 import subprocess
-from typing import Any, Callable, Dict, Iterable, List, Set
+from typing import Any, Callable, Dict, Iterable, List, Optional, Set
 
 from .. import junit
 from ..paths import tool
@@ -53,10 +53,17 @@ class Report:
             if not only or verdict.scenario in only or verdict.check.name in only:
                 self.add(verdict)
 
+    def tells(self, verdicts: Iterable[Verdict]) -> bool:
+        """Whether one of these is a FAIL for another cause than those before."""
+        return any(verdict.outcome == FAIL and not self._first(verdict, False) for verdict in verdicts)
+
+    def _first(self, verdict: Verdict, notes: bool = True) -> Optional[str]:
+        return self._causes.first(verdict.check.name, verdict.came, verdict.seen.cause, notes)
+
     def add(self, verdict: Verdict) -> None:
         self.counts[verdict.outcome] += 1
         is_fail = verdict.outcome == FAIL
-        first = self._causes.first(verdict.check.name, verdict.came, verdict.seen.cause) if is_fail else None
+        first = self._first(verdict) if is_fail else None
         if first:
             self._again.setdefault(first, []).append(verdict.check.name)
             details = [f"for the same cause as {first}"]

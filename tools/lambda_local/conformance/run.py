@@ -7,14 +7,19 @@ import time
 from typing import Any, Callable, List, NoReturn, Tuple, cast
 
 from . import kit
+from .causes import again_of
 from .clock import CLOCK
-from .kit import Jury, Scenario
+from .kit import FAIL, Jury, OpenStage, Scenario, Verdict
 from .process import Processes, program_of
 from .report import Report
 from .stage import Stage, Tools, patient
+from .watch import OLDER
 from ..guard import GUARD
 from ..service import Fault, NoProgram
 from ..usage import parser_of as parser_of_tool
+
+
+ENOUGH = 5  # scenarios that have failed by themselves, after which what has failed beside others is believed
 
 
 class Parser(argparse.ArgumentParser):
@@ -24,9 +29,14 @@ class Parser(argparse.ArgumentParser):
         raise Fault(2, f"{message} (`{self.prog} --help` lists the options)")
 
 
-def parser_of(name: str, description: str, options: str) -> Parser:
+def parser_of(name: str, description: str, options: str, usual: str) -> Parser:
+    """`usual` is how many invocations there are unless --invocations says how many."""
     parser = cast(Parser, parser_of_tool(f"conformance {name}", description, f"{options} -- COMMAND ..", Parser))
     parser.add_argument("--init-seconds", metavar="S", type=seconds, default=10, help="how long an Init may take (10)")
+    parser.add_argument("--idle-seconds", metavar="S", type=seconds, default=5,
+                        help="how long a Next has to wait without a timeout (5)")
+    parser.add_argument("--invocations", metavar="N", type=many,
+                        help=f"after how many invocations what the process holds is compared ({usual})")
     parser.add_argument("--only", metavar="NAME", action="append", default=[],
                         help="a scenario or a check; may stand several times")
     parser.add_argument("--strict", action="store_true", help="a SHOULD is a failure too")
@@ -44,6 +54,13 @@ def seconds(text: str) -> float:
     value = float(text)
     if not 0 < value <= 3600:
         raise argparse.ArgumentTypeError(f"{text} is not a number of seconds up to 3600")
+    return value
+
+
+def many(text: str) -> int:
+    value = int(text)
+    if not 10 <= value <= 1_000_000:
+        raise argparse.ArgumentTypeError(f"{text} is not a number from 10 to 1,000,000")
     return value
 
 
@@ -84,6 +101,7 @@ def play(name: str, registry: List[Scenario], options: argparse.Namespace, comma
     for number in (signal.SIGTERM, signal.SIGINT, signal.SIGHUP):
         signal.signal(number, ended_by_signal)
     CLOCK.start()
+    OLDER.note()
     processes = Processes()
     try:
         tools = Tools(command, options.program, processes, options)
@@ -99,8 +117,10 @@ def play(name: str, registry: List[Scenario], options: argparse.Namespace, comma
             chosen, only = [], []
         if chosen[:1] == registry[:1] or not chosen:
             report.add_all(first, only)
-        for verdicts in kit.run_all([one for one in chosen if one is not registry[0]], open_stage, at_once()):
-            report.add_all(verdicts, only)
+        if processes.ports and len(chosen) > 1:
+            report.write(f"it listens on port {processes.ports[0]}: one scenario is played after the other")
+        judge_others([one for one in chosen if one is not registry[0]], open_stage, report, only,
+                     1 if processes.ports else at_once())
         return report.finish(time.monotonic() - begun)
     except NoProgram:
         raise
@@ -114,6 +134,29 @@ def play(name: str, registry: List[Scenario], options: argparse.Namespace, comma
         os._exit(int(end.code or 0))
     finally:
         processes.close()
+
+
+def judge_others(scenarios: List[Scenario], open_stage: OpenStage, report: Report, only: List[str],
+                 beside: int) -> None:
+    """Plays this many scenarios beside one another, and each that has failed once more, unless that would say nothing
+    new."""
+    failed: List[Tuple[Scenario, List[Verdict]]] = []
+    for scenario, verdicts in kit.run_all(scenarios, open_stage, beside):
+        if kit.has_failed(verdicts) and min(len(scenarios), beside) > 1:
+            failed.append((scenario, verdicts))
+        else:
+            report.add_all(verdicts, only)
+    confirmed = 0
+    for scenario, verdicts in sorted(failed, key=lambda one: fails_later(one[1])):  # (the cause comes first)
+        if confirmed < ENOUGH and report.tells(verdicts):
+            verdicts = kit.run_alone(scenario, open_stage, verdicts)
+            confirmed += kit.has_failed(verdicts)
+        report.add_all(verdicts, only)
+
+
+def fails_later(verdicts: List[Verdict]) -> bool:
+    """Whether what failed is something that another scenario is about."""
+    return all(again_of(verdict.came) for verdict in verdicts if verdict.outcome == FAIL)
 
 
 def at_once() -> int:

@@ -7,6 +7,7 @@ import itertools
 import json
 import math
 import os
+import tempfile
 import time
 from typing import Any, Callable, Dict, Iterator, List, NamedTuple, Optional, Sequence, Union
 
@@ -14,6 +15,7 @@ from ..history import parked
 from ..service import Fault, Service, ask
 from .clock import CLOCK
 from .environment import LOOK, Environment
+from .exchanges import as_json, read_json
 from .kit import FAIL, NOTE, PASS, SHOULD, Jury, Missing, Scenario
 from .process import Processes
 from .watch import OwnTime
@@ -28,6 +30,7 @@ BEHIND = 3  # lines of what the connections show
 SILENT = 12  # seconds of its own after which a process that has to answer, or to ask, does not do so any more
 MALFORMED = (400, 404, 405, 411, 414, 431, 501, 505)  # statuses of requests that are wrong in whatever state
 REFUSED = 3  # polls that are refused for what they are, after which it is not waited for another one
+RESTARTS = "its command starts other processes in place of those that have ended"
 STAGES = itertools.count()
 
 
@@ -53,17 +56,14 @@ class Answer(NamedTuple):
     def value(self) -> Any:
         """The body as JSON; Missing if it is none."""
         try:
-            return json.loads(self.body)
+            return read_json(self.body)
         except ValueError:
             raise Missing(f"the caller received what is not JSON: {shown(self.body)}") from None
 
     @property
     def report(self) -> Dict[str, Any]:
         """Returns the error report; an empty one if it is not a JSON object."""
-        try:
-            value = json.loads(self.body)
-        except ValueError:
-            return {}
+        value = as_json(self.body)
         return value if isinstance(value, dict) else {}
 
 
@@ -86,18 +86,21 @@ class Stage:
 
     def __init__(self, tools: Tools, scenario: Scenario, jury: Jury, environments: int = 1, timeout: int = 30,
                  handler: str = KITS_HANDLER, start: bool = True, extensions: Sequence[str] = (), lasts: int = 0,
-                 drawn: bool = True, first: bool = False, variables: Optional[Dict[str, str]] = None) -> None:
-        self.tools, self.scenario, self.jury, self.variables = tools, scenario, jury, variables or {}
+                 drawn: bool = True, first: bool = False, variables: Optional[Dict[str, str]] = None,
+                 own_folder: bool = False, judged: str = FAIL) -> None:
+        self.tools, self.scenario, self.jury, self.variables = tools, scenario, jury, dict(variables or {})
         # (the service's clock is the real one: on a busy machine a function has more of it)
         self.is_long, self.is_first = timeout > SILENT, first  # (no handler takes as long)
         self.timeout = timeout = math.ceil(timeout * CLOCK.slowness())
         self.patience = tools.options.init_seconds + PATIENCE
-        self.name = scenario.name
+        self.name, self._cause = scenario.name, ""
         function = {"name": self.name, "handler": handler, "timeout": timeout, "ports": [0] * environments,
                     "extensions": list(extensions)}
         configuration = {"account": ACCOUNT, "region": REGION, "salt": salt(), "functions": [function]}
         with tools.processes.opening():
             self.service = Service(configuration, tools.program)
+        if own_folder:  # for temporary files, below the service's, which is removed in any case
+            self.variables["TMPDIR"] = tempfile.mkdtemp(dir=self.service.folder)
         self.function = self.service.configuration["functions"][0]
         self.arn = f"arn:aws:lambda:{REGION}:{ACCOUNT}:function:{self.name}"
         self.environments = [Environment(self, number, port) for number, port in enumerate(self.function["ports"], 1)]
@@ -131,6 +134,8 @@ class Stage:
         self.end()
 
     def end(self) -> None:
+        if self.is_first and self.environment.is_started:
+            self.tools.processes.ports = self.environment.process.chosen_ports()
         for environment in self.environments:
             environment.kill()
         self.service.kill()
@@ -167,6 +172,8 @@ class Stage:
 
     def in_time(self, name: str, passed: Any, own: OwnTime, limit: float, came: Any, measured: str = "") -> None:
         """Judges what has a limit in seconds: a program is late by its own time alone, and in time by the real one."""
+        if not passed and own.has_others():
+            self._cause = RESTARTS
         if passed and own.real > limit:
             return self.note(name, f"after {own.real:.1f} s, of {limit:g}: in time only because this machine is busy "
                                    f"with other things")
@@ -266,7 +273,7 @@ class Stage:
         if any(exchange.behind for exchange in exchanges):
             return "a body is longer than its length says"
         malformed = next((one for one in exchanges if one.status in MALFORMED and not one.by_rule), None)
-        return f"{malformed.kind} is answered {malformed.status}" if malformed else ""
+        return f"{malformed.kind} is answered {malformed.status}" if malformed else self._cause
 
     def on_the_wire(self) -> Iterator[str]:
         """What the connections show that may be the cause of a FAIL, and the last exchange that is over, as lines."""

@@ -1,7 +1,7 @@
 """What the system says in /proc of the processes of a session: whether they work, and what they hold."""
 import os
 import time
-from typing import Iterable, List, Optional
+from typing import FrozenSet, Iterable, List, NamedTuple, Optional
 
 from .clock import CLOCK
 
@@ -9,6 +9,7 @@ CALM = 1.3  # times as long as usual a little work may take before it matters wh
 LISTED = 2.0  # seconds for which a list of processes is used again
 BRIEF = 0.2  # seconds in which it does not matter yet
 PAGE = os.sysconf("SC_PAGE_SIZE")
+TICKS = os.sysconf("SC_CLK_TCK")  # in a second
 
 
 def fields(path: str) -> List[str]:
@@ -25,38 +26,75 @@ def fields(path: str) -> List[str]:
         os.close(descriptor)
 
 
-def numbers() -> List[int]:
-    return [int(name) for name in os.listdir("/proc") if name.isdigit()]
+class Older:
+    """The processes that were there before any that is tested: none of these is looked at, since on most machines they
+    are the most."""
+
+    def __init__(self) -> None:
+        self._names: FrozenSet[str] = frozenset()
+
+    def note(self) -> None:
+        self._names = frozenset(os.listdir("/proc"))
+
+    def others(self) -> List[int]:
+        """The numbers of all others. (A number may come again once its process has ended.)"""
+        names = os.listdir("/proc")
+        self._names = self._names.intersection(names)
+        return [int(name) for name in names if name not in self._names and name.isdigit()]
 
 
-def members(session: int, zombies: bool = False) -> List[int]:
-    """The numbers of the session's processes: those that run, or those that have ended and are not waited for."""
-    found = []
-    for number in numbers():
+OLDER = Older()
+
+
+def members(session: int) -> List[int]:
+    """The numbers of the session's processes that run."""
+    return [number for number in OLDER.others() if is_of(session, fields(f"/proc/{number}/stat"))]
+
+
+def is_of(session: int, words: List[str]) -> bool:
+    """Whether a process with these words runs, and is of the session."""
+    return bool(words) and int(words[3]) == session and words[0] != "Z"
+
+
+class Found(NamedTuple):
+    """The processes of a command: those that run, and those of its session that have ended and are not waited for."""
+    running: List[int]
+    zombies: List[int]
+
+
+def processes_of(session: int, mark: bytes) -> Found:
+    """Those of a session, and those that are not older and have these words in their environment, in whatever
+    session."""
+    found, begun = Found([], []), begun_at(session) or 0
+    for number in OLDER.others():
         words = fields(f"/proc/{number}/stat")
-        if words and int(words[3]) == session and (words[0] == "Z") == zombies:
-            found.append(number)
+        if words and int(words[3]) == session:
+            (found.zombies if words[0] == "Z" else found.running).append(number)
+        elif words and int(words[19]) >= begun and has_mark(number, mark):
+            found.running.append(number)
     return found
 
 
-def marked(mark: bytes, since: int) -> List[int]:
-    """The processes with these words in their environment that are not older than this one, in whatever session."""
-    begun, found = begun_at(since) or 0, []
-    for number in numbers():
-        if (begun_at(number) or 0) >= begun:
-            try:
-                with open(f"/proc/{number}/environ", "rb") as file:
-                    if mark in file.read().split(b"\0"):
-                        found.append(number)
-            except OSError:
-                continue
-    return found
+def has_mark(process: int, mark: bytes) -> bool:
+    """Whether these words are a variable in its environment."""
+    try:
+        with open(f"/proc/{process}/environ", "rb") as file:
+            return mark in file.read().split(b"\0")
+    except OSError:
+        return False
 
 
 def begun_at(process: int) -> Optional[int]:
     """When a process began, in the system's own clock ticks; None if it is gone."""
     words = fields(f"/proc/{process}/stat")
     return int(words[19]) if words else None
+
+
+def began_after(process: int, moment: float) -> bool:
+    """Whether a process began after a moment of `time.monotonic`."""
+    ticks = begun_at(process)
+    uptime = time.clock_gettime(time.CLOCK_BOOTTIME) - (time.monotonic() - moment)
+    return ticks is not None and ticks / TICKS > uptime
 
 
 def parent_of(process: int) -> Optional[int]:
@@ -100,7 +138,8 @@ class OwnTime:
     def __init__(self, session: int) -> None:
         self._session, self._listed = session, 0.0
         self._members: List[int] = []
-        self._at, self.seconds, self.real = time.monotonic(), 0.0, 0.0
+        self._begun = self._at = time.monotonic()
+        self.seconds, self.real = 0.0, 0.0
 
     def look(self) -> float:
         """Counts the time since the last look. Returns the seconds until now."""
@@ -111,6 +150,11 @@ class OwnTime:
         is_whole = slowness < CALM or (self.real > BRIEF and self._asleep(now))
         self.seconds += passed if is_whole else passed / slowness
         return self.seconds
+
+    def has_others(self) -> bool:
+        """Whether there are processes now that have been started since: in place of others, if the command itself is to
+        have ended."""
+        return any(began_after(number, self._begun) for number in members(self._session))
 
     def _asleep(self, now: float) -> bool:
         if now - self._listed > LISTED:

@@ -16,7 +16,7 @@ import argparse
 from typing import List
 
 from ...service import Fault
-from ..run import check_arguments, listed, parser_of, play, seconds, split
+from ..run import check_arguments, listed, parser_of, play, split
 from . import another, batches, delivery, last_batches, load, reports, scenarios, telemetry
 from .stage import ExtensionStage
 
@@ -37,12 +37,10 @@ def main(words: List[str]) -> int:
     words, command = split(words)
     parser = parser_of("extension", __doc__,
                        "--name NAME [--events INVOKE,SHUTDOWN] [--init-seconds S] [--only NAME] [--strict] "
-                       "[--junit FILE] [--pictures DIR] [--program P]")
+                       "[--junit FILE] [--pictures DIR] [--program P]", "500, or as many as there are in 8 s")
     parser.add_argument("--name", metavar="NAME", help="the name under which it registers")
     parser.add_argument("--events", metavar="EVENTS", type=events, default=list(EVENTS),
                         help="what it registers for (INVOKE,SHUTDOWN)")
-    parser.add_argument("--idle-seconds", metavar="S", type=seconds, default=5,
-                        help="how long a Next has to wait without a timeout (5)")
     options = parser.parse_args(words)
     check_arguments(options, command, SCENARIOS)
     if options.list:

@@ -1,5 +1,4 @@
 """Many events, one after the other."""
-import time
 from typing import List
 
 from .. import leaks, pages
@@ -9,8 +8,8 @@ from .stage import ExtensionStage
 SCENARIOS: List[Scenario] = []
 scenario = scenarios_of(SCENARIOS)
 
-EVENTS = 500
-SECONDS = 8  # that they may take
+EVENTS = 500  # unless --invocations says how many
+SECONDS = 8  # that they may take, unless it does
 PATIENCE = 15  # seconds more, for as long as memory grows
 CHECKS = {"memory": "memory", "descriptors": "descriptors", "threads": "threads", "processes": "children",
           "zombies": "zombies"}
@@ -25,24 +24,29 @@ CHECKS = {"memory": "memory", "descriptors": "descriptors", "threads": "threads"
     ("children", pages.REUSE, "nor processes that run"),
     ("zombies", pages.REUSE, "nor ended ones that are not waited for"),
     ("files", pages.REUSE, "nor large files; a small one for each event is a SHOULD"),
-    lasts=10, drawn=False)
+    lasts=10, drawn=False, own_folder=True)
 def many_events(stage: ExtensionStage) -> None:
     stage.begin()
     stage.idle()
     if not stage.registered_for("INVOKE"):
         return stage.jury.rest(NOTE, "it does not register for INVOKE")
-    since, process = time.time() - 1, stage.environment.process
+    process, given = stage.environment.process, stage.tools.options.invocations
+    wanted = given or EVENTS
 
     def once(number: int) -> None:
         if stage.invoke(str(number).encode()).failed or process.ended:
             raise Missing(f"it did not take event {number + 1}: {stage.said()}")
+    def marks() -> List[bytes]:
+        requests = [event["requestId"].encode() for event in map(stage.body_of, stage.events("INVOKE")[-200:])]
+        return [stage.identifier.encode(), *requests]
+    files = leaks.Files(stage, marks)
     try:
-        looks = leaks.repeat(process, once, EVENTS, SECONDS, PATIENCE)
+        looks = leaks.repeat(process, files, once, wanted, float("inf") if given else SECONDS,
+                             0 if given and given < EVENTS // 2 else PATIENCE)
         stage.event("INVOKE", looks.done)
     except Missing as missing:
         stage.check("many_events", False, str(missing))
         return stage.jury.rest(NOTE, "not judged: it does not take as many")
     stage.check("many_events", not process.ended, stage.said(), f"{looks.done} events")
-    leaks.judge(stage, looks, CHECKS, EVENTS)
-    requests = [event["requestId"].encode() for event in map(stage.body_of, stage.events("INVOKE")[-200:])]
-    return leaks.judge_files(stage, "files", [stage.identifier.encode(), *requests], since, looks.done)
+    leaks.judge(stage, looks, CHECKS, wanted)
+    return files.judge("files")

@@ -5,6 +5,7 @@ from .. import pages
 from ..kit import Missing, Scenario, scenarios_of
 from ..exchanges import Rule
 from ..stage import shown
+from ..watch import OwnTime
 from .stage import FAILURE_TYPE, ExtensionStage
 
 SCENARIOS: List[Scenario] = []
@@ -13,6 +14,7 @@ scenario = scenarios_of(SCENARIOS)
 ENDS = 3  # seconds in which a process that has to end promptly has ended
 ASKS = 5  # seconds in which a request has come that follows from what came before
 MANY = 50  # requests in these that ask for nothing new
+LOOK = 0.05  # seconds between two looks
 CONTAINER_ERROR = b'{"errorMessage":"Environment is shutting down","errorType":"ContainerError"}'
 UNKNOWN = b'{"errorMessage":"Unknown extension","errorType":"Extension.UnknownExtensionIdentifier"}'
 REFUSED = b'{"errorMessage":"The extension cannot register","errorType":"Extension.RegistrationRefused"}'
@@ -107,6 +109,13 @@ def container_error_at_registration(stage: ExtensionStage) -> None:
         stage.should("ends_at_500_register", f"it asked {len(polls)} times for an event before it ended")
 
 
+def again_and_again(stage: ExtensionStage, kind: str) -> None:
+    """Waits until it ends, or has made a request of a kind again and again, or does neither."""
+    process, own = stage.environment.process, OwnTime(stage.environment.process.number)
+    while not process.ended and own.look() < ENDS and len(stage.environment.proxy.of(kind)) <= MANY:
+        process.wait(LOOK)
+
+
 @scenario(
     ("refused_registration", pages.REGISTER,
      "if its registration is refused (403) it ends, or registers again; one that asks for events as if it were not "
@@ -118,12 +127,12 @@ def registration_refused(stage: ExtensionStage) -> None:
     process = stage.environment.process
     if not stage.environment.asked(kind="register"):
         raise Missing(f"it did not register: {stage.said()}")
-    process.wait(ENDS)
+    again_and_again(stage, "register")
     polls, tries = proxy.of("event"), len(proxy.of("register"))
     if polls:
         stage.should("refused_registration", f"after 403 it asks all the same: {polls[0]}")
     elif tries > MANY:
-        stage.should("refused_registration", f"it registers {tries} times in {ENDS} s")
+        stage.should("refused_registration", f"it registers {tries} times within {ENDS} s")
     stage.check("refused_registration", process.ended or tries > 1 or bool(polls),
                 f"after 403 it neither ends nor registers again: {stage.said()}", process.how_it_ended())
 
@@ -138,10 +147,10 @@ def next_refused(stage: ExtensionStage) -> None:
     if not stage.environment.asked(kind="event"):
         raise Missing(f"it did not ask for an event: {stage.said()}")
     process = stage.environment.process
-    process.wait(ENDS)
+    again_and_again(stage, "event")
     tries = len(proxy.of("event"))
     if tries > MANY:
-        stage.should("refused_next", f"it asks {tries} times in {ENDS} s")
+        stage.should("refused_next", f"it asks {tries} times within {ENDS} s")
     del proxy.always["event"]
     goes_on = process.ended or stage.environment.asked(tries + 1, ASKS, kind="event")
     stage.check("refused_next", goes_on or tries > 1, f"after 403 it neither ends nor asks again: {stage.said()}",

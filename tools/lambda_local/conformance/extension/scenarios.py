@@ -1,16 +1,15 @@
 """The phases of an external extension: its registration, its invocations, its end."""
 import os
 import signal
-import time
 from typing import List
 
 from .. import pages
 from ..clock import CLOCK
 from ..exchanges import Exchange
 from ..kit import NOTE, Missing, Scenario, scenarios_of
-from ..watch import begun_at, members, parent_of
+from ..watch import began_after, members, parent_of
+from ..sockets import owner_of
 from ..stage import shown
-from .sockets import owner_of
 from .stage import SHUTDOWN_SECONDS, SPARE, ExtensionStage, report_failure
 
 SCENARIOS: List[Scenario] = []
@@ -173,20 +172,13 @@ def worker_of(stage: ExtensionStage) -> int:
     found = owner_of(environment.proxy.of("event")[-1].peer, environment.proxy.port, session)
     if found is None:
         raise Missing("the process that asks for events was not found")
-    since = stage.registration
-    while found != environment.process.number and is_younger(found, since):
+    since = stage.registration.begun
+    while found != environment.process.number and began_after(found, since):
         parent = parent_of(found)
         if parent is None or parent not in session:
             break
         found = parent
     return found
-
-
-def is_younger(process: int, exchange: Exchange) -> bool:
-    """Whether a process began after this exchange did."""
-    ticks = begun_at(process)
-    uptime = time.clock_gettime(time.CLOCK_BOOTTIME) - (time.monotonic() - exchange.begun)
-    return ticks is not None and ticks / os.sysconf("SC_CLK_TCK") > uptime
 
 
 @scenario(
@@ -200,8 +192,9 @@ def crash(stage: ExtensionStage) -> None:
     environment, found = stage.environment, worker_of(stage)
     identifier = stage.identifier
     os.kill(found, signal.SIGKILL)
-    stage.check("crash_noticed", environment.process.wait(ENDS),
-                f"{ENDS} s after its process {found} was killed the command still runs")
+    has_ended = environment.process.wait(ENDS)
+    stage.in_time("crash_noticed", has_ended, environment.process.own, ENDS,
+                  f"{ENDS} s after its process {found} was killed the command still runs")
     environment.kill()
     report_failure(environment.service_port, identifier, "it was killed")
     works_anew(stage, "works_after_crash")

@@ -10,32 +10,20 @@ SHOULD if it does not do what the documents recommend, as some clients of AWS's 
 
 Exit statuses: 0; 1 if a check is a FAIL, or with --strict a SHOULD; 2 for wrong usage, or a command that cannot be
 tested."""
-import argparse
 from typing import List
 
-from ..run import check_arguments, listed, parser_of, play, seconds, split
+from ..run import check_arguments, listed, parser_of, play, split
 from . import another, connections, context, errors, failed_inits, first, life, load, payloads, refusals
 
 MODULES = (first, payloads, context, errors, failed_inits, life, refusals, connections, another, load)
 SCENARIOS = [scenario for module in MODULES for scenario in module.SCENARIOS]
 
 
-def many(text: str) -> int:
-    value = int(text)
-    if not 10 <= value <= 1_000_000:
-        raise argparse.ArgumentTypeError(f"{text} is not a number from 10 to 1,000,000")
-    return value
-
-
 def main(words: List[str]) -> int:
     words, command = split(words)
     parser = parser_of("runtime", __doc__,
-                       "[--init-seconds S] [--only NAME] [--strict] [--junit FILE] [--pictures DIR] [--program P]")
-    parser.add_argument("--idle-seconds", metavar="S", type=seconds, default=5,
-                        help="how long a Next has to wait without a timeout (5)")
-    parser.add_argument("--invocations", metavar="N", type=many,
-                        help="after how many invocations memory and descriptors are compared (1000, or as many as "
-                        "there are in 15 s)")
+                       "[--init-seconds S] [--only NAME] [--strict] [--junit FILE] [--pictures DIR] [--program P]",
+                       "1000, or as many as there are in 15 s")
     options = parser.parse_args(words)
     check_arguments(options, command, SCENARIOS)
     if options.list:

@@ -21,6 +21,8 @@ MESSAGES = {
     "control characters": "a tab\t, an escape \u001b[31m, a bell \u0007, a delete \u007f",
     "other letters": "Gr\u00fc\u00dfe, \u4e16\u754c, \U0001f680, e\u0301, \u2028",
     "braces": "{\"errorMessage\": \"inner\"}, ${HOME}, %s %d, <b>&amp;</b>",
+    "spaces at its ends": "  two before and after  ",
+    "a number": "404",
     "a long one": "cheese " * 400,
     "nothing": "",
 }

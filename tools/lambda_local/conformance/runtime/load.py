@@ -1,11 +1,10 @@
 """Many invocations, one after the other and at once."""
-import time
 import uuid
 from typing import List
 
 from .. import leaks, pages
 from ..again import MESSAGE, TYPE, usable
-from ..kit import NOTE, Missing, Scenario, scenarios_of
+from ..kit import NOTE, SHOULD, Missing, Scenario, scenarios_of
 from ..stage import Stage, compact, shown
 
 SCENARIOS: List[Scenario] = []
@@ -34,10 +33,10 @@ CHECKS = {"memory": "memory", "descriptors": "descriptors", "threads": "threads"
     ("children", pages.REUSE, "nor processes that run"),
     ("zombies", pages.REUSE, "nor ended ones that are not waited for"),
     ("files", pages.REUSE, "nor payloads in files; a small file for each invocation is a SHOULD"),
-    lasts=20, drawn=False)
+    lasts=20, drawn=False, own_folder=True)
 def a_thousand(stage: Stage) -> None:
     given = stage.tools.options.invocations
-    wanted, mark, since = given or INVOCATIONS, uuid.uuid4().hex, time.time() - 1
+    wanted, mark = given or INVOCATIONS, uuid.uuid4().hex
     event = compact({"do": "echo", "value": mark + "x" * (PAYLOAD - len(mark))})
     stage.idle()
     with_errors = goes_on_after_errors(stage)
@@ -47,16 +46,19 @@ def a_thousand(stage: Stage) -> None:
         answer = stage.invoke(FAILURE if fails else event)
         if answer.failed != fails or (not fails and len(answer.body) != PAYLOAD + 2):
             raise Missing(f"invocation {number + 1} gave its caller {shown(answer.body)}")
+    def marks() -> List[bytes]:
+        requests = [one.delivered for one in stage.environment.proxy.of("next")[-200:] if one.delivered]
+        return [mark.encode(), *map(str.encode, requests)]
+    files = leaks.Files(stage, marks, PAYLOAD // 5)
     try:
-        looks = leaks.repeat(stage.environment.process, once, wanted, float("inf") if given else SECONDS,
+        looks = leaks.repeat(stage.environment.process, files, once, wanted, float("inf") if given else SECONDS,
                              0 if given and given < INVOCATIONS // 2 else PATIENCE)
     except Missing as missing:
         stage.check("many_invocations", False, str(missing))
         return stage.jury.rest(NOTE, NOT_SO_MANY)
     stage.check("many_invocations", True, "", f"{looks.done} invocations")
     leaks.judge(stage, looks, CHECKS, wanted)
-    requests = [one.delivered for one in stage.environment.proxy.of("next")[-200:] if one.delivered]
-    return leaks.judge_files(stage, "files", [mark.encode(), *map(str.encode, requests)], since, looks.done)
+    return files.judge("files")
 
 
 def goes_on_after_errors(stage: Stage) -> bool:
@@ -70,10 +72,13 @@ def goes_on_after_errors(stage: Stage) -> bool:
 
 @scenario(
     ("environments_apart", pages.REUSE,
-     "several environments of a function, each a process, do not meet: each caller has its own output"),
-    environments=ENVIRONMENTS)
+     "several environments of a function, each a process, do not meet: each caller has its own output; Lambda keeps "
+     "their ports and files apart, and a local one may not: a SHOULD"),
+    environments=ENVIRONMENTS, judged=SHOULD)
 def several_at_once(stage: Stage) -> None:
     stage.idle()
     waiting = [stage.later(stage.output, {"do": "sleep", "value": 300 + number}) for number in range(ENVIRONMENTS)]
     came = [each.result() for each in waiting]
-    stage.check("environments_apart", came == [300 + number for number in range(ENVIRONMENTS)], shown(came))
+    if came != [300 + number for number in range(ENVIRONMENTS)]:
+        return stage.should("environments_apart", shown(came))
+    return stage.check("environments_apart", True, "")

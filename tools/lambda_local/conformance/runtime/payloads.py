@@ -6,8 +6,8 @@ from .. import pages
 from ..again import fault_after
 from ..kit import Missing, Scenario, scenarios_of
 from ..manners import Manner
-from ..exchanges import as_json
-from ..stage import Event, Stage, compact, shown
+from ..exchanges import Exchange, as_json
+from ..stage import Answer, Event, Stage, compact, shown
 
 SCENARIOS: List[Scenario] = []
 scenario = scenarios_of(SCENARIOS)
@@ -19,6 +19,8 @@ SPACED = (b' {"a": 1}\n', b'{\r\n\t"a": [\n1,\n2\n],\n\n"b" : null\n}\n', b'\n[ 
 NUMBERS = ["0", "-1", "1.50", "1e3", "0.1", "9007199254740993", "12345678901234567890", "-1.7976931348623157e308",
            "5e-324"]
 DEPTH = 100
+STREAMS = (["the first of the parts, ", "the second one, " * 20, "the third"],
+           ["Gr\u00fc\u00dfe, ", "\u4e16\u754c, ", "", "and behind a part that is empty " * 300, "\U0001f680"])
 PRELUDE_END = b"\0" * 8  # behind the JSON object with which a stream for HTTP begins
 TEXTS = (TEXT, "Gr\u00fc\u00dfe", "\u00e9", "\u4e16\u754c", "\U0001f680",
          "na\u00efve caf\u00e9 \u2014 \u201cd\u00e9j\u00e0 vu\u201d")
@@ -43,6 +45,9 @@ KINDS: Dict[str, Any] = {
     "lines": "one\ntwo\r\nthree\n", "tab": "\t", "bom": "\ufefftext", "separators": "\u2028\u2029",
     "backslash": "C:\\dir\\new", "template": "${x} #{y} {{z}} %s %d $1", "combining": "e\u0301",
     "emoji": "\U0001f468\u200d\U0001f469\u200d\U0001f467", "right_to_left": "\u05e9\u05dc\u05d5\u05dd",
+    "a name of many letters, " * 20: {"and ": {"of many ": 1, "more ": [None]}}, "x" * 300: "y" * 300,
+    "same": {"same": {"same": [{"same": 1}, {"same": 2}]}}, "equal": [{"a": ["b", {}]}, {"a": ["b", {}]}],
+    "mixed": [1, "1", True, "true", None, "null", 1.5, "1.5"],
 }
 
 
@@ -182,6 +187,9 @@ def large_payloads(stage: Stage) -> None:
     answer = stage.invoke({"do": "large", "value": LIMIT - 2})
     stage.check("output_limit", answer.body == b'"' + b"x" * (LIMIT - 2) + b'"',
                 f"the caller received {len(answer.body):,} bytes: {shown(answer.body)}")
+    fault = fault_after(stage, "after a large output")
+    if fault:
+        stage.check("output_limit", False, fault)
 
 
 @scenario(
@@ -202,16 +210,22 @@ def events_one_after_the_other(stage: Stage) -> None:
 
 @scenario(
     ("stream", pages.STREAMING,
-     "a streamed response has Lambda-Runtime-Function-Response-Mode: streaming and is sent in chunks; "
-     "a runtime that streams nothing sends the texts as one (a NOTE)"))
+     "a streamed response has Lambda-Runtime-Function-Response-Mode: streaming and is sent in chunks, none of which is "
+     "its end before its time; a runtime that streams nothing sends the texts as one (a NOTE)"))
 def streamed(stage: Stage) -> None:
-    texts = ["the first of the parts, ", "the second one, " * 20, "the third"]
-    answer = stage.invoke({"do": "stream", "value": texts})
-    exchange = stage.environment.saw("response", 5)
-    if exchange is None:
-        raise Missing("it sent no response")
+    for texts in STREAMS:
+        answer = stage.invoke({"do": "stream", "value": texts})
+        exchange = stage.environment.saw("response", 5, len(stage.environment.proxy.of("response")))
+        if exchange is None:
+            raise Missing("it sent no response")
+        judge_stream(stage, "".join(texts), answer, exchange)
+    fault = fault_after(stage, "after a stream")
+    if fault:
+        stage.check("stream", False, fault)
+
+
+def judge_stream(stage: Stage, whole: str, answer: Answer, exchange: Exchange) -> None:
     mode = exchange.request.headers.get("lambda-runtime-function-response-mode")
-    whole = "".join(texts)
     if mode is None:
         if is_json(answer.body, whole):
             return stage.note("stream", "it does not stream: the response came whole")

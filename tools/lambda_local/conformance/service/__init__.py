@@ -37,6 +37,7 @@ MOST_TIMEOUT = 10  # seconds: with a longer one, the sequences with a timeout ar
 FRESH_SHARE = 0.75  # of the random sequences begin with a fresh environment
 INIT_ERROR_ROUTE = "POST /2018-06-01/runtime/init/error"
 BATCH = 20  # random sequences that are made at once
+LATER = 3  # times that what was left undecided is looked into again, since this machine may be less busy then
 
 
 class Run:
@@ -49,6 +50,7 @@ class Run:
         self.oracle = Oracle(program_path(options.program), USUAL_TIMEOUT, self.tested.environments)
         self.generator, self.begun = Generator(random.Random(options.seed)), time.monotonic()
         self.reported: Set[Tuple[str, str, str]] = set()  # of differences, the words
+        self.undecided: List[Plan] = []
 
     def prepare(self) -> bool:
         """Finds out whether a Runtime API answers, and the function's timeout. Returns whether sequences can begin."""
@@ -77,8 +79,17 @@ class Run:
         return self.course.ask(Call("next"), {}, SURELY) in (0, 200, 202, 403, 500)
 
     def everything(self) -> None:
+        self.all_sequences()
+        for _ in range(LATER):
+            plans, self.undecided = self.undecided, []
+            for plan in plans:
+                self._play(plan)
+        self.report.undecided = len(self.undecided)
+
+    def all_sequences(self) -> None:
         if self.options.second:
-            return self.play_all(pairs_of(self.oracle))
+            self.play(pairs_of(self.oracle), False)
+            return
         with_timeouts = self.oracle.timeout <= MOST_TIMEOUT
         share = 0.0
         for start, until in ((FRESH, FRESH_SHARE), (WARM, 1.0)):
@@ -89,10 +100,6 @@ class Run:
             share = until
         if not with_timeouts:
             self.report.write(f"left out: sequences with a timeout, since it is {self.oracle.timeout} s")
-
-    def play_all(self, plans: List[Plan]) -> None:
-        """Plays these, which are worked ones."""
-        self.play(plans, False)
 
     def _random(self, start: str, share: float, until: float) -> None:
         """Random sequences until their share of the number or of the time is used up."""
@@ -112,11 +119,17 @@ class Run:
         for plan in plans:
             if self.over():
                 break
-            played = self.course.play(plan)
-            if played.difference and played.difference.words not in self.reported:
-                self._look_into(plan, played)
-            self.report.passed(plan.sequence, played.seconds, is_random)
+            self.report.passed(plan.sequence, self._play(plan), is_random)
         return len(plans)
+
+    def _play(self, plan: Plan) -> float:
+        """Plays one, and reports what differs: the seconds that it took."""
+        if self.over():
+            return 0.0
+        played = self.course.play(plan)
+        if played.difference and played.difference.words not in self.reported:
+            self._look_into(plan, played)
+        return played.seconds
 
     def _look_into(self, plan: Plan, played: Played) -> None:
         """Reports a difference with as few calls as show it. One that does not show again with more time between the
@@ -129,7 +142,7 @@ class Run:
             if not self.options.second:
                 difference = minimised(self.course, self.oracle, difference)
         except Undecided:
-            self.report.undecided += 1
+            self.undecided.append(plan)
             return
         except (OSError, Unrecoverable):  # (what the service does not survive is reported as it was last seen)
             if difference := difference or self.course.found:
