@@ -5,7 +5,7 @@ import time
 from typing import Callable, Dict, Iterator, List, NamedTuple, Tuple
 
 from .clock import CLOCK
-from .kit import FAIL, NOTE, PASS, SHOULD
+from .kit import FAIL, NOTE, PASS
 from .process import Holds, Process
 from .stage import Stage
 

@@ -5,7 +5,6 @@ from typing import List
 
 from .. import pages
 from ..clock import CLOCK
-from ..exchanges import Exchange
 from ..kit import NOTE, Missing, Scenario, scenarios_of
 from ..watch import began_after, members, parent_of
 from ..sockets import owner_of

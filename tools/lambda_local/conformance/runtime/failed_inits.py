@@ -54,6 +54,8 @@ def failing_init(stage: Stage) -> None:
     process = stage.environment.process
     if exchange:
         ended = process.wait(ENDS)
+        if (count := len(stage.environment.proxy.of("init_error"))) > 1:
+            stage.should("init_error", f"it reports its Init {count} times")
         return stage.in_time("init_error_ends", ended, process.own, ENDS,
                              f"{ENDS} s after its report {process.how_it_ended()}")
     if "init_error" in stage.jury.verdicts and stage.environment.proxy.of("next"):
