@@ -248,10 +248,13 @@ class Plugin(Case):
                 ({"environments": 0}, fails, "function f: environments must be a whole number from 1 to 256, not 0"),
                 ({"environments": 2, "ports": [0, 0]}, fails,
                  "function f: it has ports and environments: leave one of the two out"),
+                ({"handler": fails}, None, "function f: handler is a name, which nothing calls here: give the function "
+                                           "itself, as start(f=..)"),
                 (5, fails, "function f: its members are 5: give a dict, such as {\"timeout\": 5}"),
                 ({}, "app.handler", "function f: its handler is 'app.handler': give a function of an event, or of an "
                                     "event and its context")):
-            self.check(f"wrong: {wanted}", fault_of(LambdaLocal, {"f": members}, f=handler), f"ValueError: {wanted}")
+            handlers = {"f": handler} if handler else {}
+            self.check(f"wrong: {wanted}", fault_of(LambdaLocal, {"f": members}, **handlers), f"ValueError: {wanted}")
         with LambdaLocal(f=fails) as service:
             self.check("a second start", fault_of(service.start, g=fails),
                        "RuntimeError: it has been started: name all functions in one start(), or make another "

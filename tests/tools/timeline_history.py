@@ -223,6 +223,17 @@ class TimelineHistory(TimelineCase):
         self.check("hidden: the calls", (calls(), calls("--all")) == (8, 11), shown=f"{calls()} {calls('--all')}")
         self.check("hidden calls do not count for --limit", calls("--limit", "8") == 8)
 
+    def test_reports(self):
+        """A report with a type is told as lambda_local up tells it; any other as it is."""
+        python = ('{"errorMessage":%20"\'x\'",%20"errorType":%20"KeyError",%20"requestId":%20"1",%20"stackTrace":'
+                  '%20["%20%20File%20\\"/at/app.py\\",%20line%207,%20in%20run\\n"]}')
+        for said, told in ((python, "KeyError: 'x' (app.py:7)"), ('{"errorMessage":"no"}', '{"errorMessage":"no"}'),
+                           ('{"errorType":"A.B","errorMessage":"\\u0007"}', "A.B: \\x07"),
+                           ('{"errorType":', '{"errorType":'), ('{"errorType":5}', "5")):
+            shown = run("--text", script=f"{ONE}\n0 next 1\n1 invoke f - - =1\n2 failure 1 1 ={said}\n")[1]
+            self.check(f"a report: {told}", (shown.count(f"bytes: {told}: accepted"),
+                                             shown.count(f"error {told}\n")) == (1, 1), shown=shown)
+
     def test_failed(self):
         """Failed calls are listed on the page, each with a link to its place."""
         script = (ONE.replace('"region"', '"maxEntries":13,"region"')

@@ -9,7 +9,7 @@ import threading
 import time
 
 from lambda_local.history import opened
-from lambda_local.up.reports import Report
+from lambda_local.reports import Report
 from lambda_local.up.restarts import Restarts
 from tests.library.cases import Case
 from tests.library.up_kit import LAUNCHER, RUNTIME, Up, until

@@ -15,7 +15,7 @@ import urllib.request
 from lambda_local.json_reader import NotJson, is_deeper, read_json
 from lambda_local.outgoing import header_value, printable, printable_output
 from lambda_local.up.output import LONGEST_LINE, read_lines
-from lambda_local.up.reports import Report, kind_in
+from lambda_local.reports import Report, kind_in
 from tests.library.cases import Case
 from tests.library.pipe_log import pipe_log
 from tests.library.up_kit import LAUNCHER, Up, until

@@ -62,6 +62,9 @@ def function_of(name: str, members: object, handler: Optional[Handler]) -> Tuple
             f"{where}: its handler is {handler!r}: give a function of an event, or of an event and its context")
     if not isinstance(members, dict):
         raise ValueError(f"{where}: its members are {members!r}: give a dict, such as {{\"timeout\": 5}}")
+    if not isinstance(members.get("handler", ""), str):
+        raise ValueError(f"{where}: handler is a name, which nothing calls here: give the function itself, as "
+                         f"start({name}=..)")
     for mistake in mistakes_of(members, MEMBERS, f"{where}: "):
         raise ValueError(mistake)
     if "environments" in members and "ports" in members:

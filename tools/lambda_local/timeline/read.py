@@ -1,4 +1,5 @@
 """Reads histories and scripts: lines, the configuration, calls, and the answers that belong to them."""
+import os
 import re
 import sys
 from typing import TYPE_CHECKING, Any, Callable, Dict, Iterator, List, Optional, Protocol, Set, Tuple, Union
@@ -6,6 +7,8 @@ from urllib.parse import unquote_to_bytes
 
 from ..configuration import Members, is_list_of, is_text, is_whole
 from ..json_reader import NotJson, read_json
+from ..outgoing import printable
+from ..reports import Report
 from ..service import Fault
 
 if TYPE_CHECKING:
@@ -17,6 +20,8 @@ Lane = Tuple[Any, ...]
 Given = Tuple[int, bytes]  # an answer: the ticket of its call, and its words
 LONGEST_LINE = 20_000_000
 SHOWN_OF_A_PAYLOAD = 160
+LONGEST_REPORT = 64 << 10  # bytes of one that is read
+NOWHERE = os.path.join(os.sep, "nowhere")  # the folder of the function is not known
 MOST_ENVIRONMENTS = 256
 NUMBER = re.compile(rb"0|[1-9][0-9]{0,18}")
 BAD_ESCAPE = re.compile(rb"%(?![0-9A-Fa-f]{2})")
@@ -60,6 +65,15 @@ def shown(text: bytes) -> str:
     plain = "".join(c if c.isprintable() else "\u00b7" for c in plain)
     more = len(plain) > SHOWN_OF_A_PAYLOAD or len(cut) < len(text)
     return plain[:SHOWN_OF_A_PAYLOAD] + ("\u2026" if more else "")
+
+
+def shown_report(text: bytes) -> str:
+    """A report of a failure, as its type, its message and its place, if it has a type; else as it is."""
+    if len(text) <= LONGEST_REPORT and b"errorType" in text:
+        report = Report(unquote_to_bytes(bytes(text)), NOWHERE)
+        if report.is_read and report.kind:
+            return printable(str(report))
+    return shown(text)
 
 
 def functions_of(members: Members) -> List[Members]:
@@ -155,7 +169,8 @@ def read_call(line: bytes, configuration: Configuration, form_2: bool) -> Option
             if word[:1] != b"=" or BAD_ESCAPE.search(word):
                 return None
             if wanted == "=":
-                call.text, call.size = shown(word[1:]), len(word) - 1 - 2 * word.count(b"%")
+                call.text = (shown_report if "failure" in kind else shown)(word[1:])
+                call.size = len(word) - 1 - 2 * word.count(b"%")
         elif wanted == "F":
             call.function = configuration.numbers.get(word)
             if call.function is None:

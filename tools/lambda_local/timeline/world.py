@@ -6,7 +6,7 @@ from .. import phases
 from ..history import EXPIRE, count_in
 from ..phases import reason_to_end
 from ..service import Fault
-from .read import OF_EXTENSIONS, POLLS, Call, Configuration, Given, Lane, shown
+from .read import OF_EXTENSIONS, POLLS, Call, Configuration, Given, Lane, shown, shown_report
 from .sink import Sink
 
 # the outcome of a call, by the first word of its answer
@@ -43,7 +43,7 @@ def read_answer(words: bytes) -> Tuple[List[str], str]:
     if len(words) > 400 or b"=" in words:
         head, mark, text = words.partition(b" =")
         answer = head.decode("ascii", "replace").split(" ")
-        said = shown(text) if mark else None
+        said = (shown_report if answer[0] == "error" else shown)(text) if mark else None
     else:
         answer, said = words.decode("ascii", "replace").split(" "), None
     try:

@@ -11,6 +11,7 @@ import time
 from typing import Dict, List, Optional, Tuple
 
 from ..life import Generation
+from ..reports import kind_in
 from ..service import EXTENSION, RUNTIME, Service, ask
 from ..telemetry.beside import Beside
 from .invocation_lines import Printed
@@ -18,7 +19,6 @@ from .log import Log
 from .members import NAME, Function
 from .pause import Pause
 from .processes import Process, reason_of
-from .reports import kind_in
 from .restarts import Restarts
 from .supervised import told
 from .watch import Watch

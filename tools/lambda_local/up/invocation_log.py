@@ -8,8 +8,8 @@ from datetime import datetime, timezone
 from typing import Any, Dict, Iterator, List, Mapping, NamedTuple, Optional, Protocol, Sequence
 
 from ..life import Ended, Event
+from ..reports import members_of, text_of
 from .invocation_lines import Line, Printed, Settled
-from .reports import members_of, text_of
 
 MOST_TAIL = 4096  # bytes
 MOST_REMEMBERED = 1024  # invocations that have ended

@@ -7,9 +7,9 @@ from ..history import EXPIRE
 from ..life import Closes, Ended, Environment, Event, Generation, Throttled
 from ..outgoing import Log
 from ..phases import FAILURES
+from ..reports import Report, shortened
 from .invocation_lines import Printed
 from .members import NAME, Function
-from .reports import Report, shortened
 from .unnamed import late_and_others
 
 REASONS = {"ReservedFunctionConcurrentInvocationLimitExceeded": "reserved concurrency",

@@ -11,6 +11,7 @@ from ..front.front import Front
 from ..guard import GUARD
 from ..guarding import end_all_below
 from ..outgoing import opened_for_payloads
+from ..reports import Report
 from ..service import Fault, Service
 from ..telemetry.beside import Sidecars
 from ..variables import of_callers
@@ -24,7 +25,6 @@ from .log import OUTPUT, Log
 from .members import load
 from .queues import pollers_of
 from .reload import Reload
-from .reports import Report
 from .restarts import Restarts
 from .run import Run
 from .scaling import BETWEEN_LOOKS, Scaling

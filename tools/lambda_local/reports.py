@@ -4,9 +4,9 @@ import os
 import re
 from typing import Dict, Iterator, List, Optional, Tuple, Union
 
-from ..json_reader import NotJson, read_json
-from ..outgoing import header_value, is_for_the_system
-from ..paths import bundled
+from .json_reader import NotJson, read_json
+from .outgoing import header_value, is_for_the_system
+from .paths import bundled
 
 MOST_LINES = 8
 # A report has up to 6 MiB, of anything: so much of it is looked at.
