@@ -14,6 +14,7 @@ import urllib.request
 
 from lambda_local.up.invocation_lines import MOST_KEPT, Line, Printed
 from lambda_local.up.invocation_log import Figures, encoded, report_line
+from lambda_local.up.output import MarkedSplitter
 from tests import ROOT
 from tests.library.cases import Case
 from tests.library.up_kit import Up, until
@@ -114,6 +115,24 @@ while True:
     event = json.loads(ask("event/next", None, me).read())
     print(f"extension {event['requestId']}", flush=True)
 """
+
+
+class Part:
+    """A process with a line that is not whole, or nothing."""
+    name, pid = "f/1", 0
+
+    def __init__(self, printed):
+        self.printed, self.left = printed, ""
+
+    def settle(self, cuts=False):
+        left, self.left = self.left, "" if cuts else self.left
+        if cuts and left:
+            self.printed.take(self.name, left)
+        return 0.0, self.left
+
+    @property
+    def is_settled(self):
+        return not self.left
 
 
 class InvocationLog(Case):
@@ -291,6 +310,48 @@ class InvocationLog(Case):
         order = [line["text"].split(" ")[0] for line in lines
                  if line["source"] == "f/1" and line["kind"] in ("platform", "output")]
         self.check("in their order", order, ["imported", "START", "to", "to", "END", "REPORT"])
+
+    def test_marks(self):
+        """A mark divides wherever what is read ends, and nothing else does."""
+        mark, first, second = b"\0" + b"a1" * 16, "1" * 36, "2" * 36
+        printed = (b"in Init\n" + mark + first.encode() + b"\na\nb\xc3\xa9\0" + mark[:20] + b"\nno \0mark" + mark
+                   + second.encode() + b"\n" + mark[:-1] + b"\nlast" + mark + b"3" * 20)
+        wanted = ["in Init", (first, ), "a", "b\u00e9\0\0" + "a1" * 9 + "a", "no \0mark", (second, ),
+                  "\0" + "a1" * 15 + "a", "last\0" + "a1" * 16 + "3" * 20]
+        wrong = []
+        for size in range(1, len(printed) + 1):
+            seen = []
+            splitter = MarkedSplitter(seen.append, lambda identifier: seen.append((identifier, )), mark)  # noqa: B023
+            for place in range(0, len(printed), size):
+                splitter.feed(printed[place:place + size])
+            splitter.feed(b"")
+            if seen != wanted or splitter.held:
+                wrong.append((size, seen))
+        self.check("lines and divisions, in pieces of each size", wrong[:2], [])
+
+    def test_divisions(self):
+        """What belongs to an invocation, by the order of lines and deliveries alone."""
+        printed = Printed()
+        process = Part(printed)
+        printed.add(process)
+        of = lambda identifier, until=None: [line.text for line in printed.of_invocation(identifier, until)]
+        printed.take("f/1", "of the Init")
+        self.check("nothing is to be read", printed.deliver_at_once("a"), True)
+        printed.take("f/1", "a 1")
+        process.left = "a 2"
+        until = printed.settle()
+        self.check("what is not whole is told", of("a", until), ["a 1", "a 2"])
+        self.check("what is to be read is waited for", printed.deliver_at_once("b"), False)
+        printed.deliver("b")
+        self.check("a delivery to a second process is the same one", (
+            printed.deliver_at_once("b"), printed.deliver("b"), len(printed.divisions)), (True, None, 2))
+        printed.take("f/1", "b 1")
+        self.check("each has its own", (of("a"), of("b"), of("c")), (["a 1", "a 2"], ["b 1"], []))
+        self.check("as far as it was taken then", of("a", until), ["a 1", "a 2"])
+        printed.divide()
+        printed.take("f/1", "of the next generation")
+        self.check("the next generation's are nobody's", (of("b"), [line.text for line in printed.lines][-1]),
+                   (["b 1"], "of the next generation"))
 
     def test_parts_alone(self):
         printed, seen = Printed(), []

@@ -22,7 +22,7 @@ from .memory import peak_of
 MOST_KEPT = 1 << 20  # characters of lines
 OF_A_LINE = 100  # and so many for each line, so that empty ones count too
 MOST_STARTS = 8  # of runtimes that are remembered
-MOST_DIVISIONS = 64  # that are remembered
+MOST_DIVISIONS = 1024  # that are remembered
 
 
 class Line(NamedTuple):
