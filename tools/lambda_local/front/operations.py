@@ -71,6 +71,23 @@ GET /2017-03-31/tags/{} ListTags
 POST /2017-03-31/tags/{} TagResource
 DELETE /2017-03-31/tags/{} UntagResource
 GET /2016-08-19/account-settings GetAccountSettings
+GET /2025-11-30/capacity-providers ListCapacityProviders
+POST /2025-11-30/capacity-providers CreateCapacityProvider
+GET /2025-11-30/capacity-providers/{} GetCapacityProvider
+PUT /2025-11-30/capacity-providers/{} UpdateCapacityProvider
+DELETE /2025-11-30/capacity-providers/{} DeleteCapacityProvider
+GET /2025-11-30/capacity-providers/{}/function-versions ListFunctionVersionsByCapacityProvider
+GET /2025-11-30/functions/{}/function-scaling-config GetFunctionScalingConfig
+PUT /2025-11-30/functions/{}/function-scaling-config PutFunctionScalingConfig
+GET /2025-12-01/functions/{}/durable-executions ListDurableExecutionsByFunction
+GET /2025-12-01/durable-executions/{} GetDurableExecution
+GET /2025-12-01/durable-executions/{}/history GetDurableExecutionHistory
+GET /2025-12-01/durable-executions/{}/state GetDurableExecutionState
+POST /2025-12-01/durable-executions/{}/checkpoint CheckpointDurableExecution
+POST /2025-12-01/durable-executions/{}/stop StopDurableExecution
+POST /2025-12-01/durable-execution-callbacks/{}/fail SendDurableExecutionCallbackFailure
+POST /2025-12-01/durable-execution-callbacks/{}/heartbeat SendDurableExecutionCallbackHeartbeat
+POST /2025-12-01/durable-execution-callbacks/{}/succeed SendDurableExecutionCallbackSuccess
 """
 HERE = ("Invoke", "InvokeWithResponseStream", "ListFunctions", "GetFunction", "GetFunctionConfiguration",
         "GetFunctionUrlConfig", "GetFunctionConcurrency", "PutFunctionConcurrency", "DeleteFunctionConcurrency")
