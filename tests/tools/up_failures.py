@@ -5,6 +5,7 @@ import os
 import pty
 import re
 import subprocess
+import sys
 import threading
 import time
 
@@ -104,7 +105,37 @@ REPORTS = {
 }
 
 
+# An extension that registers under the name that its first word is.
+NAMED = """import os, sys, urllib.request
+base = f"http://{os.environ['AWS_LAMBDA_RUNTIME_API']}/2020-01-01/extension/"
+def ask(path, body, headers):
+    return urllib.request.urlopen(urllib.request.Request(base + path, body, headers))
+registered = ask("register", b'{"events":["SHUTDOWN"]}', {"Lambda-Extension-Name": sys.argv[1]})
+ask("event/next", None, {"Lambda-Extension-Identifier": registered.headers["Lambda-Extension-Identifier"]}).read()
+"""
+
+
 class UpFailures(Case):
+    def test_wrong_names(self):
+        """An extension under another name than UP.json has is told before its Init is over, one that has its own name
+        is not; a handler that is not named is told if there is no module for the default."""
+        function = {"runtime": "python", "handler": "app.run"}
+        up = Up(files={"x.py": NAMED}, functions=[
+            {"name": "f", **function, "extensions": {"flush": [sys.executable, "x.py", "flush.sh"]}},
+            {"name": "g", **function, "extensions": {"flush": [sys.executable, "x.py", "flush"]}},
+            {"name": "h", "runtime": "python"}])
+        self.check("it is told", up.until("f/1] -- flush.sh has registered, and flush has not", 30))
+        self.check("the Init has not failed yet", up.has("Init failed: timed out"), False)
+        self.check("nor is the other one told", up.has("g/1] -- flush"), False)
+        self.check("no handler", up.has('h: there is no "handler", and no module index for index.handler'))
+        self.check("the end of the Init says it too", up.until("(flush.sh has registered)", 30))
+        self.check("nothing is left", up.end(), (0, []))
+        up = Up(files={"index.py": "handler = lambda event, context: 1\n"},
+                functions=[{"name": "h", "runtime": "python"}])
+        self.check("one whose default is there", (up.until("[up] ready"), up.has('no "handler"')), (True, False))
+        self.check("it serves", up.invoke("h")[0], 1)
+        up.end()
+
     def test_init_failures(self):
         late = Up(extensions={"late": ["sleep", "100"]})  # (its Init takes 10 s to fail)
         four, two = failing(environments=4), failing("--reload", environments=2, watch=["mended"])
