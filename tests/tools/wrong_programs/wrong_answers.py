@@ -81,6 +81,16 @@ class NeverRenewsTheTraceId(Runtime):
         return super().call(event, headers)
 
 
+class SetsTheTraceIdOnce(Runtime):
+    check, is_set = "trace_renewed", False
+
+    def call(self, event, headers):
+        if self.is_set:
+            headers["Lambda-Runtime-Trace-Id"] = ""
+        self.is_set = True
+        return super().call(event, headers)
+
+
 # ---- errors ----------------------------------------------------------------------------------------------------------
 
 class SendsErrorsAsResponses(Runtime):

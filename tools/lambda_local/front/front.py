@@ -55,6 +55,11 @@ class Served(Protocol):
         """Closes all."""
 
 
+class Other(Served, Protocol):
+    """One that the front only runs."""
+    descriptors: int  # that it needs
+
+
 class Front(threading.Thread):
     """Its ports are open from the start; requests are answered once it has the service and is started."""
 
@@ -76,13 +81,14 @@ class Front(threading.Thread):
         if self.routing:
             yield None, f"routes: {url_of(self.routing)}", url_of(self.routing)
 
-    def serve(self, service: Service, tails: Optional[Tails] = None, others: Sequence[Served] = (),
+    def serve(self, service: Service, tails: Optional[Tails] = None, others: Sequence[Other] = (),
               streams: Optional[Streams] = None) -> None:
         """Begins to answer, by this service; `tails` has what Invoke answers with the log type Tail, and `others` are
         further servers that its thread runs, which have the responses that are streamed."""
         self.service, configuration = service, service.configuration
         self.client = Client(service.port)
-        self.places = Places(places_for(sum(len(one["ports"]) for one in configuration["functions"]), len(others)))
+        self.places = Places(places_for(sum(len(one["ports"]) for one in configuration["functions"]),
+                                        sum(other.descriptors for other in others)))
         port = InvokePort(self.client, self.settings.asynchronous, configuration, self.drain_seconds, self.log,
                           tails)
         self.queue, identifiers = port.queue, port.identifiers

@@ -10,7 +10,8 @@ RESERVE = 16  # further ones, in which only the requests of the service itself a
 A_REQUEST = 2  # descriptors: its own connection, and one to the service
 # Of the process itself, and of each environment: its output, the watch over it
 OTHER_DESCRIPTORS, AN_ENVIRONMENT = 128, 6
-A_PROXY = 32  # of an environment: two for each connection of a runtime and some extensions, and those to receivers
+# Of an environment's proxy: two for each connection of a runtime and some extensions; with telemetry those to receivers
+A_PROXY, WITH_TELEMETRY = 8, 32
 
 
 class Holder(Protocol):
@@ -21,10 +22,10 @@ class Holder(Protocol):
         """Ends it."""
 
 
-def places_for(environments: int, proxies: int = 0) -> int:
+def places_for(environments: int, of_proxies: int = 0) -> int:
     """How many places there are, so that this process has descriptors for all of them. It may have more if it asks, and
     asks for no more than that, since what it starts has the same limit."""
-    others = OTHER_DESCRIPTORS + AN_ENVIRONMENT * environments + A_PROXY * proxies
+    others = OTHER_DESCRIPTORS + AN_ENVIRONMENT * environments + of_proxies
     soft, hard = resource.getrlimit(resource.RLIMIT_NOFILE)
     wanted = others + A_REQUEST * (MOST + RESERVE)
     if soft != resource.RLIM_INFINITY and soft < wanted:

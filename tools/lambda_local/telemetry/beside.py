@@ -8,6 +8,7 @@ from typing import Any, Awaitable, Callable, Container, Dict, Iterable, List, Ma
 
 from ..front import origins
 from ..front.front import listener_at
+from ..front.places import A_PROXY, WITH_TELEMETRY
 from ..http1 import Request
 from ..streaming.streams import Streams
 from .conversation import Answer
@@ -155,7 +156,8 @@ class Sidecars:
         is_plain = not function.has_telemetry and function.name not in self.streaming  # (it gives results in one piece)
         ears = EnvironmentEars(desk, refusal_of, Streams() if is_plain else self.streams, function.has_telemetry,
                                deliver)
-        proxy = Proxy(listener_at(0, f"proxy of {name}", self.path), port, ears, tell, desk.ends)
+        proxy = Proxy(listener_at(0, f"proxy of {name}", self.path), port, ears, tell, desk.ends,
+                      descriptors=WITH_TELEMETRY if function.has_telemetry else A_PROXY)
         return WithTelemetry(desk, proxy, name, printed) if function.has_telemetry else WithProxy(proxy)
 
     def of(self, number: int, port: int) -> Beside:

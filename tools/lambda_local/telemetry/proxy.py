@@ -7,6 +7,7 @@ import struct
 from typing import Callable, Dict, Optional, Set, Tuple, cast
 
 from ..front.newcomers import Newcomers
+from ..front.places import A_PROXY
 from .conversation import Conversation, Ears
 
 MOST = 64  # connections at once; a runtime and ten extensions have eleven polls
@@ -181,9 +182,9 @@ class Proxy:
     """One environment's. `port` is that of the environment itself."""
 
     def __init__(self, listener: socket.socket, port: int, ears: Ears, tell: Tell,
-                 when_stopped: Callable[[], None] = lambda: None, most: int = MOST):
+                 when_stopped: Callable[[], None] = lambda: None, most: int = MOST, descriptors: int = A_PROXY):
         self.listener, self.port, self.ears, self.tell, self.most = listener, port, ears, tell, most
-        self.when_stopped = when_stopped
+        self.when_stopped, self.descriptors = when_stopped, descriptors
         self.newcomers = Newcomers(listener, self._welcome, self._tell_shortage, AT_ONCE)
         self.pairs: Dict[Pair, None] = {}  # in the order in which they came
         self.beginning: Set["asyncio.Task[None]"] = set()
