@@ -9,9 +9,11 @@ import re
 import subprocess
 import sys
 import time
+import unittest.mock
 import urllib.error
 import urllib.request
 
+from lambda_local.up import processes
 from lambda_local.up.invocation_lines import MOST_KEPT, Line, Printed
 from lambda_local.up.invocation_log import Figures, encoded, report_line
 from lambda_local.up.output import MarkedSplitter
@@ -352,6 +354,21 @@ class InvocationLog(Case):
         printed.take("f/1", "of the next generation")
         self.check("the next generation's are nobody's", (of("b"), [line.text for line in printed.lines][-1]),
                    (["b 1"], "of the next generation"))
+
+    def test_early_answer(self):
+        """A process may have answered its first invocation before the thread that starts it goes on."""
+        printed, seen = Printed(), []
+
+        class Slow:
+            def start(self, words, directory, variables, output, forks):
+                subprocess.run(words, stdout=output)
+                seen.append((printed.settle().place, [line.text for line in printed.lines]))
+                raise OSError("as if it could not be started")
+
+        with unittest.mock.patch.object(processes, "GUARD", Slow()):
+            self.assertRaises(OSError, processes.Process, "f/1", ["echo", "early"], "/", {}, printed)
+        self.check("what it has printed is taken", seen, [(1, ["early"])])
+        self.check("one that could not be started is not read", printed.processes, [])
 
     def test_parts_alone(self):
         printed, seen = Printed(), []

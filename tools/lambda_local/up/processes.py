@@ -35,26 +35,27 @@ class Process:
         if not shutil.which(program):
             raise FileNotFoundError(f"{words[0]} is not a program (any more)")
         reading, writing = os.pipe()
-        try:
-            self.started = GUARD.start([program, *words[1:]], directory, variables, writing, forks)
-        except OSError:
-            os.close(reading)
-            raise
-        finally:
-            os.close(writing)
-        try:
-            self.handle = os.pidfd_open(self.started.pid)
-        except OSError:
-            self.started.kill()
-            os.close(reading)
-            raise
+        # (before it is started: it may have answered an invocation before this thread goes on)
+        self.pid = 0
         self.reader = Reader(reading, splitter, f"output of {name}")
         self.reader.start()
         printed.add(self)
+        try:
+            self.started = GUARD.start([program, *words[1:]], directory, variables, writing, forks)
+            self.pid = self.started.pid
+            self.handle = self._handle()
+        except OSError:
+            printed.remove(self)
+            raise
+        finally:
+            os.close(writing)
 
-    @property
-    def pid(self) -> int:
-        return self.started.pid
+    def _handle(self) -> int:
+        try:
+            return os.pidfd_open(self.pid)
+        except OSError:
+            self.started.kill()
+            raise
 
     def settle(self, cuts: bool = False) -> Tuple[float, str]:
         """Takes what it has printed by now; what has come of the line that is not whole yet, and since when. If it
