@@ -4,4 +4,4 @@ import sys
 
 ROOT = os.path.dirname(os.path.dirname(os.path.realpath(__file__)))
 TOOLS = os.path.join(ROOT, "tools")
-sys.path[:0] = [TOOLS, os.path.join(ROOT, "tests", "library")]
+sys.path[:0] = [TOOLS, os.path.join(TOOLS, "library")]

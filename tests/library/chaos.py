@@ -14,8 +14,8 @@ import threading
 import time
 import urllib.parse
 
-from counted import check
-from up_kit import ROOT, RUNTIME, Up, children, command_of, lives, until
+from tests.library.counted import check
+from tests.library.up_kit import ROOT, RUNTIME, Up, children, command_of, lives, until
 
 APP = """import os, random, time
 def run(event):

@@ -4,8 +4,8 @@ import os
 import subprocess
 import sys
 
-import trees
-from trees import ROOT, plain, text_of, write
+from tests.library import trees
+from tests.library.trees import ROOT, plain, text_of, write
 
 GREETING = '{"greeting": "Hello, Ada!"}'
 INVOKE = ("import os, urllib.request as u; "

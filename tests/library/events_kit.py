@@ -4,7 +4,7 @@ import json
 import time
 import urllib.parse
 
-from up_kit import children
+from tests.library.up_kit import children
 
 READY_SECONDS = 300  # a busy machine takes its time
 READY = ("--ready", str(READY_SECONDS))

@@ -8,8 +8,8 @@ import re
 import shutil
 import subprocess
 
-import edits
-from page_facts import pages_of, text_of
+from tests.library import edits
+from tests.library.page_facts import pages_of, text_of
 
 MEASURED = re.compile(r"^<!-- measured at ([0-9a-f]{7,40}) -->$", re.M)
 SOURCES = ("src", "specs", "proofs")

@@ -2,7 +2,7 @@
 import re
 import sys
 
-from http_mutants import messages_of
+from tests.library.http_mutants import messages_of
 
 sys.dont_write_bytecode = True
 

@@ -4,8 +4,8 @@ other; and heads that are written and read again. Each reader takes bytes; a dif
 import random
 import re
 
-from h11_beside import compared
-from http_mutants import HEAD, SEEDS, WORDS, messages_of, mutant
+from tests.library.h11_beside import compared
+from tests.library.http_mutants import HEAD, SEEDS, WORDS, messages_of, mutant
 from lambda_local.http1 import (CLOSED, Data, EndOfMessage, Malformed, Request, RequestReader, Response,
                                 ResponseReader, Unwritable, request_head, response_head)
 

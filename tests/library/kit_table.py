@@ -6,11 +6,11 @@ import shutil
 import tempfile
 import time
 
-from commands import Commands
-from counted import check_sound as check
-from release_tree import NONE, RELEASED, SOURCE
-from stub_kits import KITS, NoKit, StubKit
-from trees import commit, copied, program, text_of, write
+from tests.library.commands import Commands
+from tests.library.counted import check_sound as check
+from tests.library.release_tree import NONE, RELEASED, SOURCE
+from tests.library.stub_kits import KITS, NoKit, StubKit
+from tests.library.trees import commit, copied, program, text_of, write
 
 PATIENCE = 60  # seconds for one command, on a machine that is busy: a build takes minutes
 OTHER_LOGIC = "has another logic"

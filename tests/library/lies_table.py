@@ -9,11 +9,12 @@ from typing import Dict, Iterator, Tuple
 NOTED = os.path.join("tests", "library", "lies.noted")
 OF_TOOLS = "tools/lambda_local/"
 LIES: Dict[str, Tuple[str, str, str, str]] = {
-    "conformance": ("", OF_TOOLS + "conformance/report.py",
+    "conformance": ("a_failure_is_explained", OF_TOOLS + "conformance/report.py",
                     "return 1 if self.counts[FAIL]", "return 0 if self.counts[FAIL]"),
-    "conformance_proxy": ("", OF_TOOLS + "conformance/proxy.py",
+    "conformance_proxy": ("each_way", OF_TOOLS + "conformance/proxy.py",
                           "            service.sendall(data)", "            service.sendall(data[:1000])"),
-    "conformance_service": ("", OF_TOOLS + "conformance/service/judge.py",
+    "conformance_service": ("each_fault_is_found CONFORMANCE_FAULTS=registers-late",
+                            OF_TOOLS + "conformance/service/judge.py",
                             "if exchange.status != wanted:", "if False:"),
     "counting": ("counted", "tests/library/counted.py",
                  "isinstance(wanted, bool) and not isinstance(seen, bool):", "False:"),
@@ -44,7 +45,7 @@ LIES: Dict[str, Tuple[str, str, str, str]] = {
     "plugin_events": ("", OF_TOOLS + "front/settings.py", "from 0 to 2", "from 0 to 3"),
     "plugin_sandbox": ("", OF_TOOLS + "sandbox.py", "    return any(host == name", "    return all(host == name"),
     "real_projects": ("sam", OF_TOOLS + "from_template/schedules.py", '("Schedule", "ScheduleV2")', '("ScheduleV2",)'),
-    "rerun": ("", OF_TOOLS + "rerun/compare.py", "return [Difference(\"\", then, now)]", "return []"),
+    "rerun": ("compares", OF_TOOLS + "rerun/compare.py", "return [Difference(\"\", then, now)]", "return []"),
     "rest_events": ("", OF_TOOLS + "front/rest_payload.py", '"multiValueHeaders"', '"multipleHeaders"'),
     "runtimes": ("shell", "examples/runtime.sh", "ExitStatus", "ExitCode"),
     "runtimes_node": ("errors", "examples/runtime.mjs", "{ errorType: fault.name, ", "{ errorType: typeof fault, "),
@@ -101,7 +102,7 @@ def untried(root: str) -> Iterator[str]:
             yield f"the lie of {name}.py was not found yet: tests/lies {name}"
 
 
-TABLE = re.compile(r'^    "(\w+)": \("[^"]*", (OF_TOOLS \+ )?"([^"]*)",\s+'
+TABLE = re.compile(r'^    "(\w+)": \("[^"]*",\s+(OF_TOOLS \+ )?"([^"]*)",\s+'
                    r'("(?:[^"\\]|\\.)*"|\'(?:[^\'\\]|\\.)*\'),', re.M)
 
 

@@ -8,7 +8,7 @@ import subprocess
 import tempfile
 import zlib
 
-from checkout import files_of
+from tests.library.checkout import files_of
 
 MOST = 120
 # They cannot be read, or fail, as the conformance kit needs it.

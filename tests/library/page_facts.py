@@ -4,12 +4,9 @@ import glob
 import os
 import re
 import subprocess
-import sys
 
-sys.path.insert(0, os.path.join(os.path.dirname(os.path.realpath(__file__)), "..", "..", "tools", "library"))
-import drawings
-import tools_map
 from crate_list import uses
+from tests.library import drawings, tools_map
 
 FOLDERS = ("bench", "crates", "docs", "examples", "tables", "tests", "tools")
 FENCED = re.compile(r"(?:^<!-- (\w[\w ]*) -->\n)?^```(\w*)\n(.*?)^```$", re.M | re.S)

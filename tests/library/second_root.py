@@ -6,11 +6,9 @@ import shutil
 import subprocess
 import sys
 
-from checkout import ROOT
-
-sys.path.insert(0, os.path.join(ROOT, "tools", "library"))
 from crate_list import below, uses
 from jobs import jobs_here
+from tests.library.checkout import ROOT
 
 FOLDERS = ("tables", "bench")
 ENDINGS = {".rs": ".rt", ".proof": ".antt"}

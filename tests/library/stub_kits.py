@@ -2,7 +2,7 @@
 says the kit's name, notes what else it is asked for, and then fails: what proves or builds unasked is found by that."""
 import os
 
-from trees import text_of, write
+from tests.library.trees import text_of, write
 
 RT = """#!/bin/sh
 [ "$1" != version ] || {{ {version}; exit; }}

@@ -6,7 +6,7 @@ import os
 import subprocess
 import tempfile
 
-from checkout import ROOT, copy_to
+from tests.library.checkout import ROOT, copy_to
 
 RELEASED = "crates/lambda_local/out/lambda_local"  # where a released program is unpacked to
 

@@ -14,7 +14,7 @@ from lambda_local.from_template.telling import Fault
 from lambda_local.front import settings
 from lambda_local.up.members import MEMBERS
 from tests import ROOT
-from tests.library.template_kit import FROM_TEMPLATE, HAS_YAML, SAM, TemplateCase, function_of, made_of, python
+from tests.library.template_kit import FROM_TEMPLATE, HAS_YAML, TemplateCase, function_of, made_of, python
 
 
 def replaced(node, value):
@@ -55,27 +55,6 @@ OF_GATEWAYS = {
 
 
 class FromTemplateParts(TemplateCase):
-    def test_sam(self):
-        if not HAS_YAML:
-            self.skipTest("PyYAML is not here")
-        common = {"environments": 1, "variables": {"A": "1", "LIVE": "true"}}
-        self.case("SAM", SAM, {
-            "One": {"name": "One", "handler": "app.run", "timeout": 5, **common,
-                    "variables": {"A": "1", "LIVE": "true", "B": "Table"}, "directory": "src", **python("app.run")},
-            "given": {"name": "given", "handler": "i.h", "reserved": 3, "environments": 3, "command": ["./bootstrap"]},
-            "orders-dev-us-east-1": {"name": "orders-dev-us-east-1", "handler": "a.b", "timeout": 7, **common,
-                                     **python("a.b")},
-            "Four": {"name": "Four", "handler": "a.b", "timeout": 5, "environments": 1, **python("a.b"), "variables": {
-                "A": "1", "LIVE": "true", "OTHER": "orders-dev-us-east-1",
-                "ARN": "arn:aws:lambda:us-east-1:123456789012:function:orders-dev-us-east-1",
-                "QUEUE": "Queue.Arn", "MODE": "Open", "WHO": "123456789012/${Raw}"}},
-        }, "leaves out Table, AWS::DynamoDB::Table", "One: leaves out the layer x, whose content is not here",
-        "One: the variable B is Table, a placeholder for the resource Table",
-            "Four: it is called Four, since its FunctionName is not known here: it needs the parameter Open, which has "
-            "no Default",
-            "Four: the variable MODE is Open, a placeholder for the parameter Open",
-            "Four: the variable QUEUE is Queue.Arn")
-
     def test_wrong_templates(self):
         for name, text, status, words in (
                 ("no template", "[1]", 2, "not a template: it must have Resources, or functions"),

@@ -260,6 +260,7 @@ class Package(Case):
             self.used(launcher, work)
             print(f"     (a start and a replay take {took([launcher])})")
             self.check("build has nothing to do", run([launcher, "build"])[0], 0)
+            self.check("tests/clients starts there", run([os.path.join(root, "tests", "clients"), "--help"])[0], 0)
             self.check("stamp", [line.split(" ")[0] for line in run([launcher, "stamp"])[1].splitlines()],
                        ["sources", "kit"])
             if os.getuid() == 0:
