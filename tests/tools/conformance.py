@@ -1,13 +1,10 @@
-#!/usr/bin/env python3
 """Checks lambda_local conformance: the runtimes and the extension of examples/ pass, and so do sound ones, among them
 some in the shapes of AWS's own clients; each wrong one is caught by the check named after its mistake, and by no other.
 The program is LAMBDA_LOCAL_PROGRAM, else ./lambda_local.
-Ends with 'N passed, M failed'.
 
 Each wrong one is run with the scenarios of its own check, and a quarter of them with all: each day another quarter.
-With --whole all are, which takes ten minutes.
-
-usage: tests/tools/conformance.py [--whole] [NAME ..]   (a mistake, `sound` or `shipped`; default: everything)"""
+With CONFORMANCE_WHOLE=1 all are, which takes ten minutes.
+CONFORMANCE_ONLY names mistakes that alone are tried, or `sound` or `shipped`."""
 import concurrent.futures
 import os
 import re
@@ -20,34 +17,26 @@ import time
 import xml.etree.ElementTree as xml
 from typing import Callable, NamedTuple
 
-ROOT = os.path.dirname(os.path.dirname(os.path.dirname(os.path.realpath(__file__))))
+from lambda_local.conformance import extension, runtime
+from tests import ROOT
+from tests.library.cases import Case
+from tests.library.forked_kit import Kits
+from tests.library.kit_programs import (PROGRAMS, SHAPES, clients, extensions, libraries, shapes, subscribers,
+                                        wrong_extensions, wrong_runtimes)
+
 EXAMPLES = os.path.join(ROOT, "examples")
 HANDLERS = os.path.join(EXAMPLES, "conformance")
-PROGRAMS = os.path.join(ROOT, "tests", "tools", "wrong_programs")
-SHAPES = os.path.join(ROOT, "tests", "tools", "sound_programs")
-sys.path[:0] = [PROGRAMS, SHAPES, os.path.join(ROOT, "tools"), os.path.join(ROOT, "tests", "library")]
-import clients  # noqa: E402
-import counted  # noqa: E402
-import extensions  # noqa: E402
-import libraries  # noqa: E402
-import shapes  # noqa: E402
-import subscribers  # noqa: E402
-import wrong_extensions  # noqa: E402
-import wrong_runtimes  # noqa: E402
-from counted import check  # noqa: E402
-from forked_kit import Kits  # noqa: E402
-from lambda_local.conformance import extension, runtime  # noqa: E402
 
 LENIENT = {"runtime": {"keep_alive", "continue_first", "header_spaces", "same_process", "error_header",
                        "environments_apart"},
            "extension": {"takes_empty_batch", "takes_in_shutdown"}}
-OF_TELEMETRY = [check.name for part in (extension.telemetry, extension.delivery, extension.batches,
+OF_TELEMETRY = [one.name for part in (extension.telemetry, extension.delivery, extension.batches,
                                         extension.last_batches) for scenario in part.SCENARIOS
-                for check in scenario.checks]
+                for one in scenario.checks]
 AT_ONCE = max(2, len(os.sched_getaffinity(0)))  # runs of the kit, each of which waits half of its time
 EACH = 4  # wrong programs, of which one is run with all scenarios
 TODAY = int(time.time() // 86400) % EACH  # which one of these
-WHOLE, CHOSEN = "--whole" in sys.argv, [word for word in sys.argv[1:] if word != "--whole"]
+WHOLE, CHOSEN = "CONFORMANCE_WHOLE" in os.environ, os.environ.get("CONFORMANCE_ONLY", "").split()
 PYTHON = [sys.executable, "-S"]  # (it starts in half the time)
 TOOL = [*PYTHON, os.path.join(ROOT, "tools"), "conformance"]
 
@@ -64,7 +53,7 @@ class Kind(NamedTuple):
 
 
 def checks_of(part):
-    return tuple(check for scenario in part.SCENARIOS for check in scenario.checks)
+    return tuple(one for scenario in part.SCENARIOS for one in scenario.checks)
 
 
 KINDS = (Kind("runtime", checks_of(runtime), wrong_runtimes.MISTAKES, {"idle-seconds": 1, "invocations": 20}),
@@ -81,7 +70,7 @@ FORKED = {  # by the names of their files
     "wrong_runtimes.py": runs(wrong_runtimes.MISTAKES), "wrong_extensions.py": runs(wrong_extensions.MISTAKES),
     "shapes.py": runs(shapes.SHAPES), "clients.py": runs(clients.CLIENTS), "libraries.py": runs(libraries.LIBRARIES),
     "extensions.py": runs(extensions.SHAPES), "subscribers.py": runs(subscribers.SHAPES)}
-KITS = []  # the process of which runs are forked, if there is one
+KITS = [Kits(FORKED)]  # the process of which runs are forked (before there are threads)
 
 
 class Run:
@@ -111,16 +100,6 @@ class Run:
 
 def program(name):
     return os.path.join(PROGRAMS, name)
-
-
-# ---- those that pass -------------------------------------------------------------------------------------------------
-
-def passes(run, name, noted=None):
-    """A program without a FAIL; `noted` are the checks that may be noted, none for any."""
-    notes = run.verdicts("NOTE")
-    seen = (run.status, run.verdicts("FAIL"), notes - (notes if noted is None else noted))
-    check(f"{name} passes, with notes on {' '.join(sorted(notes)) or 'nothing'}", seen, (0, set(), set()))
-    run.told(seen == (0, set(), set()))
 
 
 def sound_runtime():
@@ -184,7 +163,7 @@ def extensions_in_shapes():
 
 def subscriber(name):
     """One that takes telemetry, run with the checks of that alone."""
-    return Run("extension", "--name", "sound", *(word for check in OF_TELEMETRY for word in ("--only", check)), "--",
+    return Run("extension", "--name", "sound", *(word for one in OF_TELEMETRY for word in ("--only", one)), "--",
                *PYTHON, os.path.join(SHAPES, "subscribers.py"), name, is_forked=True)
 
 
@@ -208,8 +187,6 @@ def in_go():
         return Run("runtime", "--", built)
 
 
-# ---- those that are caught -------------------------------------------------------------------------------------------
-
 def wrong(kind, mistake, is_whole):
     """Run with all scenarios, or with those of its own check."""
     settings = {**kind.settings, **getattr(mistake, "settings", {}), **({} if is_whole else {"only": mistake.check})}
@@ -219,37 +196,12 @@ def wrong(kind, mistake, is_whole):
                    is_forked=True, TMPDIR=temporary)
 
 
-def caught(run, kind, mistake):
-    """A wrong one has one FAIL, of its own check, or of one that cannot but catch it too: those that follow from the
-    same cause are only named. One that is a NOTE or a SHOULD has no FAIL."""
-    outcome, also = getattr(mistake, "outcome", "FAIL"), set(getattr(mistake, "also", ())) - {mistake.check}
-    told = re.findall(r"^FAIL  (\w+)", run.output, re.MULTILINE)
-    is_own = mistake.check in run.verdicts(outcome)
-    seen = (run.status, len(told), is_own, [name for name in told if name not in {mistake.check, *also}])
-    wanted = (1, 1, True, []) if outcome == "FAIL" else (0, 0, True, [])
-    scenarios = "of some scenarios" if "--only" in run.words else "of all scenarios"
-    check(f"{kind.name} {mistake.__name__} is a {outcome} of {mistake.check}, {scenarios}, and of no other cause", seen,
-          wanted)
-    run.told(seen == wanted)
-
-
-def each_check_can_fail():
-    for kind in KINDS:
-        failed = {mistake.check for mistake in kind.mistakes.values() if getattr(mistake, "outcome", "FAIL") == "FAIL"}
-        check(f"{kind.name}: each check has a wrong one, but for those that cannot fail",
-              {one.name for one in kind.checks} - failed, LENIENT[kind.name])
-        others = {mistake.check for mistake in kind.mistakes.values()} - failed
-        check(f"{kind.name}: these have one that is a NOTE or a SHOULD", LENIENT[kind.name] - others, set())
-
-
-# ---- all of them, beside one another ---------------------------------------------------------------------------------
-
 class Job(NamedTuple):
     """A run of the kit, and what judges it."""
     name: str  # by which it is chosen
     start: Callable
     arguments: tuple
-    judge: Callable  # takes the finished run, and these
+    judge: str  # which takes the finished run, and these
     by: tuple
 
     def begun_in(self, pool):
@@ -259,85 +211,25 @@ class Job(NamedTuple):
 def jobs():
     """All of them. First come those that take longest: so none of them is the last one to begin."""
     if shutil.which("go"):
-        yield Job("shipped", in_go, (), passes, ("conformance.go",))
+        yield Job("shipped", in_go, (), "passes", ("conformance.go",))
     if shutil.which("javac"):
         for kind in ("new", "old"):
-            yield Job("sound", in_java, (kind,), passes, (f"a Java client ({kind})",))
+            yield Job("sound", in_java, (kind,), "passes", (f"a Java client ({kind})",))
     for name, command in shipped():
-        yield Job("shipped", shipped_runtime, command, passes, (name,))
-    yield Job("shipped", shipped_extension, (), passes, ("extension.py",))
+        yield Job("shipped", shipped_runtime, command, "passes", (name,))
+    yield Job("shipped", shipped_extension, (), "passes", ("extension.py",))
     for name, command in in_shapes():
-        yield Job("sound", other_runtime, command, passes, (name,))
+        yield Job("sound", other_runtime, command, "passes", (name,))
     for name, command in extensions_in_shapes():
-        yield Job("sound", other_extension, command, passes, (name,))
-    yield Job("sound", sound_runtime, (), passes, ("the sound runtime", {"numbers", *LEAKS}))
-    yield Job("sound", sound_extension, (), passes, ("the sound extension", {"takes_logs", "takes_in_shutdown"}))
+        yield Job("sound", other_extension, command, "passes", (name,))
+    yield Job("sound", sound_runtime, (), "passes", ("the sound runtime", {"numbers", *LEAKS}))
+    yield Job("sound", sound_extension, (), "passes", ("the sound extension", {"takes_logs", "takes_in_shutdown"}))
     for name, shape in subscribers.SHAPES.items():
-        yield Job("sound", subscriber, (name,), passes, (f"an extension that {name}", shape.leaves_open))
+        yield Job("sound", subscriber, (name,), "passes", (f"an extension that {name}", shape.leaves_open))
     mistakes = [(kind, mistake, WHOLE or place % EACH == TODAY)
                 for kind in KINDS for place, mistake in enumerate(kind.mistakes.values())]
     for kind, mistake, is_whole in sorted(mistakes, key=lambda each: (not hasattr(each[1], "settings"), not each[2])):
-        yield Job(mistake.__name__, wrong, (kind, mistake, is_whole), caught, (kind, mistake))
-
-
-RUNNING = []  # pairs of jobs and their runs, begun before all other parts
-
-
-def programs():
-    for job, run in RUNNING:
-        job.judge(run.result(), *job.by)
-
-
-# ---- what a run says and leaves --------------------------------------------------------------------------------------
-
-def a_failure_is_explained():
-    with tempfile.TemporaryDirectory() as folder:
-        file, pictures = os.path.join(folder, "report.xml"), os.path.join(folder, "pictures")
-        run = Run("runtime", "--only", "error_type", "--junit", file, "--pictures", pictures, "--", *PYTHON,
-                  program("wrong_runtimes.py"), "LosesTheErrorType")
-        parts = ("expected  ", "page      Lambda Developer Guide", "invoke errors", "picture   ")
-        words = [part for part in parts if part not in run.output]
-        check("a FAIL says what is expected, by which page, and shows the timeline", (run.status, words), (1, []))
-        drawn = xml.parse(os.path.join(pictures, "errors.svg")).getroot()
-        check("its picture is an SVG", drawn.tag.rpartition("}")[2], "svg")
-        suite = xml.parse(file).getroot().find("testsuite")
-        case = suite.find("testcase")
-        check("JUnit has the one check", (suite.get("tests"), suite.get("failures"), case.get("name")),
-              ("1", "1", "error_type"))
-        check("and what came", case.find("failure").get("message").startswith("the caller received "))
-        check("and its details", "Invocation error" in case.find("failure").text)
-
-
-def wrong_usage():
-    somewhere = os.path.join("nowhere", "report.xml")
-    for words, told, *status in (
-            ([], "write one of runtime, extension, service"),
-            (["runtimes"], "write one of runtime, extension, service"),
-            (["runtime"], "write the command that is tested after --"),
-            (["runtime", "--"], "write the command that is tested after --"),
-            (["runtime", "--only", "nothing", "--", "true"], "--only nothing: there is no such scenario or check"),
-            (["runtime", "--init-seconds", "soon", "--", "true"], "--init-seconds"),
-            (["runtime", "--invocations", "1", "--", "true"], "1 is not a number from 10 to 1,000,000"),
-            (["runtime", "--sometimes", "--", "true"], "--sometimes"),
-            (["runtime", "--", "no_such_program"], "no_such_program is not a program"),
-            (["runtime", "--junit", somewhere, "--", "true"], "--junit nowhere"),
-            (["runtime", "--pictures", "/dev/null", "--", "true"], "--pictures /dev/null"),
-            (["runtime", "--program", "nowhere", "--", "true"], "nowhere is not a program", 4),
-            (["runtime", "--", "sh", "-c", "echo it is broken; exit 3"],
-             "it ended with status 3 before it asked for anything; its last line: it is broken"),
-            (["extension", "--", "true"], "write --name NAME"),
-            (["extension", "--name", "x", "--events", "INVOKE,START", "--", "true"],
-             "INVOKE,START: write INVOKE, SHUTDOWN or both"),
-            (["extension", "--name", "x", "--", "true"], "it ended with status 0 before it asked for anything")):
-        run = Run(*words)
-        refused(" ".join(words) or "no word", run, told, *status)
-    refused("no free port", Run("runtime", "--", "true", LAMBDA_LOCAL_PORTS="1-1"), "LAMBDA_LOCAL_PORTS=1-1")
-
-
-def refused(name, run, told, status=2):
-    seen = (run.status, len(run.errors.splitlines()), told in run.errors)
-    check(f"{name}: status {status} and one line", seen, (status, 1, True))
-    run.told(seen == (status, 1, True))
+        yield Job(mistake.__name__, wrong, (kind, mistake, is_whole), "caught", (kind, mistake))
 
 
 def processes_of(mark):
@@ -362,36 +254,112 @@ def is_so(condition):
     return condition()
 
 
-def nothing_is_left():
-    for number, wanted in ((signal.SIGINT, 130), (signal.SIGTERM, 143), (signal.SIGKILL, -9)):
-        with tempfile.TemporaryDirectory() as temporary:
-            process = subprocess.Popen([*TOOL, "runtime", "--", *PYTHON, program("sound_runtime.py")], cwd=HANDLERS,
-                                       env={**os.environ, "TMPDIR": temporary}, stdout=subprocess.PIPE,
-                                       stderr=subprocess.DEVNULL, text=True, start_new_session=True)
-            for _ in range(2):  # (the first verdict: the scenarios begin)
-                process.stdout.readline()
-            begun = is_so(lambda: len(processes_of(temporary)) > 3)
-            process.send_signal(number)
-            status = process.wait(120)
-            process.stdout.close()
-            is_so(lambda: not processes_of(temporary) and not os.listdir(temporary))
-            left = (processes_of(temporary), os.listdir(temporary))
-            check(f"after {number.name} nothing is left", (begun, status, *left), (True, wanted, [], []))
+class Conformance(Case):
+    def passes(self, run, name, noted=None):
+        """A program without a FAIL; `noted` are the checks that may be noted, none for any."""
+        notes = run.verdicts("NOTE")
+        seen = (run.status, run.verdicts("FAIL"), notes - (notes if noted is None else noted))
+        self.check(f"{name} passes, with notes on {' '.join(sorted(notes)) or 'nothing'}", seen, (0, set(), set()))
+        run.told(seen == (0, set(), set()))
 
+    def caught(self, run, kind, mistake):
+        """A wrong one has one FAIL, of its own check, or of one that cannot but catch it too: those that follow from
+        the same cause are only named. One that is a NOTE or a SHOULD has no FAIL."""
+        outcome, also = getattr(mistake, "outcome", "FAIL"), set(getattr(mistake, "also", ())) - {mistake.check}
+        told = re.findall(r"^FAIL  (\w+)", run.output, re.MULTILINE)
+        is_own = mistake.check in run.verdicts(outcome)
+        seen = (run.status, len(told), is_own, [name for name in told if name not in {mistake.check, *also}])
+        wanted = (1, 1, True, []) if outcome == "FAIL" else (0, 0, True, [])
+        scenarios = "of some scenarios" if "--only" in run.words else "of all scenarios"
+        self.check(f"{kind.name} {mistake.__name__} is a {outcome} of {mistake.check}, {scenarios}, and of no other "
+                   "cause", seen, wanted)
+        run.told(seen == wanted)
 
-def the_page_has_each_check():
-    with open(os.path.join(ROOT, "docs", "conformance.md"), encoding="utf-8") as file:
-        page = file.read()
-    for kind in KINDS:
-        rows = [f"| `{one.name}` | {one.expected} | [{one.page.part}]({one.page.address}) |" for one in kind.checks]
-        check(f"{kind.name}: docs/conformance.md has each check as --list has it",
-              [row for row in rows if row not in page], [])
+    def test_each_check_can_fail(self):
+        for kind in KINDS:
+            failed = {mistake.check for mistake in kind.mistakes.values() if getattr(mistake, "outcome",
+                                                                                     "FAIL") == "FAIL"}
+            self.check(f"{kind.name}: each check has a wrong one, but for those that cannot fail",
+                       {one.name for one in kind.checks} - failed, LENIENT[kind.name])
+            others = {mistake.check for mistake in kind.mistakes.values()} - failed
+            self.check(f"{kind.name}: these have one that is a NOTE or a SHOULD", LENIENT[kind.name] - others, set())
 
+    def test_programs(self):
+        """All of them at once, as many as there is room for."""
+        with concurrent.futures.ThreadPoolExecutor(AT_ONCE) as pool:
+            judges = {"passes": self.passes, "caught": self.caught}
+            running = [job.begun_in(pool) for job in jobs() if job.name in (CHOSEN or [job.name])]
+            for job, run in running:
+                judges[job.judge](run.result(), *job.by)
 
-if __name__ == "__main__":
-    KITS.append(Kits(FORKED))  # (before there are threads)
-    others = () if CHOSEN else (each_check_can_fail, the_page_has_each_check, wrong_usage, a_failure_is_explained,
-                                      nothing_is_left)
-    with concurrent.futures.ThreadPoolExecutor(AT_ONCE) as pool:
-        RUNNING += [job.begun_in(pool) for job in jobs() if job.name in (CHOSEN or [job.name])]
-        sys.exit(counted.run(*others, programs))
+    def test_a_failure_is_explained(self):
+        with tempfile.TemporaryDirectory() as folder:
+            file, pictures = os.path.join(folder, "report.xml"), os.path.join(folder, "pictures")
+            run = Run("runtime", "--only", "error_type", "--junit", file, "--pictures", pictures, "--", *PYTHON,
+                      program("wrong_runtimes.py"), "LosesTheErrorType")
+            parts = ("expected  ", "page      Lambda Developer Guide", "invoke errors", "picture   ")
+            words = [part for part in parts if part not in run.output]
+            self.check("a FAIL says what is expected, by which page, and shows the timeline", (run.status, words),
+                       (1, []))
+            drawn = xml.parse(os.path.join(pictures, "errors.svg")).getroot()
+            self.check("its picture is an SVG", drawn.tag.rpartition("}")[2], "svg")
+            suite = xml.parse(file).getroot().find("testsuite")
+            case = suite.find("testcase")
+            self.check("JUnit has the one check", (suite.get("tests"), suite.get("failures"), case.get("name")),
+                       ("1", "1", "error_type"))
+            self.check("and what came", case.find("failure").get("message").startswith("the caller received "))
+            self.check("and its details", "Invocation error" in case.find("failure").text)
+
+    def test_wrong_usage(self):
+        somewhere = os.path.join("nowhere", "report.xml")
+        for words, told, *status in (
+                ([], "write one of runtime, extension, service"),
+                (["runtimes"], "write one of runtime, extension, service"),
+                (["runtime"], "write the command that is tested after --"),
+                (["runtime", "--"], "write the command that is tested after --"),
+                (["runtime", "--only", "nothing", "--", "true"], "--only nothing: there is no such scenario or check"),
+                (["runtime", "--init-seconds", "soon", "--", "true"], "--init-seconds"),
+                (["runtime", "--invocations", "1", "--", "true"], "1 is not a number from 10 to 1,000,000"),
+                (["runtime", "--sometimes", "--", "true"], "--sometimes"),
+                (["runtime", "--", "no_such_program"], "no_such_program is not a program"),
+                (["runtime", "--junit", somewhere, "--", "true"], "--junit nowhere"),
+                (["runtime", "--pictures", "/dev/null", "--", "true"], "--pictures /dev/null"),
+                (["runtime", "--program", "nowhere", "--", "true"], "nowhere is not a program", 4),
+                (["runtime", "--", "sh", "-c", "echo it is broken; exit 3"],
+                 "it ended with status 3 before it asked for anything; its last line: it is broken"),
+                (["extension", "--", "true"], "write --name NAME"),
+                (["extension", "--name", "x", "--events", "INVOKE,START", "--", "true"],
+                 "INVOKE,START: write INVOKE, SHUTDOWN or both"),
+                (["extension", "--name", "x", "--", "true"], "it ended with status 0 before it asked for anything")):
+            run = Run(*words)
+            self.refused(" ".join(words) or "no word", run, told, *status)
+        self.refused("no free port", Run("runtime", "--", "true", LAMBDA_LOCAL_PORTS="1-1"), "LAMBDA_LOCAL_PORTS=1-1")
+
+    def refused(self, name, run, told, status=2):
+        seen = (run.status, len(run.errors.splitlines()), told in run.errors)
+        self.check(f"{name}: status {status} and one line", seen, (status, 1, True))
+        run.told(seen == (status, 1, True))
+
+    def test_nothing_is_left(self):
+        for number, wanted in ((signal.SIGINT, 130), (signal.SIGTERM, 143), (signal.SIGKILL, -9)):
+            with tempfile.TemporaryDirectory() as temporary:
+                process = subprocess.Popen([*TOOL, "runtime", "--", *PYTHON, program("sound_runtime.py")], cwd=HANDLERS,
+                                           env={**os.environ, "TMPDIR": temporary}, stdout=subprocess.PIPE,
+                                           stderr=subprocess.DEVNULL, text=True, start_new_session=True)
+                for _ in range(2):  # (the first verdict: the scenarios begin)
+                    process.stdout.readline()
+                begun = is_so(lambda: len(processes_of(temporary)) > 3)
+                process.send_signal(number)
+                status = process.wait(120)
+                process.stdout.close()
+                is_so(lambda: not processes_of(temporary) and not os.listdir(temporary))
+                left = (processes_of(temporary), os.listdir(temporary))
+                self.check(f"after {number.name} nothing is left", (begun, status, *left), (True, wanted, [], []))
+
+    def test_the_page_has_each_check(self):
+        with open(os.path.join(ROOT, "docs", "conformance.md"), encoding="utf-8") as file:
+            page = file.read()
+        for kind in KINDS:
+            rows = [f"| `{one.name}` | {one.expected} | [{one.page.part}]({one.page.address}) |" for one in kind.checks]
+            self.check(f"{kind.name}: docs/conformance.md has each check as --list has it",
+                       [row for row in rows if row not in page], [])

@@ -1,20 +1,14 @@
-#!/usr/bin/env python3
 """Checks the proxy of lambda_local conformance: a client and a service meet through it what they meet without it,
-however one of the two ends the connection, and it records what was asked and answered. Ends with 'N passed, M failed'.
+however one of the two ends the connection, and it records what was asked and answered.
 
 usage: tests/tools/conformance_proxy.py"""
-import os
 import socket
 import struct
-import sys
 import threading
 
-ROOT = os.path.dirname(os.path.dirname(os.path.dirname(os.path.realpath(__file__))))
-sys.path[:0] = [os.path.join(ROOT, "tools"), os.path.join(ROOT, "tests", "library")]
-import counted  # noqa: E402
-from counted import check  # noqa: E402
-from lambda_local.conformance.exchanges import Rule  # noqa: E402
-from lambda_local.conformance.proxy import Proxy  # noqa: E402
+from lambda_local.conformance.exchanges import Rule
+from lambda_local.conformance.proxy import Proxy
+from tests.library.cases import Case
 
 LARGE = 20_000_000  # bytes: more than all buffers on the way hold
 TOO_LARGE = b"HTTP/1.1 413 Payload Too Large\r\nContent-Length: 3\r\n\r\n413"
@@ -226,51 +220,45 @@ WAYS = (
 )
 
 
-def each_way():
-    for name, service, client, wanted in WAYS:
-        direct, (*through, recorded) = played(service, client, False), played(service, client, True)
-        check(f"{name}: both meet the same through the proxy", tuple(through), direct)
-        check(f"{name}: it is recorded", recorded, wanted)
+class ConformanceProxy(Case):
+    def test_each_way(self):
+        for name, service, client, wanted in WAYS:
+            direct, (*through, recorded) = played(service, client, False), played(service, client, True)
+            self.check(f"{name}: both meet the same through the proxy", tuple(through), direct)
+            self.check(f"{name}: it is recorded", recorded, wanted)
 
+    def test_a_reset(self):
+        """(What else one meets that sends into a reset depends on when it comes.)"""
+        for proxied in (False, True):
+            client = played(answers_early_and_resets, sends_much_then_reads, proxied)[0]
+            self.check(f"an early answer, and the service resets{', through the proxy' * proxied}", client,
+                       ["sends in vain", TOO_LARGE])
 
-def a_reset():
-    """(What else one meets that sends into a reset depends on when it comes.)"""
-    for proxied in (False, True):
-        client = played(answers_early_and_resets, sends_much_then_reads, proxied)[0]
-        check(f"an early answer, and the service resets{', through the proxy' * proxied}", client,
-              ["sends in vain", TOO_LARGE])
+    def test_pipelined(self):
+        """(The proxy forwards one request at a time.)"""
+        def answers_one_by_one(side):
+            for _ in range(2):
+                side.counts(len(NEXT))
+                side.send(FINE)
+            side.takes(1)
+        client, service, recorded = played(answers_one_by_one, asks_twice_at_once, True)
+        self.check("two requests at once have two answers", (client, service),
+                   ([FINE + FINE], [len(NEXT), len(NEXT), "the end", b""]))
+        self.check("and are recorded", recorded, [("next", 202, 0, True)] * 2)
 
-
-def pipelined():
-    """(The proxy forwards one request at a time.)"""
-    def answers_one_by_one(side):
-        for _ in range(2):
-            side.counts(len(NEXT))
-            side.send(FINE)
-        side.takes(1)
-    client, service, recorded = played(answers_one_by_one, asks_twice_at_once, True)
-    check("two requests at once have two answers", (client, service),
-          ([FINE + FINE], [len(NEXT), len(NEXT), "the end", b""]))
-    check("and are recorded", recorded, [("next", 202, 0, True)] * 2)
-
-
-def rules():
-    def is_not_asked(side):
-        side.takes(1)
-    rule = Rule("next", reply=(500, b"{}"))
-    with socket.create_server(("127.0.0.1", 0)) as listener:
-        proxy = Proxy(listener.getsockname()[1])
-        proxy.rule = rule
-        with socket.create_connection(("127.0.0.1", proxy.port)) as connection:
-            side = Side(connection)
-            side.send(NEXT)
-            side.takes(len(rule.bytes()))
-        check("a rule answers in the service's place", side.met, [rule.bytes()])
-        proxy.close()
-    client, _, recorded = played(answers_and_ends, asks_on_what_has_ended, True, Rule("response", close=True))
-    check("a rule closes the connection after the answer", (client, recorded),
-          (["the end", FINE], [("response", 202, 2, True)]))
-
-
-if __name__ == "__main__":
-    sys.exit(counted.run(each_way, a_reset, pipelined, rules))
+    def test_rules(self):
+        def is_not_asked(side):
+            side.takes(1)
+        rule = Rule("next", reply=(500, b"{}"))
+        with socket.create_server(("127.0.0.1", 0)) as listener:
+            proxy = Proxy(listener.getsockname()[1])
+            proxy.rule = rule
+            with socket.create_connection(("127.0.0.1", proxy.port)) as connection:
+                side = Side(connection)
+                side.send(NEXT)
+                side.takes(len(rule.bytes()))
+            self.check("a rule answers in the service's place", side.met, [rule.bytes()])
+            proxy.close()
+        client, _, recorded = played(answers_and_ends, asks_on_what_has_ended, True, Rule("response", close=True))
+        self.check("a rule closes the connection after the answer", (client, recorded),
+                   (["the end", FINE], [("response", 202, 2, True)]))

@@ -1,9 +1,8 @@
-#!/usr/bin/env python3
 """Checks lambda_local conformance service: it finds nothing in lambda_local over a thousand random sequences and
 nothing in a sound emulator, and each fault that is planted in the emulator. The program is LAMBDA_LOCAL_PROGRAM, else
-./lambda_local. Ends with 'N passed, M failed'.
+./lambda_local.
 
-usage: tests/tools/conformance_service.py [FAULT ..]   (or `sound`, `lambda_local`, `pairs`; default: everything)"""
+Variable: CONFORMANCE_FAULTS has the faults that alone are planted."""
 import concurrent.futures
 import os
 import re
@@ -13,18 +12,17 @@ import sys
 import tempfile
 import xml.etree.ElementTree as xml
 
-ROOT = os.path.dirname(os.path.dirname(os.path.dirname(os.path.realpath(__file__))))
-EMULATOR = os.path.join(ROOT, "tests", "tools", "emulator")
-sys.path[:0] = [EMULATOR, os.path.join(ROOT, "tools"), os.path.join(ROOT, "tests", "library")]
-import counted  # noqa: E402
-from counted import check  # noqa: E402
-from faults import FAULTS, OF_PAIRS  # noqa: E402
-from forked_kit import Kits  # noqa: E402
-from lambda_local.conformance.service import known, oracle, pairs, sequences  # noqa: E402
-from lambda_local.service import Service, free_ports, program_path  # noqa: E402
+from lambda_local.conformance.service import known, oracle, pairs, sequences
+from lambda_local.service import Service, free_ports, program_path
+from tests import ROOT
+from tests.library.cases import Case
+from tests.library.forked_kit import Kits
+from tests.tools.emulator.faults import FAULTS, OF_PAIRS
 
+EMULATOR = os.path.join(ROOT, "tests", "tools", "emulator")
 KITS = Kits({})  # (before there are threads)
 POOL = concurrent.futures.ThreadPoolExecutor(4 * len(os.sched_getaffinity(0)))  # of runs, which wait most of the time
+CHOSEN = os.environ.get("CONFORMANCE_FAULTS", "").split()
 PARTS, IN_PART = 20, 50  # of the random sequences for lambda_local, each part with a service and a seed of its own
 IN_EMULATOR = 60  # random sequences
 MOST_CALLS = 11  # of the fewest that show a difference: eleven extensions
@@ -157,70 +155,10 @@ def against_lambda_local(*words, environments=1):
         service.kill()
 
 
-# ---- what is found, and what is not ----------------------------------------------------------------------------------
-
-def started(name, start, *words):
-    """A run that has begun, if this name is chosen."""
-    return POOL.submit(start, *words) if name in (sys.argv[1:] or [name]) else None
-
-
 def against(name):
     """The run against the emulator with the fault of this name, or without a fault."""
     return against_emulator(() if name == "sound" else (name,), "--seed", "1", "--sequences", str(IN_EMULATOR),
                             "--most", "1")
-
-
-RUNS = [started("lambda_local", against_lambda_local, "--seed", str(seed), "--sequences", str(IN_PART))
-        for seed in range(PARTS)]
-SOUND = started("sound", against, "sound")
-FAULTY = {name: started(name, against, name) for name in FAULTS}
-
-
-def nothing_in_lambda_local():
-    runs = [run.result() for run in RUNS if run]
-    for seed, run in enumerate(runs):
-        seen = (run.status, run.words)
-        check(f"nothing differs in lambda_local: {(run.output.splitlines() or [''])[-1]}, seed {seed}", seen, (0, []))
-        run.told(seen == (0, []))
-    if runs:
-        check("a thousand random sequences", sum(run.random for run in runs) >= PARTS * IN_PART)
-
-
-def nothing_in_a_sound_emulator():
-    if SOUND:
-        run = SOUND.result()
-        check(f"nothing differs in an emulator without a fault: {(run.output.splitlines() or [''])[-1]}",
-              (run.status, run.words), (0, []))
-        run.told(run.status == 0)
-
-
-def each_fault_is_found():
-    check("each fault has what it shows as", set(FAULTS) ^ set(SHOWS_AS), set())
-    for name, started_run in FAULTY.items():
-        if started_run:
-            run = started_run.result()
-            least = 0 if name in AT_THE_BEGINNING else 1
-            seen = (run.status, len(run.words), bool(set(run.words) & SHOWS_AS[name]), least <= run.calls <= MOST_CALLS)
-            title = next((line for line in run.output.splitlines() if line.startswith("DIFFERENCE")), "nothing")
-            last = (run.output.splitlines() or [""])[-1]
-            check(f"{name} is found, with {run.calls} calls: {title[:160]}; {last}", seen, (1, 1, True, True))
-            run.told(seen == (1, 1, True, True))
-
-
-def two_environments():
-    if sys.argv[1:] and "pairs" not in sys.argv[1:]:
-        return
-    for name, run in (("lambda_local", against_lambda_local(environments=2)),
-                      ("an emulator without a fault", against_emulator((), is_pair=True))):
-        seen = (run.status, run.words, f"{len(all_pairs())} sequences" in run.output)
-        check(f"with two environments nothing differs in {name}", seen, (0, [], True))
-        run.told(seen == (0, [], True))
-    check("each fault of two environments has what it shows as", set(OF_PAIRS) ^ set(SHOWS_IN_PAIRS), set())
-    for name in OF_PAIRS:
-        run = against_emulator((name,), "--most", "1", is_pair=True)
-        seen = (run.status, bool(set(run.words) & SHOWS_IN_PAIRS[name]))
-        check(f"{name} is found: {' '.join(run.words) or 'nothing'}", seen, (1, True))
-        run.told(seen == (1, True))
 
 
 def all_pairs():
@@ -228,86 +166,124 @@ def all_pairs():
     return sequences.sequences_of(pairs.PAIRS, oracle.FRESH)
 
 
-def each_worked_sequence_is_played():
-    found = oracle.Oracle(program_path(), SERVICE_TIMEOUT)
-    for start in (oracle.FRESH, oracle.WARM):
-        texts = [*sequences.worked(start), *sequences.timed(start)]
-        played = {plan.sequence.name for plan in sequences.plans_of(texts, found)}
-        check(f"each of {len(texts)} worked sequences ({start}) is played", {one.name for one in texts} - played, set())
+class ConformanceService(Case):
+    def test_nothing_in_lambda_local(self):
+        running = [POOL.submit(against_lambda_local, "--seed", str(seed), "--sequences", str(IN_PART))
+                   for seed in range(PARTS)]
+        runs = [run.result() for run in running]
+        for seed, run in enumerate(runs):
+            seen = (run.status, run.words)
+            self.check(f"nothing differs in lambda_local: {(run.output.splitlines() or [''])[-1]}, seed {seed}", seen,
+                       (0, []))
+            run.told(seen == (0, []))
+        self.check("a thousand random sequences", sum(run.random for run in runs) >= PARTS * IN_PART)
 
-
-# ---- what a run takes and leaves -------------------------------------------------------------------------------------
-
-def differences_can_be_known():
-    with tempfile.TemporaryDirectory() as folder:
-        file, report = os.path.join(folder, "known.txt"), os.path.join(folder, "report.xml")
-        with open(file, "w") as lines:
-            lines.write("# The flag is on its way.\ninvoke * function-error  # of each failure\n\n")
-        words = ("--seed", "1", "--sequences", "1", "--most", "1", "--junit", report)
-        run = against_emulator(("hides-function-error",), "--known", file, *words)
-        check("an accepted difference is counted", (run.status, f"times: {file}, line 2" in run.output), (0, True))
+    def test_nothing_in_a_sound_emulator(self):
+        run = against("sound")
+        self.check(f"nothing differs in an emulator without a fault: {(run.output.splitlines() or [''])[-1]}",
+                   (run.status, run.words), (0, []))
         run.told(run.status == 0)
-        check("JUnit has no failure", xml.parse(report).getroot().find("testsuite").get("failures"), "0")
-        run = against_emulator(("hides-function-error",), *words)
-        case = next((one for one in xml.parse(report).getroot().iter("testcase") if one.find("failure") is not None),
-                    None)
-        shown = case is not None and "invoke a" in case.find("failure").text
-        check("without the file it is a failure in JUnit, with its calls", (run.status, shown), (1, True))
-        check("the report has the page", "API_Invoke.html" in run.output)
-        script = run.output.partition("      script\n")[2].splitlines()
-        lines = [line.strip() for line in script if line.startswith("        ")]
-        replayed = subprocess.run([program_path(), "replay"], input="\n".join(lines) + "\n", capture_output=True,
-                                  text=True)
-        check("its script can be replayed, and has the error", (replayed.returncode, " error =" in replayed.stdout),
-              (0, True))
 
+    def test_each_fault_is_found(self):
+        self.check("each fault has what it shows as", set(FAULTS) ^ set(SHOWS_AS), set())
+        running = {name: POOL.submit(against, name) for name in CHOSEN or FAULTS}
+        for name, started in running.items():
+            run = started.result()
+            least = 0 if name in AT_THE_BEGINNING else 1
+            seen = (run.status, len(run.words), bool(set(run.words) & SHOWS_AS[name]), least <= run.calls <= MOST_CALLS)
+            title = next((line for line in run.output.splitlines() if line.startswith("DIFFERENCE")), "nothing")
+            last = (run.output.splitlines() or [""])[-1]
+            self.check(f"{name} is found, with {run.calls} calls: {title[:160]}; {last}", seen, (1, 1, True, True))
+            run.told(seen == (1, 1, True, True))
 
-def built_in_points_stand_in_the_page():
-    with open(os.path.join(ROOT, "docs", "differences.md"), encoding="utf-8") as file:
-        points = {line.split(" | ")[0][2:] for line in file if line.startswith("| ")}
-    built_in = {one.why for one in known.BUILT_IN} | set(known.COMPARED_LOOSELY)
-    check("each difference that is accepted stands in docs/differences.md", built_in - points, set())
+    def test_two_environments(self):
+        for name, run in (("lambda_local", against_lambda_local(environments=2)),
+                          ("an emulator without a fault", against_emulator((), is_pair=True))):
+            seen = (run.status, run.words, f"{len(all_pairs())} sequences" in run.output)
+            self.check(f"with two environments nothing differs in {name}", seen, (0, [], True))
+            run.told(seen == (0, [], True))
+        self.check("each fault of two environments has what it shows as", set(OF_PAIRS) ^ set(SHOWS_IN_PAIRS), set())
+        for name in OF_PAIRS:
+            run = against_emulator((name,), "--most", "1", is_pair=True)
+            seen = (run.status, bool(set(run.words) & SHOWS_IN_PAIRS[name]))
+            self.check(f"{name} is found: {' '.join(run.words) or 'nothing'}", seen, (1, True))
+            run.told(seen == (1, True))
 
+    def test_each_worked_sequence_is_played(self):
+        found = oracle.Oracle(program_path(), SERVICE_TIMEOUT)
+        for start in (oracle.FRESH, oracle.WARM):
+            texts = [*sequences.worked(start), *sequences.timed(start)]
+            played = {plan.sequence.name for plan in sequences.plans_of(texts, found)}
+            self.check(f"each of {len(texts)} worked sequences ({start}) is played", {one.name for one in texts}
+                       - played, set())
 
-def wrong_usage():
-    free, other = free_ports(2, set())
-    silent = socket.create_server(("127.0.0.1", 0))
-    silent_port = silent.getsockname()[1]
-    here = ["--invoke", f"http://127.0.0.1:{free}", "--runtime", f"127.0.0.1:{other}"]
-    with tempfile.TemporaryDirectory() as folder:
-        bad = os.path.join(folder, "known.txt")
-        with open(bad, "w") as file:
-            file.write("# two words\nnext deliver\n")
-        for words, told in (
-                ([], "write --invoke URL"),
-                (here[:2], "write --runtime HOST:PORT"),
-                (["--invoke", "127.0.0.1:8080", *here[2:]], "--invoke 127.0.0.1:8080: write the URL"),
-                ([*here[:2], "--runtime", "9001"], "--runtime 9001: write HOST:PORT"),
-                ([*here, "--sequences", "0"], "0 is not a number from 1"),
-                ([*here, "--seconds", "soon"], "--seconds"),
-                ([*here, "--known", os.path.join(folder, "nothing")], "No such file"),
-                ([*here, "--known", bad], "known.txt: line 2 has 2 words: write three"),
-                ([*here, "--junit", os.path.join(folder, "no", "report.xml")],
-                 "name a file in a folder that can be written"),
-                ([*here, "--program", "nowhere"], "nowhere is not a program"),
-                (here, f"127.0.0.1:{other}: no service answers there"),
-                ([*here[:2], "--runtime", f"127.0.0.1:{silent_port}"], f"127.0.0.1:{free}: no service answers there"),
-                (["--invoke", f"http://127.0.0.1:{silent_port}", "--runtime", f"127.0.0.1:{silent_port}"],
-                 "is not answered within 2 s")):
-            run = Run(*words)
-            check(f"{' '.join(words) or 'no word'}: status 2 and one line",
-                  (run.status, len(run.errors.splitlines()), told in run.errors), (2, 1, True))
-            run.told(told in run.errors)
-    silent.close()
-    service = Service({"account": "123456789012", "region": "us-east-1", "functions": [{"name": "f", "ports": [0]}]})
-    run = Run("--invoke", service.endpoint_url, "--runtime", f"127.0.0.1:{service.port}")
-    service.kill()
-    check("a port without a Runtime API: status 2",
-          (run.status, "is answered 404: no Runtime API listens there" in run.errors), (2, True))
-    run.told(run.status == 2)
+    def test_differences_can_be_known(self):
+        with tempfile.TemporaryDirectory() as folder:
+            file, report = os.path.join(folder, "known.txt"), os.path.join(folder, "report.xml")
+            with open(file, "w") as lines:
+                lines.write("# The flag is on its way.\ninvoke * function-error  # of each failure\n\n")
+            words = ("--seed", "1", "--sequences", "1", "--most", "1", "--junit", report)
+            run = against_emulator(("hides-function-error",), "--known", file, *words)
+            self.check("an accepted difference is counted", (run.status, f"times: {file}, line 2" in run.output),
+                       (0, True))
+            run.told(run.status == 0)
+            self.check("JUnit has no failure", xml.parse(report).getroot().find("testsuite").get("failures"), "0")
+            run = against_emulator(("hides-function-error",), *words)
+            case = next((one for one in xml.parse(report).getroot().iter("testcase")
+                         if one.find("failure") is not None),
+                        None)
+            shown = case is not None and "invoke a" in case.find("failure").text
+            self.check("without the file it is a failure in JUnit, with its calls", (run.status, shown), (1, True))
+            self.check("the report has the page", "API_Invoke.html" in run.output)
+            script = run.output.partition("      script\n")[2].splitlines()
+            lines = [line.strip() for line in script if line.startswith("        ")]
+            replayed = subprocess.run([program_path(), "replay"], input="\n".join(lines) + "\n", capture_output=True,
+                                      text=True)
+            self.check("its script can be replayed, and has the error",
+                       (replayed.returncode, " error =" in replayed.stdout),
+                       (0, True))
 
+    def test_built_in_points_stand_in_the_page(self):
+        with open(os.path.join(ROOT, "docs", "differences.md"), encoding="utf-8") as file:
+            points = {line.split(" | ")[0][2:] for line in file if line.startswith("| ")}
+        built_in = {one.why for one in known.BUILT_IN} | set(known.COMPARED_LOOSELY)
+        self.check("each difference that is accepted stands in docs/differences.md", built_in - points, set())
 
-if __name__ == "__main__":
-    others = (each_worked_sequence_is_played, differences_can_be_known, built_in_points_stand_in_the_page, wrong_usage)
-    parts = (nothing_in_lambda_local, nothing_in_a_sound_emulator, two_environments, each_fault_is_found)
-    sys.exit(counted.run(*(() if sys.argv[1:] else others), *parts))
+    def test_wrong_usage(self):
+        free, other = free_ports(2, set())
+        silent = socket.create_server(("127.0.0.1", 0))
+        silent_port = silent.getsockname()[1]
+        here = ["--invoke", f"http://127.0.0.1:{free}", "--runtime", f"127.0.0.1:{other}"]
+        with tempfile.TemporaryDirectory() as folder:
+            bad = os.path.join(folder, "known.txt")
+            with open(bad, "w") as file:
+                file.write("# two words\nnext deliver\n")
+            for words, told in (
+                    ([], "write --invoke URL"),
+                    (here[:2], "write --runtime HOST:PORT"),
+                    (["--invoke", "127.0.0.1:8080", *here[2:]], "--invoke 127.0.0.1:8080: write the URL"),
+                    ([*here[:2], "--runtime", "9001"], "--runtime 9001: write HOST:PORT"),
+                    ([*here, "--sequences", "0"], "0 is not a number from 1"),
+                    ([*here, "--seconds", "soon"], "--seconds"),
+                    ([*here, "--known", os.path.join(folder, "nothing")], "No such file"),
+                    ([*here, "--known", bad], "known.txt: line 2 has 2 words: write three"),
+                    ([*here, "--junit", os.path.join(folder, "no", "report.xml")],
+                     "name a file in a folder that can be written"),
+                    ([*here, "--program", "nowhere"], "nowhere is not a program"),
+                    (here, f"127.0.0.1:{other}: no service answers there"),
+                    ([*here[:2], "--runtime", f"127.0.0.1:{silent_port}"],
+                     f"127.0.0.1:{free}: no service answers there"),
+                    (["--invoke", f"http://127.0.0.1:{silent_port}", "--runtime", f"127.0.0.1:{silent_port}"],
+                     "is not answered within 2 s")):
+                run = Run(*words)
+                self.check(f"{' '.join(words) or 'no word'}: status 2 and one line",
+                           (run.status, len(run.errors.splitlines()), told in run.errors), (2, 1, True))
+                run.told(told in run.errors)
+        silent.close()
+        service = Service({"account": "123456789012", "region": "us-east-1",
+                           "functions": [{"name": "f", "ports": [0]}]})
+        run = Run("--invoke", service.endpoint_url, "--runtime", f"127.0.0.1:{service.port}")
+        service.kill()
+        self.check("a port without a Runtime API: status 2",
+                   (run.status, "is answered 404: no Runtime API listens there" in run.errors), (2, True))
+        run.told(run.status == 2)

@@ -1,0 +1,17 @@
+"""The wrong programs and the sound ones with which the conformance kit is tried. As programs they import one another by
+name."""
+import os
+import sys
+
+from tests import ROOT
+
+PROGRAMS = os.path.join(ROOT, "tests", "tools", "wrong_programs")
+SHAPES = os.path.join(ROOT, "tests", "tools", "sound_programs")
+sys.path[:0] = [PROGRAMS, SHAPES]
+import clients  # noqa: E402, F401
+import extensions  # noqa: E402, F401
+import libraries  # noqa: E402, F401
+import shapes  # noqa: E402, F401
+import subscribers  # noqa: E402, F401
+import wrong_extensions  # noqa: E402, F401
+import wrong_runtimes  # noqa: E402, F401
