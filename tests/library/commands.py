@@ -1,12 +1,12 @@
 """One short run of each command of a checkout: what users give, and what must come."""
 import json
 import os
-import subprocess
 import sys
 
 from tests.library import trees
-from tests.library.trees import ROOT, plain, text_of, write
+from tests.library.trees import ROOT, text_of, write
 
+SERVE_ONCE = os.path.join(ROOT, "tests", "library", "serve_once.py")
 GREETING = '{"greeting": "Hello, Ada!"}'
 INVOKE = ("import os, urllib.request as u; "
           "print(u.urlopen(os.environ['AWS_ENDPOINT_URL_LAMBDA'] + '/2015-03-31/functions/greet/invocations', "
@@ -42,7 +42,7 @@ class Commands:
         yield "--version", [launcher, "--version"], " passed, 0 failed\n", ""
         yield ("replay", [launcher], text_of(ROOT, "crates", "lambda_local", "stdout"),
                text_of(ROOT, "examples", "first_call.txt"))
-        yield "serve", [self.python, __file__, launcher, self.folder], "stopped in order\n", ""
+        yield "serve", [self.python, SERVE_ONCE, launcher, self.folder], "stopped in order\n", ""
         yield "check", [launcher, "check", timeout], " answers\n", ""
         yield "timeline", [launcher, "timeline", timeout], "\n", ""
         yield "from_template", [launcher, "from_template", template], "}\n", ""
@@ -68,30 +68,3 @@ def python_with_pytest(first):
         if os.access(python, os.X_OK) and trees.run([python, "-c", "import pytest"])[0] == 0:
             return python
     return None
-
-
-def serve(launcher, folder):
-    """Serves a configuration of its own on free ports, and stops it."""
-    sys.path.insert(0, os.path.join(os.path.dirname(launcher), "tools"))
-    from lambda_local.service import ask, free_ports
-    invoke, port = free_ports(2, set())
-    path = os.path.join(folder, "service.json")
-    write(path, json.dumps({"account": "123456789012", "region": "us-east-2", "invokePort": invoke,
-                            "functions": [{"name": "f", "ports": [port]}]}).encode())
-    child = subprocess.Popen([launcher, "serve", path], stderr=subprocess.PIPE, text=True, env=plain(**os.environ))
-    try:
-        for line in child.stderr:
-            if line.endswith("listening\n"):
-                ask(invoke, "POST", "/_local/stop")
-            else:
-                sys.stderr.write(line)
-        status = child.wait(20)
-        print("stopped in order" if status == 0 else "it was not stopped in order")
-        return status
-    finally:
-        child.kill()
-        child.wait()
-
-
-if __name__ == "__main__":
-    sys.exit(serve(*sys.argv[1:]))
