@@ -1,7 +1,5 @@
 """Checks the proxy of lambda_local conformance: a client and a service meet through it what they meet without it,
-however one of the two ends the connection, and it records what was asked and answered.
-
-usage: tests/tools/conformance_proxy.py"""
+however one of the two ends the connection, and it records what was asked and answered."""
 import socket
 import struct
 import threading
