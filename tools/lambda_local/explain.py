@@ -101,7 +101,9 @@ class Piped:
         try:
             while data := os.read(0, AT_ONCE):
                 self._keep(data)
-                sink.write(data)
+                left = memoryview(data)
+                while left:
+                    left = left[sink.write(left):]
         except OSError:  # (the program has ended, or nothing more can be read)
             pass
         sink.close()
