@@ -1,12 +1,13 @@
 """Whether a runtime is of use again: after a failure, as Lambda uses it again."""
 import time
-from typing import Any, Optional
+from typing import Any, Optional, Set
 
 from .kit import Missing
 from .process import Process
 from .stage import Stage, shown
 
 TYPE, MESSAGE = "OutOfCheese", "no cheese left, says M\u00fcller"
+ACCEPTED = 202
 SLACK = 100  # milliseconds between a look at a clock here and one in the handler, beyond what the exchanges show
 
 
@@ -43,6 +44,17 @@ def fault_after(stage: Stage, word: str = "again", process: Optional[Process] = 
                 usable(stage)
     except Missing as missing:
         return f"a later invocation: {missing}"
+    return answered_twice(stage)
+
+
+def answered_twice(stage: Stage) -> Optional[str]:
+    """An invocation that was answered again once its answer had been accepted, in words."""
+    accepted: Set[Optional[str]] = set()
+    for exchange in stage.environment.proxy.of("response", "error"):
+        if exchange.request_id in accepted:
+            return f"an invocation is answered twice: {exchange}"
+        if exchange.status == ACCEPTED and not exchange.by_rule:
+            accepted.add(exchange.request_id)
     return None
 
 

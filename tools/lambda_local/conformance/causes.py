@@ -6,7 +6,7 @@ SIGNS = re.compile(r"\d+|[0-9a-f]{8}-[0-9a-f-]{27}")  # that differ from one FAI
 LATER = "a later invocation: "  # what `again` writes before the words that an invocation by itself would have had
 # Checks that fail as well if one of these has failed: they say nothing new then.
 FOLLOWS: Dict[str, Tuple[str, ...]] = {
-    "long_text": ("utf8",), "kinds": ("utf8", "payload_empty", "payload_null", "payload_scalars"),
+    "long_text": ("utf8",), "kinds": ("utf8", "long_text", "payload_empty", "payload_null", "payload_scalars"),
     "escapes": ("utf8", "kinds"), "payload_limit": ("long_text",),
     "payload_spaces": ("payload_empty", "payload_null", "payload_scalars"),
     "output_limit": ("payload_limit", "long_text"), "stream": ("utf8", "long_text", "kinds", "escapes"),
@@ -16,16 +16,19 @@ FOLLOWS: Dict[str, Tuple[str, ...]] = {
     "trace_id": ("request_id",), "trace_renewed": ("request_id", "trace_id"),
     "error_message": ("utf8", "kinds"), "error_texts": ("utf8", "kinds", "escapes", "error_reported", "error_message"),
     "after_error": ("error_texts", "request_id", "deadline", "trace_id", "trace_renewed"),
-    "ends_at_500_response": ("ends_at_500",),
-    "ends_at_500_error": ("error_reported", "ends_at_500", "ends_at_500_response"), "long_refusal": ("late_response",),
-    "chunked_answers": ("long_refusal",), "init_error": ("error_message", "error_type"),
+    "init_error_ends": ("init_error",), "ends_at_500_response": ("ends_at_500", "init_error_ends"),
+    "ends_at_500_error": ("error_reported", "ends_at_500", "ends_at_500_response", "init_error_ends"),
+    "handler_exits": ("init_error_ends", "ends_at_500"), "long_refusal": ("late_response",),
+    "chunked_answers": ("late_response", "long_refusal"),
+    "init_error": ("error_message", "error_type", "long_text"), "next_after_response": ("late_response",),
     "closing_answers": ("connection_end", "header_names"), "slow_answers": ("long_text",),
     "cut_event": ("slow_answers", "long_text", "connection_end"), "lost_poll": ("connection_end",),
     "missing_handler": ("init_error",), "broken_handler": ("init_error",), "responds_once": ("error_reported",),
     "long_handler": ("late_response",),
     # of extensions
+    "ends_at_spindown": ("asks_after_invoke",), "many_events": ("asks_after_invoke",),
     "ends_at_timeout": ("ends_at_spindown",), "ends_at_failure": ("ends_at_spindown",), "exit_error": ("init_error",),
-    "ends_at_500": ("crash_noticed",), "ends_at_500_register": ("crash_noticed", "ends_at_500"),
+    "ends_at_500": ("init_error_ends", "crash_noticed"), "ends_at_500_register": ("crash_noticed", "ends_at_500"),
     "refused_registration": ("ends_at_500_register",),
 }
 # What many checks look at once more, by the words with which they tell it, and the checks that are about it.

@@ -14,6 +14,7 @@ class Manner(NamedTuple):
     kinds: Tuple[str, ...] = ()  # of the requests whose replies are written so; all if there is none
     refusals: bool = False  # only those that are refusals
     named: Callable[[str], str] = str  # what becomes of a header's name
+    backwards: bool = False  # whether the headers come in the opposite order
     without: Tuple[str, ...] = ()  # headers, in lower case, that are left out
     more: Tuple[Tuple[str, str], ...] = ()  # headers that are added
     chunk: int = 0  # bytes of each chunk, if the body is sent in chunks
@@ -50,7 +51,8 @@ class Manner(NamedTuple):
         pairs = [(name, value.strip()) for name, _, value in (line.partition(":") for line in lines[1:] if line)
                  if name.lower() not in (*KEPT, *self.without)]
         pairs += [*self.more, length, *([("Connection", "close")] if self.close else [])]
-        written = [lines[0], *(f"{self.named(name)}:{self.spaces}{value}" for name, value in pairs)]
+        ordered = pairs[::-1] if self.backwards else pairs
+        written = [lines[0], *(f"{self.named(name)}:{self.spaces}{value}" for name, value in ordered)]
         return ("\r\n".join(written) + "\r\n\r\n").encode("latin-1")
 
     def _body(self, reply: Message) -> bytes:

@@ -30,6 +30,7 @@ BEHIND = 3  # lines of what the connections show
 SILENT = 12  # seconds of its own after which a process that has to answer, or to ask, does not do so any more
 MALFORMED = (400, 404, 405, 411, 414, 431, 501, 505)  # statuses of requests that are wrong in whatever state
 REFUSED = 3  # polls that are refused for what they are, after which it is not waited for another one
+TWO_POLLS = "there is a second Next while one waits"
 RESTARTS = "its command starts other processes in place of those that have ended"
 STAGES = itertools.count()
 
@@ -83,6 +84,7 @@ def compact(event: Event) -> bytes:
 
 class Stage:
     """Opened for one scenario, and ended with it in any case."""
+    poll_kind = "next"  # of the requests with which it asks for what is to be done
 
     def __init__(self, tools: Tools, scenario: Scenario, jury: Jury, environments: int = 1, timeout: int = 30,
                  handler: str = KITS_HANDLER, start: bool = True, extensions: Sequence[str] = (), lasts: int = 0,
@@ -273,12 +275,21 @@ class Stage:
         if any(exchange.behind for exchange in exchanges):
             return "a body is longer than its length says"
         malformed = next((one for one in exchanges if one.status in MALFORMED and not one.by_rule), None)
-        return f"{malformed.kind} is answered {malformed.status}" if malformed else self._cause
+        if malformed:
+            return f"{malformed.kind} is answered {malformed.status}"
+        return TWO_POLLS if any(map(self.polls_twice, self.environments)) else self._cause
+
+    def polls_twice(self, environment: Environment) -> bool:
+        """Whether it asks while a Next of its waits."""
+        polls = environment.proxy.of(self.poll_kind)
+        return any(other.begun < one.end for one, other in zip(polls, polls[1:]))
 
     def on_the_wire(self) -> Iterator[str]:
         """What the connections show that may be the cause of a FAIL, and the last exchange that is over, as lines."""
         exchanges = [one for environment in self.environments for one in list(environment.proxy.exchanges)]
         yield from [fault for exchange in exchanges for fault in exchange.faults()][:BEHIND]
+        if any(map(self.polls_twice, self.environments)):
+            yield TWO_POLLS
         over = [exchange for exchange in exchanges if exchange.ended]
         refused = [exchange for exchange in over if exchange.refused]
         for name, found in (("refused", refused), ("last", over)):

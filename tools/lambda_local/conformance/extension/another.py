@@ -16,8 +16,9 @@ EVENTS = 2  # that it takes in each way
 ASKS = 5  # seconds in which it has asked again
 WAITS = 0.3  # seconds after which a poll's connection ends
 WAYS = (
-    Way("header_names", pages.FIELD_NAMES, "names of headers are read in any case: as on the page, in upper case",
-        (Manner(named=titled), Manner(named=str.upper))),
+    Way("header_names", pages.FIELD_NAMES,
+        "names of headers are read in any case, as on the page, in upper case, and in any order",
+        (Manner(named=titled), Manner(named=str.upper, backwards=True))),
     Way("chunked_answers", pages.CHUNKED, "an answer that comes in chunks is read as one that does not",
         (Manner(chunk=5),)),
     Way("more_headers", pages.EXTENSION_NEXT, "headers that it does not know do no harm", (Manner(more=MANY),)),

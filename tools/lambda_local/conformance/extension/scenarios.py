@@ -54,6 +54,8 @@ def registration(stage: ExtensionStage) -> None:
                   options.init_seconds, f"{seconds:.2f} s after its registration" if polled
                   else f"no Next: {stage.misdirected() or stage.said()}")
     CLOCK.sleep(SETTLES)
+    names = stage.names()
+    stage.check("name", len(names) < 2, f"it registers {len(names)} times, as {' and as '.join(names)}")
     wrong = [one for one in environment.proxy.of("event")
              if one.request.headers.get("lambda-extension-identifier") != stage.identifier]
     stage.check("identifier", not wrong, f"{len(wrong)} times another one or none")

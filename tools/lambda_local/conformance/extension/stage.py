@@ -73,6 +73,7 @@ def report_failure(port: int, identifier: str, message: str) -> None:
 
 class ExtensionStage(Stage):
     """A stage whose environment has the extension; `begin` starts a generation of it."""
+    poll_kind = "event"
 
     def __init__(self, tools: Tools, scenario: Scenario, jury: Jury, telemetry: bool = True, companion: bool = False,
                  **settings: Any) -> None:
@@ -99,7 +100,14 @@ class ExtensionStage(Stage):
         own = ("event", "extension_init_error", "extension_exit_error")
         is_unknown = any(one.status == 403 and not one.by_rule and b"Unknown" in one.came
                          for one in self.environment.proxy.of(*own))
+        if len(self.names()) > 1:
+            return "it registers under several names"
         return super().cause() or ("its identifier is not known" if is_unknown else "")
+
+    def names(self) -> List[str]:
+        """Those under which it has registered."""
+        taken = [one for one in self.environment.proxy.of("register") if one.status == 200]
+        return sorted({one.request.headers.get("lambda-extension-name", "") for one in taken})
 
     def start(self) -> None:
         """Starts the extension's process."""

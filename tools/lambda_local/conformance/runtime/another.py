@@ -45,8 +45,9 @@ def titled(name: str) -> str:
 
 
 WAYS = (
-    Way("header_names", pages.FIELD_NAMES, "names of headers are read in any case: as on the page, in upper case",
-        (Manner(named=titled), Manner(named=str.upper))),
+    Way("header_names", pages.FIELD_NAMES,
+        "names of headers are read in any case, as on the page, in upper case, and in any order",
+        (Manner(named=titled), Manner(named=str.upper, backwards=True))),
     Way("chunked_answers", pages.CHUNKED, "an event that comes in chunks is read as one that does not, and so is each "
                                           "other answer", (Manner(kinds=("next",), chunk=7), Manner(chunk=5))),
     Way("header_spaces", pages.FIELD_LINES,

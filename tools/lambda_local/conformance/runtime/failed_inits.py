@@ -11,7 +11,7 @@ SCENARIOS: List[Scenario] = []
 scenario = scenarios_of(SCENARIOS)
 
 ENDS = 3  # seconds in which a process that has to end promptly has ended
-REPORTED = 5  # seconds beyond an Init's own time
+REPORTED = 5  # seconds beyond an Init's limit
 
 
 def init_fails(stage: Stage, report_check: str) -> Optional[Exchange]:
@@ -19,7 +19,7 @@ def init_fails(stage: Stage, report_check: str) -> Optional[Exchange]:
     none."""
     environment = stage.environment
     process, proxy = environment.process, environment.proxy
-    end = CLOCK.now() + stage.patience + REPORTED
+    end = CLOCK.now() + stage.tools.options.init_seconds + REPORTED
     while not (process.ended or proxy.of("next")
                or any(one.ended for one in proxy.of("init_error"))) and CLOCK.now() < end:
         proxy.wait(lambda: any(one.kind == "next" or one.answered for one in proxy.exchanges), 0.05)
