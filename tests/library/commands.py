@@ -42,6 +42,8 @@ class Commands:
         yield "--version", [launcher, "--version"], " passed, 0 failed\n", ""
         yield ("replay", [launcher], text_of(ROOT, "crates", "lambda_local", "stdout"),
                text_of(ROOT, "examples", "first_call.txt"))
+        yield ("trace", [launcher, "trace"], '"moment":1200,"phases":[],"released":[],"ticket":2}\n',
+               text_of(ROOT, "examples", "first_call.txt"))
         yield "serve", [self.python, SERVE_ONCE, launcher, self.folder], "stopped in order\n", ""
         yield "check", [launcher, "check", timeout], " answers\n", ""
         yield "timeline", [launcher, "timeline", timeout], "\n", ""

@@ -3,6 +3,9 @@ crate), `old: TEXT` and `new: TEXT`, and, if the gate tries it, `gate: FUNCTION`
 import re
 
 WORDS = re.compile(r"^(gate|file|old|new):(?: (.*))?$", re.M)
+# The head of a function, and of a block of methods: the type alone, or the trait and the type.
+HEAD = re.compile(r"^( *)(?:pub(?:\([a-z]+\))? )?(?:const )?fn (\w+)", re.M)
+BLOCK = re.compile(r"^impl(?:<[^{]*?>)? (?:[^{]*? for )?(\w+)", re.M)
 
 
 def read(path):
@@ -14,6 +17,32 @@ def function_of(edit):
     """The function whose promise the gate tries an edit on, by its path below its crate; nothing if it is not one of
     the gate's."""
     return next((value.strip() for key, value in WORDS.findall(read(edit)) if key == "gate"), "")
+
+
+def functions_of(edit, crate):
+    """The functions that an edit changes, each by its name and, if it has one, its type's; nothing if it changes
+    something outside them. So the prover finds a method by `TYPE::NAME`, or by `NAME` if its block is a trait's."""
+    found, path = [], ""
+    for key, value in WORDS.findall(read(edit)):
+        if key == "file":
+            path = value.strip()
+        elif key == "old":
+            text = read(f"{crate}/{path}")
+            name = _around(text, text.find(value)) if path.startswith("src/") and value in text else ""
+            if not name:
+                return []
+            found.append(name)
+    return sorted({*found})
+
+
+def _around(text, place):
+    """The function around a place of a source, as the prover is told of it; nothing if there is none."""
+    head = next((it for it in reversed([*HEAD.finditer(text, 0, text.find("\n", place))])), None)
+    if not head or text.find(f"\n{head[1]}}}\n", head.end()) < place:
+        return ""
+    block = next((it for it in reversed([*BLOCK.finditer(text, 0, head.start())])), None) if head[1] else None
+    is_of_trait = block and " for " in text[block.start():text.find("{", block.start())]
+    return f"{block[1]}::{head[2]}" if block and not is_of_trait else head[2]
 
 
 def edited(edit, crate):

@@ -66,6 +66,8 @@ LIES: Dict[str, Tuple[str, str, str, str]] = {
     "timeline_history": ("history", OF_TOOLS + "timeline/read.py", "this is not an answer", "this is an answer"),
     "timeline_live": ("guarded", OF_TOOLS + "timeline/served.py",
                       'in ("none", "same-origin")', 'in ("none", "same-site")'),
+    "trace": ("random_scripts TRACES=3", OF_TOOLS + "timeline/world.py",
+              'self.change(environment, "Idle", None)', 'self.change(environment, "Starting", None)'),
     "up": ("runtimes", OF_TOOLS + "up/restarts.py",
            "PAUSES[min(self.early - 2, len(PAUSES) - 1)] if self.early > 1 else 0", "0"),
     "up_command": ("credentials", OF_TOOLS + "variables.py",

@@ -60,9 +60,15 @@ def case_of(name, lines):
     return Case(name, script, "".join(line + "\n" for line in given))
 
 
-def fault_of(program, case):
+def words_of(table):
+    """The words with which the program takes the cases of a table, by its folder: replays or traces."""
+    folder, name = table.split("/")[-2:]
+    return ["replay"] if folder != "traces" else ["trace", *["--bodies", "none"] * (name == "without_bodies.txt")]
+
+
+def fault_of(program, case, words=("replay",)):
     """What is wrong with what this program makes of a case; nothing if it gives what is wanted."""
-    ran = subprocess.run([program, "replay"], input=case.script, stdout=subprocess.PIPE, stderr=subprocess.PIPE,
+    ran = subprocess.run([program, *words], input=case.script, stdout=subprocess.PIPE, stderr=subprocess.PIPE,
                          timeout=60)
     seen = ran.stdout.decode() + (f"{ran.stderr.decode().strip()}, status {ran.returncode}\n" if ran.returncode else "")
     return "" if seen == case.gives else f"gives {seen!r}, wanted {case.gives!r}"

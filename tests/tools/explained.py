@@ -1,6 +1,6 @@
-"""Checks that `serve` and `replay` say in a sentence why the program refuses with status 2, in a checkout and as an
-installed package has them, and that what they print, their signals and their status are the program's own. The program
-is LAMBDA_LOCAL_PROGRAM, else what ./lambda_local finds."""
+"""Checks that `serve`, `replay` and `trace` say in a sentence why the program refuses with status 2, in a checkout and
+as an installed package has them, and that what they print, their signals and their status are the program's own. The
+program is LAMBDA_LOCAL_PROGRAM, else what ./lambda_local finds."""
 import json
 import os
 import pty
@@ -54,11 +54,11 @@ class Explained(Case):
             with open(path) as file:
                 own = ended([PROGRAM], file)
             for launcher, words in LAUNCHERS.items():
-                for more in ([], ["replay"]):
+                for more in ([], ["replay"], ["trace"]):
                     with open(path) as file:
                         status, output, said = ended([*words, *more], file)
                     self.check(f"{launcher} {' '.join(more)}: {name}", (
-                        status, output == own[1], said[0] if said else None, len(said),
+                        status, output == (b"" if more == ["trace"] else own[1]), said[0] if said else None, len(said),
                         told in (said[-1] if said else "")), (2, True, line, 2, True))
                 piped = subprocess.run(words, input=text.encode(), capture_output=True, env=environ())
                 said = piped.stderr.decode().splitlines()

@@ -24,7 +24,7 @@ UNPACKED = "unpacked the released program of these sources, once"
 NO_PROGRAM = "there is no program of these sources"
 OTHER_LOGIC = "has another logic"
 TOOLS = ("check", "conformance", "from_template", "rerun", "timeline", "up")
-COMMANDS = ("serve", "replay", "path", "build", "stamp", *TOOLS)
+COMMANDS = ("serve", "replay", "trace", "path", "build", "stamp", *TOOLS)
 
 
 def run(root, *words, cwd=None, launcher="lambda_local", **more):
@@ -49,6 +49,9 @@ class Launcher(Case):
             self.check("path prints the program", run(root, "path"), (0, where + "\n", ""))
             self.check("replay by its name", run(root, "replay", stdin=text_of(ROOT, "examples", "first_call.txt"))[0],
                        0)
+            for words in (["trace"], ["trace", "--bodies", "none"]):
+                status, output, said = run(root, *words, stdin=text_of(ROOT, "examples", "first_call.txt"))
+                self.check(f"{' '.join(words)}: a line for each entry", (status, output.count("\n"), said), (0, 3, ""))
             link = os.path.join(root, "linked")
             os.symlink(os.path.join(root, "lambda_local"), link)
             self.check("through a link, from another folder", run(root, "path", launcher="linked", cwd="/"),
@@ -87,7 +90,8 @@ class Launcher(Case):
                 status, output, said = run(root, tool, "--help")
                 self.check(f"{tool} --help", (status, f"lambda_local {tool} " in output, said), (0, True, ""))
                 self.check("has no other name for a tool", re.findall(r"tools/\w+", output), [])
-            for words in (["nothing"], ["serve"], ["replay", "file"], ["serve", "a", "b"], ["path", "x"], ["--quick"]):
+            for words in (["nothing"], ["serve"], ["replay", "file"], ["trace", "file"], ["trace", "--bodies", "all"],
+                          ["serve", "a", "b"], ["path", "x"], ["--quick"]):
                 status, output, said = run(root, *words)
                 fine = (status == 2 and not output and said.count("\n") == 1 and "'" + " ".join(words) + "'" in said
                         and "--help" in said)

@@ -19,7 +19,7 @@ TOOLS = {
     "up": ".up",
 }
 SAME = {"help": ["--help"], **dict.fromkeys(("-V", "-v", "version"), ["--version"])}
-SHAPES: Tuple[List[str], ...] = ([], ["replay"], ["path"], ["--version"])
+SHAPES: Tuple[List[str], ...] = ([], ["replay"], ["trace"], ["trace", "--bodies", "none"], ["path"], ["--version"])
 
 
 def start(program: str, words: List[str]) -> int:

@@ -2,10 +2,11 @@
 use Rattle.std.specs.Prelude.{◌≤◌, ℕ, ◌+◌, ◌==◌, Bool, true, false, ◌||◌, ◌&&◌, nat_lt, if◌then◌else◌, fold, Option}
 use Rattle.std.specs.Prelude.{Some, None, List, All, option_map, ◌≡◌, ◌<◌, ◌⊎◌}
 use Rattle.std.specs.Option.{option_or}
-use Rattle.connection_places.specs.Looks.{environment_of, looks_of_caller, looks_of_environment, reserve_of, better}
+use Rattle.service_port.specs.Ports.{environment_of}
+use Rattle.connection_places.specs.Looks.{looks_of_caller, looks_of_environment, reserve_of, better}
 use Rattle.connection_places.specs.declared.choice.Spare.{Spare}
-use Rattle.connection_places.specs.declared.owner.PortOwner.{PortOwner}
-use Rattle.connection_places.specs.declared.owner.PortOwner.TheVariants.{Account, Environment}
+use Rattle.service_port.specs.declared.port.Port.{Port}
+use Rattle.service_port.specs.declared.port.Port.TheVariants.{Account, Environment}
 use Rattle.connection_places.specs.declared.running.Running.{Running}
 use Rattle.connection_places.specs.declared.slots.Slot.{Slot}
 
@@ -38,7 +39,7 @@ is_any (Some e) = true
 -- The environment at whose port the connection of a place is.
 abbrev pub environment_at : Option Running → Option ℕ
 environment_at None = None
-environment_at (Some running) = environment_of running.seen.owner
+environment_at (Some running) = environment_of running.seen.port
 
 -- The better of two connections to make room at the environments' ports: the one whose port holds more, of ports that
 -- hold as many the one that has been longer without a complete request, and the earlier of equal ones.
@@ -106,14 +107,14 @@ module _ {Y V : Type 0} where
   abbrev pub GivesWay : ℕ → List (Slot Y V) → Spare → Type 0
   GivesWay e slots best = (best.environment ≡ e) ⊎ (count_at e slots < best.held)
 
-  -- Whether a new connection at a port of this owner may have one of `most` places that no connection has. At an
+  -- Whether a new connection at this port may have one of `most` places that no connection has. At an
   -- environment's port, the places that are kept for the account's port are not available.
-  abbrev pub admits : ℕ → PortOwner → List (Slot Y V) → Bool
+  abbrev pub admits : ℕ → Port → List (Slot Y V) → Bool
   admits most Account slots = true
   admits most (Environment e) slots = nat_lt (count_of_environments slots + reserve_of most) most
 
-  -- The place whose connection makes room for a newcomer at a port of this owner.
-  abbrev pub place_for : ℕ → PortOwner → List (Slot Y V) → Option ℕ
+  -- The place whose connection makes room for a newcomer at this port.
+  abbrev pub place_for : ℕ → Port → List (Slot Y V) → Option ℕ
   place_for most Account slots = option_map (λ best. best.0) (best_of slots)
   place_for most (Environment e) slots =
       if admits most (Environment e) slots

@@ -4,25 +4,13 @@ use Rattle.std.specs.Prelude.{Some, None, ◌||◌, option_map}
 use Rattle.connection_state.specs.Pulses.{is_unserved, is_between, is_same, is_in_stage_of}
 use Rattle.connection_state.specs.Limits.{has_outstayed}
 use Rattle.connection_state.specs.declared.pulse.Told.{Told}
-use Rattle.connection_state.specs.declared.limits.PortKind.{PortKind}
-use Rattle.connection_state.specs.declared.limits.PortKind.TheVariants as kind
 use Rattle.connection_places.specs.declared.observation.Observation.{Observation}
-use Rattle.connection_places.specs.declared.owner.PortOwner.{PortOwner}
-use Rattle.connection_places.specs.declared.owner.PortOwner.TheVariants.{Account, Environment}
-
--- The kind of a port.
-abbrev pub kind_of : PortOwner → PortKind
-kind_of Account = kind.Account
-kind_of (Environment e) = kind.Environment
-
--- The number of the environment whose port it is.
-abbrev pub environment_of : PortOwner → Option ℕ
-environment_of Account = None
-environment_of (Environment e) = Some e
+use Rattle.service_port.specs.declared.port.Port.{Port}
+use Rattle.service_port.specs.declared.port.Port.TheVariants.{Account, Environment}
 
 -- What is seen of a connection that has just come in.
-abbrev pub first_seen : PortOwner → Told → Observation
-first_seen owner told = record { owner = owner; told = told; still = 0; whole = 0; unasked = 0 }
+abbrev pub first_seen : Port → Told → Observation
+first_seen port told = record { port = port; told = told; still = 0; whole = 0; unasked = 0 }
 
 -- A count of looks after some more looks: increased if the condition still holds, otherwise 0.
 abbrev pub counted : Bool → ℕ → ℕ → ℕ
@@ -35,7 +23,7 @@ is_unasked told before = is_unserved told.awaited && (told.answers == before.ans
 -- What is seen of a connection some looks later.
 abbrev pub seen_later : Observation → Told → ℕ → Observation
 seen_later seen told looks = record {
-  owner = seen.owner;
+  port = seen.port;
   told = told;
   still = counted (is_same told seen.told) seen.still looks;
   whole = counted (is_in_stage_of told seen.told) seen.whole looks;
@@ -44,7 +32,7 @@ seen_later seen told looks = record {
 
 -- Whether a connection has reached one of its limits.
 abbrev pub is_over : Observation → Bool
-is_over seen = has_outstayed (kind_of seen.owner) seen.told seen.still seen.whole
+is_over seen = has_outstayed seen.port seen.told seen.still seen.whole
 
 -- For how many looks a connection has been without a complete request; `None` if it may not make room for a newcomer
 -- at its own port. It may if it is between two requests, or if it was already sending one at an earlier look.
@@ -54,17 +42,17 @@ spare_looks seen =
     else None
 
 -- The same of a connection at the account's port; `None` for any other.
-abbrev pub looks_at : PortOwner → Observation → Option ℕ
+abbrev pub looks_at : Port → Observation → Option ℕ
 looks_at Account seen = spare_looks seen
 looks_at (Environment e) seen = None
 
 abbrev pub looks_of_caller : Observation → Option ℕ
-looks_of_caller seen = looks_at seen.owner seen
+looks_of_caller seen = looks_at seen.port seen
 
 -- The environment at whose port a connection came in, and for how many looks it has been without a complete request;
 -- `None` if it may not make room for a newcomer at an environment's port. At another port than the newcomer's, it may if
 -- it serves no request.
-abbrev pub offered_at : ℕ → PortOwner → Observation → Option (ℕ × ℕ)
+abbrev pub offered_at : ℕ → Port → Observation → Option (ℕ × ℕ)
 offered_at newcomer Account seen = None
 offered_at newcomer (Environment own) seen =
     if own == newcomer then option_map (λ looks. (own, looks)) (spare_looks seen)
@@ -72,7 +60,7 @@ offered_at newcomer (Environment own) seen =
     else None
 
 abbrev pub looks_of_environment : ℕ → Observation → Option (ℕ × ℕ)
-looks_of_environment newcomer seen = offered_at newcomer seen.owner seen
+looks_of_environment newcomer seen = offered_at newcomer seen.port seen
 
 -- The number of places that are kept for the account's port: one in sixteen, up to 64.
 abbrev pub reserve_of : ℕ → ℕ

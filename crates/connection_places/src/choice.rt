@@ -4,9 +4,9 @@ ghost use Rattle.std.specs.Prelude.{◌≡◌, ◌≤◌, length, IfSome, option
 ghost use Rattle.connection_places.specs.Choices as choice;
 ghost use Rattle.connection_places.specs.Looks as spec;
 
-use crate::owner::PortOwner;
 use crate::running::Running;
 use crate::slots::Slot;
+use service_port::Port;
 
 /// The place of a connection at the account's port that may make room, and for how many looks it
 /// has been without a complete request.
@@ -92,7 +92,7 @@ fn environment_at(running: &Option<Running>) -> Option<u32>
     ensures { result ≡ choice.environment_at running.now }
 {
     match running {
-        Some(running) => running.seen.owner.environment(),
+        Some(running) => running.seen.port.environment(),
         None => None,
     }
 }
@@ -201,15 +201,15 @@ fn best_of_ports<Y, V>(environment: u32, slots: &[Slot<Y, V>]) -> Option<Spare>
     best
 }
 
-/// Returns whether a newcomer at a port of this owner may have one of `most` places that no
+/// Returns whether a newcomer at this port may have one of `most` places that no
 /// connection has. At an environment's port, the places that are kept for the account's port are
 /// not available.
-pub(crate) fn admits<Y, V>(most: usize, owner: PortOwner, slots: &[Slot<Y, V>]) -> bool
-    ensures { result ≡ choice.admits most owner slots.now }
+pub(crate) fn admits<Y, V>(most: usize, port: Port, slots: &[Slot<Y, V>]) -> bool
+    ensures { result ≡ choice.admits most port slots.now }
 {
-    match owner {
-        PortOwner::Account => true,
-        PortOwner::Environment(_) => {
+    match port {
+        Port::Account => true,
+        Port::Environment(_) => {
             count_of_environments(slots).saturating_add(reserve_of(most)) < most
         }
     }
@@ -225,20 +225,20 @@ fn place_of_ports<Y, V>(environment: u32, slots: &[Slot<Y, V>]) -> Option<usize>
     }
 }
 
-/// Returns the place whose connection makes room for a newcomer at a port of this owner, if one of
+/// Returns the place whose connection makes room for a newcomer at this port, if one of
 /// `most` places cannot be had otherwise: at the account's port, and as long as environments have not
 /// used up their share, that of the connection at the account's port that has been longest without a
 /// complete request; otherwise that of one at the environment's port that holds most.
-pub(crate) fn place_for<Y, V>(most: usize, owner: PortOwner, slots: &[Slot<Y, V>]) -> Option<usize>
-    ensures { result ≡ choice.place_for most owner slots.now }
+pub(crate) fn place_for<Y, V>(most: usize, port: Port, slots: &[Slot<Y, V>]) -> Option<usize>
+    ensures { result ≡ choice.place_for most port slots.now }
 {
-    if admits(most, owner, slots)
+    if admits(most, port, slots)
         && let Some((at, _)) = best_of(slots)
     {
         return Some(at);
     }
-    match owner {
-        PortOwner::Account => None,
-        PortOwner::Environment(environment) => place_of_ports(environment, slots),
+    match port {
+        Port::Account => None,
+        Port::Environment(environment) => place_of_ports(environment, slots),
     }
 }

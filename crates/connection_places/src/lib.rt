@@ -5,13 +5,11 @@
 mod choice;
 mod mailbox;
 mod observation;
-mod owner;
 mod post;
 mod running;
 mod slots;
 
 pub use mailbox::Mailbox;
-pub use owner::PortOwner;
-pub use post::{Post, Worker};
+pub use post::{Post, WorkerThread};
 pub use running::Running;
 pub use slots::{Slots, StillShared};

@@ -3,13 +3,13 @@
 ghost use Rattle.std.specs.Prelude.{◌≡◌};
 ghost use Rattle.connection_places.specs.Looks as spec;
 
-use crate::owner::PortOwner;
 use connection_state::{Told, has_outstayed};
+use service_port::Port;
 
 /// What was seen of a connection at the last look, and for how many looks it has been so.
 #[derive(Clone, Copy, Drop)]
 pub(crate) struct Observation {
-    pub(crate) owner: PortOwner,
+    pub(crate) port: Port,
     told: Told,
     // Looks without a byte.
     still: u32,
@@ -20,12 +20,12 @@ pub(crate) struct Observation {
 }
 
 impl Observation {
-    /// Returns what is seen of a connection that has just come in at a port of this owner.
-    pub(crate) fn first(owner: PortOwner, told: Told) -> Observation
-        ensures { result ≡ spec.first_seen owner told }
+    /// Returns what is seen of a connection that has just come in at this port.
+    pub(crate) fn first(port: Port, told: Told) -> Observation
+        ensures { result ≡ spec.first_seen port told }
     {
         Observation {
-            owner,
+            port,
             told,
             still: 0,
             whole: 0,
@@ -40,7 +40,7 @@ impl Observation {
     {
         let is_unasked = told.is_unserved() && told.answers == self.told.answers;
         Observation {
-            owner: self.owner,
+            port: self.port,
             told,
             still: counted(told.is_same(self.told), self.still, looks),
             whole: counted(told.is_in_stage_of(self.told), self.whole, looks),
@@ -52,7 +52,7 @@ impl Observation {
     pub(crate) fn has_outstayed(self) -> bool
         ensures { result ≡ spec.is_over self }
     {
-        has_outstayed(self.owner.kind(), self.told, self.still, self.whole)
+        has_outstayed(self.port, self.told, self.still, self.whole)
     }
 
     /// Returns for how many looks the connection has been without a complete request; `None` if it
@@ -73,9 +73,9 @@ impl Observation {
     pub(crate) fn looks_of_caller(self) -> Option<u32>
         ensures { result ≡ spec.looks_of_caller self }
     {
-        match self.owner {
-            PortOwner::Account => self.spare_looks(),
-            PortOwner::Environment(_) => None,
+        match self.port {
+            Port::Account => self.spare_looks(),
+            Port::Environment(_) => None,
         }
     }
 
@@ -86,14 +86,14 @@ impl Observation {
     pub(crate) fn looks_of_environment(self, newcomer: u32) -> Option<(u32, u32)>
         ensures { result ≡ spec.looks_of_environment newcomer self }
     {
-        match self.owner {
-            PortOwner::Account => None,
-            PortOwner::Environment(own) if own == newcomer => match self.spare_looks() {
+        match self.port {
+            Port::Account => None,
+            Port::Environment(own) if own == newcomer => match self.spare_looks() {
                 Some(looks) => Some((own, looks)),
                 None => None,
             },
-            PortOwner::Environment(own) if self.told.is_unserved() => Some((own, self.unasked)),
-            PortOwner::Environment(_) => None,
+            Port::Environment(own) if self.told.is_unserved() => Some((own, self.unasked)),
+            Port::Environment(_) => None,
         }
     }
 }

@@ -57,17 +57,17 @@ impl<Y, V: Drop> Post<Y, V> {
 
 /// The thread of a place, and its mailbox.
 #[derive(Drop)]
-pub struct Worker<V> {
+pub struct WorkerThread<V> {
     /// The handle of the thread.
     pub thread: JoinHandle<()>,
     /// The mailbox into which its next connection is put.
     pub mailbox: Arc<Mailbox<V>>,
 }
 
-impl<V: Drop> Worker<V> {
+impl<V: Drop> WorkerThread<V> {
     /// Joins the thread.
     pub(crate) fn join(self, rt: &impl Threads) {
-        let Worker { thread, .. } = self;
+        let WorkerThread { thread, .. } = self;
         thread.join(rt);
     }
 }

@@ -1,8 +1,8 @@
 //! What is known of an open connection outside its thread.
 
 use crate::observation::Observation;
-use crate::owner::PortOwner;
 use connection_state::{Ender, Pulse, Signal};
+use service_port::Port;
 use std::sync::Arc;
 
 /// The sender of a connection's signals, and what is seen of the connection.
@@ -18,13 +18,13 @@ pub struct Running {
 }
 
 impl Running {
-    /// Describes a connection that has just begun at a port of this owner.
-    pub fn new(ender: Ender, pulse: Arc<Pulse>, owner: PortOwner) -> Running {
+    /// Describes a connection that has just begun at this port.
+    pub fn new(ender: Ender, pulse: Arc<Pulse>, port: Port) -> Running {
         Running {
             ender: Some(ender),
             has_sent_soft: false,
             has_sent_room: false,
-            seen: Observation::first(owner, pulse.told()),
+            seen: Observation::first(port, pulse.told()),
             pulse,
         }
     }

@@ -5,9 +5,9 @@ ghost use Rattle.connection_places.specs.Places.{Places};
 
 use crate::choice::{admits, place_for, reserve_of};
 use crate::mailbox::Mailbox;
-use crate::owner::PortOwner;
-use crate::post::{End, Ended, Post, Worker};
+use crate::post::{End, Ended, Post, WorkerThread};
 use crate::running::Running;
+use service_port::Port;
 use std::alloc::{AllocError, Global};
 use std::marker::Model;
 use std::sync::{Arc, Mutex, Wait};
@@ -19,7 +19,7 @@ use std::thread::Threads;
 #[derive(Drop)]
 pub(crate) struct Slot<Y, V> {
     tally: Arc<Mutex<Y>>,
-    worker: Option<Worker<V>>,
+    worker: Option<WorkerThread<V>>,
     pub(crate) running: Option<Running>,
 }
 
@@ -182,7 +182,7 @@ impl<Y: Drop, V: Drop> Slots<Y, V> {
 
     /// Gives a place to a thread. If there is no place of this number, the thread is dropped, and
     /// nothing changes.
-    pub fn employ(&mut self, at: usize, worker: Worker<V>)
+    pub fn employ(&mut self, at: usize, worker: WorkerThread<V>)
         ensures { self.new ≡ self.old }
     {
         if let Some(slot) = self.slots.get_mut(at) {
@@ -309,10 +309,10 @@ impl<Y: Drop, V: Drop> Slots<Y, V> {
         }
     }
 
-    /// Returns whether a newcomer at a port of this owner may have a place that no connection has:
+    /// Returns whether a newcomer at this port may have a place that no connection has:
     /// one in sixteen, up to 64, are kept for the account's port.
-    pub fn admits(&self, owner: PortOwner) -> bool {
-        admits(self.most, owner, self.slots.as_slice())
+    pub fn admits(&self, port: Port) -> bool {
+        admits(self.most, port, self.slots.as_slice())
     }
 
     /// Looks at each connection, without counting this as a look.
@@ -326,21 +326,21 @@ impl<Y: Drop, V: Drop> Slots<Y, V> {
         }
     }
 
-    /// If no place is left for a newcomer at a port of this owner, and some are kept for the
+    /// If no place is left for a newcomer at this port, and some are kept for the
     /// account's port, asks one connection to make room. Returns whether there is one. It ends if it
     /// serves no request when it is asked; its place is free once it has ended.
     ///
     /// At the account's port, and as long as environments have not used up their share, it is the
     /// one at the account's port that has been longest without a complete request. For a newcomer at
     /// an environment's port it is otherwise the longest of the environment's port that holds most.
-    pub fn ask_for_room(&mut self, owner: PortOwner) -> bool
+    pub fn ask_for_room(&mut self, port: Port) -> bool
         ensures { self.new ≡ self.old }
     {
-        if reserve_of(self.most) == 0 || (self.has_room() && self.admits(owner)) {
+        if reserve_of(self.most) == 0 || (self.has_room() && self.admits(port)) {
             return false;
         }
         self.look_again();
-        let Some(at) = place_for(self.most, owner, self.slots.as_slice()) else {
+        let Some(at) = place_for(self.most, port, self.slots.as_slice()) else {
             return false;
         };
         if let Some(slot) = self.slots.get_mut(at)

@@ -3,24 +3,24 @@ use Rattle.std.specs.Prelude.{ℕ, ◌+◌, ◌*◌, ◌/◌, Bool, false, ◌||
 use Rattle.connection_state.specs.declared.pulse.Awaited.{Awaited}
 use Rattle.connection_state.specs.declared.pulse.Awaited.TheVariants.{Answer, First, Head, Body, Taking, Next, End}
 use Rattle.connection_state.specs.declared.pulse.Told.{Told}
-use Rattle.connection_state.specs.declared.limits.PortKind.{PortKind}
-use Rattle.connection_state.specs.declared.limits.PortKind.TheVariants.{Account, Environment}
+use Rattle.service_port.specs.declared.port.Port.{Port}
+use Rattle.service_port.specs.declared.port.Port.TheVariants.{Account, Environment}
 
 -- How many seconds a connection may be idle between two requests. At an environment's port this is far above the 900
 -- that a handler may take, since its runtime keeps the connection of its Next open meanwhile.
-abbrev pub idle_limit : PortKind → ℕ
+abbrev pub idle_limit : Port → ℕ
 idle_limit Account = 300
-idle_limit Environment = 3600
+idle_limit (Environment e) = 3600
 
 -- How many seconds a connection may go without a byte; `None` if there is no limit.
-abbrev pub still_limit : PortKind → Awaited → Option ℕ
-still_limit kind Answer = None
-still_limit kind First = Some 20
-still_limit kind Head = Some 20
-still_limit kind Body = Some 20
-still_limit kind Taking = None
-still_limit kind Next = Some (idle_limit kind)
-still_limit kind End = Some 2
+abbrev pub still_limit : Port → Awaited → Option ℕ
+still_limit port Answer = None
+still_limit port First = Some 20
+still_limit port Head = Some 20
+still_limit port Body = Some 20
+still_limit port Taking = None
+still_limit port Next = Some (idle_limit port)
+still_limit port End = Some 2
 
 -- How many seconds a stage may take in all, whatever arrives meanwhile; `None` if there is no limit. `moved` is the
 -- number of bytes of the stage: after its first 20 seconds, a body has to arrive at 64 KiB a minute or more.
@@ -43,6 +43,6 @@ is_reached seconds (Some limit) = nat_le limit seconds
 is_reached seconds None = false
 
 -- Whether a connection has reached a limit, after `still` seconds without a byte and `whole` seconds in its stage.
-abbrev pub has_outstayed : PortKind → Told → ℕ → ℕ → Bool
-has_outstayed kind told still whole = is_reached still (still_limit kind told.awaited)
+abbrev pub has_outstayed : Port → Told → ℕ → ℕ → Bool
+has_outstayed port told still whole = is_reached still (still_limit port told.awaited)
     || is_reached whole (whole_limit told)

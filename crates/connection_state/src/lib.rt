@@ -6,6 +6,6 @@ mod limits;
 mod pulse;
 mod signals;
 
-pub use limits::{PortKind, has_outstayed};
+pub use limits::has_outstayed;
 pub use pulse::{Awaited, Pulse, Told};
 pub use signals::{Ender, Signal, Signals};

@@ -4,39 +4,29 @@ ghost use Rattle.std.specs.Prelude.{◌≡◌};
 ghost use Rattle.connection_state.specs.Limits as spec;
 
 use crate::pulse::{Awaited, Told};
+use service_port::Port;
 
-/// The kind of port at which a connection came in.
-#[derive(Clone, Copy, Drop)]
-pub enum PortKind {
-    /// The account's, for callers.
-    Account,
-    /// An environment's, for its runtime and its extensions.
-    Environment,
-}
-
-impl PortKind {
-    /// Returns how many seconds a connection may stay without a byte between two requests. A
-    /// handler may run for 900 seconds, during which its runtime keeps the connection of its Next
-    /// open. An hour is far above that, and a forgotten connection still gives its place back.
-    fn idle_limit(self) -> u64
-        ensures { result ≡ spec.idle_limit self }
-    {
-        match self {
-            PortKind::Account => 300,
-            PortKind::Environment => 3_600,
-        }
+/// Returns how many seconds a connection may stay without a byte between two requests. A handler
+/// may run for 900 seconds, during which its runtime keeps the connection of its Next open. An hour
+/// is far above that, and a forgotten connection still gives its place back.
+fn idle_limit(port: Port) -> u64
+    ensures { result ≡ spec.idle_limit port }
+{
+    match port {
+        Port::Account => 300,
+        Port::Environment(_) => 3_600,
     }
 }
 
 /// Returns how many seconds a connection that waits for this may stay without a byte; `None` if
 /// there is no limit.
-fn still_limit_of(kind: PortKind, awaited: Awaited) -> Option<u64>
-    ensures { result ≡ spec.still_limit kind awaited }
+fn still_limit_of(port: Port, awaited: Awaited) -> Option<u64>
+    ensures { result ≡ spec.still_limit port awaited }
 {
     match awaited {
         Awaited::Answer | Awaited::Taking => None,
         Awaited::First | Awaited::Head | Awaited::Body => Some(20),
-        Awaited::Next => Some(kind.idle_limit()),
+        Awaited::Next => Some(idle_limit(port)),
         Awaited::End => Some(2),
     }
 }
@@ -64,11 +54,11 @@ fn is_reached(seconds: u32, limit: Option<u64>) -> bool
     }
 }
 
-/// Returns whether a connection at a port of this kind has reached one of its limits, given that it
+/// Returns whether a connection at a port has reached one of its limits, given that it
 /// published this state, has since been without a byte for `still` seconds, and has been in the
 /// same stage of its exchange for `whole` seconds.
-pub fn has_outstayed(kind: PortKind, told: Told, still: u32, whole: u32) -> bool
-    ensures { result ≡ spec.has_outstayed kind told still whole }
+pub fn has_outstayed(port: Port, told: Told, still: u32, whole: u32) -> bool
+    ensures { result ≡ spec.has_outstayed port told still whole }
 {
-    is_reached(still, still_limit_of(kind, told.awaited)) || is_reached(whole, whole_limit_of(told))
+    is_reached(still, still_limit_of(port, told.awaited)) || is_reached(whole, whole_limit_of(told))
 }

@@ -36,6 +36,9 @@ opens config e low high = rw (sym (owner_is_function config e low high).2) refl
 pub few_events : (config : Config) (h : List Entry) (e : ℕ) → IsLegal config h → (stand config h e).events ≤ 24 * length h
 few_events config h e l = (little config h e l).events
 
+pub few_registered : (config : Config) (h : List Entry) (e : ℕ) → IsLegal config h → (stand config h e).registrations ≤ length h
+few_registered config h e l = (little config h e l).registrations
+
 pub ten_members : (config : Config) (h : List Entry) (e : ℕ) → IsLegal config h → length (stand config h e).members ≤ 10
 ten_members config h e l = (little config h e l).ten
 

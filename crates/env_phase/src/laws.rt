@@ -47,4 +47,8 @@ pub fn meets()
     // Each entry adds at most 24 events to the number that an environment has told.
     ensures events { (config : Config) (h : List Entry) (e : ℕ) → IsLegal config h
         → (stand config h e).events ≤ 24 * length h }
+    // and at most one registration: in a history of fewer than 2^32 entries both numbers leave the room for more that
+    // `Environment::take` asks for.
+    ensures registered { (config : Config) (h : List Entry) (e : ℕ) → IsLegal config h
+        → (stand config h e).registrations ≤ length h }
 {}

@@ -12,12 +12,13 @@ use crate::park::Park;
 use crate::turns::Turns;
 use crate::wire::{Holder, Wire};
 use bytes::Bytes;
-use connection_state::{PortKind, Pulse, Signals};
+use connection_state::{Pulse, Signals};
 use http::{Request, Response};
 use http_body::Body;
 use hyper::body::Incoming;
 use hyper::server::conn::http1::Builder;
 use hyper::service::Service;
+use service_port::Port;
 use socket_loop::{Accepted, Interrupted, SocketLoop, Unused};
 use std::alloc::{AllocError, AllocGlobal};
 use std::hash::RandomState;
@@ -87,7 +88,7 @@ impl EventLoop {
         }
     }
 
-    /// Serves the requests of a connection at a port of this kind, one after the other, until the
+    /// Serves the requests of a connection at this port, one after the other, until the
     /// connection ends, a signal ends it, or its peer ends while a request is parked. It blocks its
     /// thread. Returns the socket, and the connection's outcome if it ended by itself. However it
     /// ended, what was written to the socket is what the service gave.
@@ -95,7 +96,7 @@ impl EventLoop {
         &mut self,
         rt: &R,
         ends: Ends,
-        kind: PortKind,
+        port: Port,
         service: V,
         signals: Signals,
         open: O,
@@ -123,7 +124,7 @@ impl EventLoop {
             wire: noting,
             pace: Pace {
                 rt: *rt,
-                is_kept: matches!(kind, PortKind::Environment),
+                is_kept: matches!(port, Port::Environment(_)),
             },
         };
         let conn = self.http.serve_connection(wire, service);

@@ -30,14 +30,14 @@ use Rattle.long_poll.specs.declared.history_body.HistoryBody.{HistoryBody}
 use Rattle.long_poll.specs.declared.outcome.Outcome.{Outcome}
 use Rattle.long_poll.specs.declared.service.Service as Service
 use Rattle.request_guard.specs.Guarding.{refusal_of}
-use Rattle.request_guard.specs.declared.refusal.Api.{Api}
+use Rattle.service_port.specs.declared.port.Port.{Port}
 use Rattle.request_guard.specs.declared.refusal.Refusal.{Refusal}
 use Rattle.request_guard.specs.declared.refusal.Refusal.TheVariants.{OutOfMemory}
 use Rattle.usage_ledger.specs.declared.keep.Keep as Keep
 
 module _ {R S D N K L B P E : Type 0} {service : Service.Ghosts S K L} {decider : Decide.Ghosts D}
     {keep : Keep.Ghosts K} (clock : Clock.Ghosts N) (yields : B → Runs (Result (Frame P) E))
-    (has : P → List ℕ → Type 0) (port : Front R S D N K L service decider keep) (head : Parts) (body : B)
+    (has : P → List ℕ → Type 0) (front : Front R S D N K L service decider keep) (head : Parts) (body : B)
     (response : Response (Either (Full (List ℕ)) (HistoryBody R S K L))) where
   abbrev Ex : Type 0
   Ex = Exchange R S D N B K L service decider keep
@@ -45,34 +45,34 @@ module _ {R S D N K L B P E : Type 0} {service : Service.Ghosts S K L} {decider 
   abbrev Boxed : Type 0
   Boxed = Box Ex Global
 
-  abbrev Answers : Api × Bool → Type 0
+  abbrev Answers : Port × Bool → Type 0
   Answers how =
-      (made : Result (Outcome (HistoryBody R S K L) L) ExchangeFault) × ComesTo clock yields has port head made
+      (made : Result (Outcome (HistoryBody R S K L) L) ExchangeFault) × ComesTo clock yields has front head made
       × IsAnswerTo how.0 how.1 made response
 
   -- of an exchange that is the request's
-  of_exchange : (how : Api × Bool) (exchange : Ex) (made : Result (Outcome (HistoryBody R S K L) L) ExchangeFault)
-      → IsExchangeOf port head body exchange → Gives clock yields has exchange made → IsAnswerTo how.0 how.1 made response
+  of_exchange : (how : Port × Bool) (exchange : Ex) (made : Result (Outcome (HistoryBody R S K L) L) ExchangeFault)
+      → IsExchangeOf front head body exchange → Gives clock yields has exchange made → IsAnswerTo how.0 how.1 made response
       → Answers how
   of_exchange how exchange made is gives answer =
-      let there : GivesFrom (arc_value port.connection) clock yields has
-      (ShowsFrom (arc_value (arc_value port.connection).service)) exchange.stage made
+      let there : GivesFrom (arc_value front.connection) clock yields has
+      (ShowsFrom (arc_value (arc_value front.connection).service)) exchange.stage made
       = subst (λ (c : Connection R S D N K L service decider keep).
       GivesFrom c clock yields has (ShowsFrom (arc_value c.service)) exchange.stage made) is.0 gives in (
         made,
         (
           body,
-          subst (λ (stage : Stage B L). GivesFrom (arc_value port.connection) clock yields has
-              (ShowsFrom (arc_value (arc_value port.connection).service)) stage made) is.1 there,
+          subst (λ (stage : Stage B L). GivesFrom (arc_value front.connection) clock yields has
+              (ShowsFrom (arc_value (arc_value front.connection).service)) stage made) is.1 there,
         ),
         answer,
       )
 
   -- of what the front took up and its future gave
-  pub answer_of : (guard : Option Refusal) (how given_how : Api × Bool) (refusal : Option Refusal) (exchange : Option Boxed)
+  pub answer_of : (guard : Option Refusal) (how given_how : Port × Bool) (refusal : Option Refusal) (exchange : Option Boxed)
       → given_how ≡ how
       → MatchOption guard
-      (MatchOption exchange (refusal ≡ Some OutOfMemory) (λ e. (refusal ≡ None) × IsExchangeOf port head body e.value))
+      (MatchOption exchange (refusal ≡ Some OutOfMemory) (λ e. (refusal ≡ None) × IsExchangeOf front head body e.value))
       (λ r. (refusal ≡ Some r) × (exchange ≡ None))
       → MatchOption refusal
       (IsSomeAnd exchange (λ e. (made : Result (Outcome (HistoryBody R S K L) L) ExchangeFault)
@@ -80,13 +80,13 @@ module _ {R S D N K L B P E : Type 0} {service : Service.Ghosts S K L} {decider 
       (λ r. IsRefusal given_how.0 given_how.1 r response)
       → MatchOption guard (IsRefusal how.0 how.1 OutOfMemory response ⊎ Answers how) (λ r. IsRefusal how.0 how.1 r response)
   answer_of (Some r) how given_how refusal exchange same took gave =
-      subst (λ (a : Api × Bool). IsRefusal a.0 a.1 r response) same
+      subst (λ (a : Port × Bool). IsRefusal a.0 a.1 r response) same
       (subst (λ (o : Option Refusal). MatchOption o
       (IsSomeAnd exchange (λ e. (made : Result (Outcome (HistoryBody R S K L) L) ExchangeFault)
       × Gives clock yields has e.value made × IsAnswerTo given_how.0 given_how.1 made response))
       (λ r. IsRefusal given_how.0 given_how.1 r response)) took.0 gave)
   answer_of None how given_how refusal None same took gave =
-      inl (subst (λ (a : Api × Bool). IsRefusal a.0 a.1 OutOfMemory response) same
+      inl (subst (λ (a : Port × Bool). IsRefusal a.0 a.1 OutOfMemory response) same
       (subst (λ (o : Option Refusal). MatchOption o ⊥ (λ r. IsRefusal given_how.0 given_how.1 r response)) took gave))
   answer_of None how given_how refusal (Some exchange) same took gave =
       let given = subst (λ (o : Option Refusal). MatchOption o
@@ -98,21 +98,21 @@ module _ {R S D N K L B P E : Type 0} {service : Service.Ghosts S K L} {decider 
 -- The responses that a front's futures give.
 module _ {R S D N K L B P E : Type 0} {service : Service.Ghosts S K L} {decider : Decide.Ghosts D}
     {keep : Keep.Ghosts K} (clock : Clock.Ghosts N) (yields : B → Runs (Result (Frame P) E)) (has : P → List ℕ → Type 0)
-    (X : Type 0) (port : Front R S D N K L service decider keep) where
+    (X : Type 0) (front : Front R S D N K L service decider keep) where
   abbrev Given : Responding R S D N B K L service decider keep
       → Result (Response (Either (Full (List ℕ)) (HistoryBody R S K L))) X → Type 0
   Given future answer = IfOk answer (λ response. MatchOption future.refusal
       (IsSomeAnd future.exchange (λ exchange. (made : Result (Outcome (HistoryBody R S K L) L) ExchangeFault)
-      × Gives clock yields has exchange.value made × IsAnswerTo future.api future.is_unread made response))
-      (λ refusal. IsRefusal future.api future.is_unread refusal response))
+      × Gives clock yields has exchange.value made × IsAnswerTo future.port future.is_unread made response))
+      (λ refusal. IsRefusal future.port future.is_unread refusal response))
 
   pub answers : (head : Parts) (response : Response (Either (Full (List ℕ)) (HistoryBody R S K L)))
       → Gave (λ (front : Front R S D N K L service decider keep) (request : Request B) (future : Responding R S D N B K L service decider keep).
-      Takes front (head_of request) (body_of request) future) Given port head response
-      → IsAnswer clock yields has port head response
+      Takes front (head_of request) (body_of request) future) Given front head response
+      → IsAnswer clock yields has front head response
   answers head response x =
-      subst (λ (h : Parts). IsAnswer clock yields has port h response) x.head_is
-      (answer_of clock yields has port (head_of x.request) (body_of x.request) response
-      (refusal_of (arc_value port.hosts) (head_of x.request))
-      (port.api, declares_too_long (head_of x.request)) (x.future.api, x.future.is_unread) x.future.refusal
+      subst (λ (h : Parts). IsAnswer clock yields has front h response) x.head_is
+      (answer_of clock yields has front (head_of x.request) (body_of x.request) response
+      (refusal_of (arc_value front.hosts) (head_of x.request))
+      (front.port, declares_too_long (head_of x.request)) (x.future.port, x.future.is_unread) x.future.refusal
       x.future.exchange (λ i. (x.called.0 i, x.called.1 i)) x.called.2 x.given)

@@ -1,4 +1,4 @@
 mod PortLemmas
 mod Answering
 mod Fronts
-mod AtDoors
+mod AtPorts

@@ -1,4 +1,4 @@
--- The answer to a request at a door of the service: at a port, in a configuration, with the salt of its identifiers.
+-- The answer to a request at a port of the service: at a port, in a configuration, with the salt of its identifiers.
 -- `most` is the limit of the account, the greatest number of entries of its history.
 use Rattle.std.specs.Prelude.{◌≡◌, ◌⊎◌, ℕ, List, [], Option, Result, MatchOption}
 use Rattle.account_book.specs.Reached.{IsReached}
@@ -15,7 +15,6 @@ use Rattle.http.specs.declared.response.Response.{Response}
 use Rattle.http_body.specs.declared.frame.Frame.{Frame}
 use Rattle.http_body_util.specs.declared.either.Either.{Either}
 use Rattle.http_body_util.specs.declared.full.Full.{Full}
-use Rattle.http_front.specs.Ports.{api_of}
 use Rattle.http_front.specs.Responses.{IsResponseTo, IsRefusal}
 use Rattle.http_routes.specs.Decisions.{Served, decision}
 use Rattle.lambda_wire.specs.declared.reply.Reply.{Reply}
@@ -40,27 +39,27 @@ module _ (config : Config) (most salt : ℕ) where
       IsReached config most h × (reply ≡ reservation_reply (reservation config h f))
 
 -- In what follows, `shows` says which bodies show the account's history from which ticket on.
-module _ {H : Type 0} (L : Type 0) (shows : Option ℕ → H → Type 0) (door : Served) (most : ℕ) where
+module _ {H : Type 0} (L : Type 0) (shows : Option ℕ → H → Type 0) (served : Served) (most : ℕ) where
   -- The outcome of a decision: a reply, or the history if that is to be shown.
   abbrev pub IsOutcomeOf : Decision → Outcome H L → Type 0
-  IsOutcomeOf made (outcome.Reply reply token) = IsReplyTo door.config most door.salt made reply token
+  IsOutcomeOf made (outcome.Reply reply token) = IsReplyTo served.config most served.salt made reply token
   IsOutcomeOf made (outcome.History body) =
       (from : Option ℕ) × (made ≡ decided.Show (shown.History from)) × shows from body
 
   -- Of the bodies of requests: which frames each yields, and which bytes the data of a frame has.
   module _ {B P E : Type 0} (yields : B → Runs (Result (Frame P) E)) (has : P → List ℕ → Type 0)
       (hosts : List ℕ) (head : Parts) where
-    -- The response is that to the decision, at the door, on a request with this head and the body that came.
+    -- The response is that to the decision, at the port, on a request with this head and the body that came.
     abbrev pub IsDecided : Response (Either (Full (List ℕ)) H) → Type 0
     IsDecided response =
         (came : B) × (given : Outcome H L)
-        × IsOfBody has (yields came) head [] (λ body. IsOutcomeOf (decision door head body) given)
+        × IsOfBody has (yields came) head [] (λ body. IsOutcomeOf (decision served head body) given)
         × IsResponseTo (declares_too_long head) given response
 
-    -- The response to a request with this head at the door. If the head is refused, it is that of the refusal.
+    -- The response to a request with this head at the port. If the head is refused, it is that of the refusal.
     -- Otherwise it is that of a body that failed, of an allocation that failed, or of the decision.
     abbrev pub IsAnswerAt : Response (Either (Full (List ℕ)) H) → Type 0
     IsAnswerAt response = MatchOption (refusal_of hosts head)
-        (IsRefusal (api_of door.port) (declares_too_long head) BrokenBody response
-        ⊎ (IsRefusal (api_of door.port) (declares_too_long head) OutOfMemory response ⊎ IsDecided response))
-        (λ refusal. IsRefusal (api_of door.port) (declares_too_long head) refusal response)
+        (IsRefusal served.port (declares_too_long head) BrokenBody response
+        ⊎ (IsRefusal served.port (declares_too_long head) OutOfMemory response ⊎ IsDecided response))
+        (λ refusal. IsRefusal served.port (declares_too_long head) refusal response)

@@ -14,13 +14,13 @@ use Rattle.request_guard.specs.declared.refusal.Refusal.TheVariants.{OutOfMemory
 use Rattle.usage_ledger.specs.declared.keep.Keep as Keep
 
 module _ {R S D N B K L : Type 0} {service : Service.Ghosts S K L} {decider : Decide.Ghosts D}
-    {keep : Keep.Ghosts K} (port : Front R S D N K L service decider keep) (head : Parts) (body : B) where
+    {keep : Keep.Ghosts K} (front : Front R S D N K L service decider keep) (head : Parts) (body : B) where
   -- The exchange is that of this request, on the port's connection.
   abbrev pub IsExchangeOf : Exchange R S D N B K L service decider keep → Type 0
   IsExchangeOf exchange =
-      (arc_value exchange.connection ≡ arc_value port.connection)
+      (arc_value exchange.connection ≡ arc_value front.connection)
       × (exchange.stage ≡ Collecting head
-      (record { alloc = (arc_value port.connection).alloc; body = body; held = [] })
+      (record { alloc = (arc_value front.connection).alloc; body = body; held = [] })
       (declares_too_long head))
 
   -- What becomes of a request. If its head is refused, it has that refusal and no exchange, so it never becomes a call.
@@ -29,8 +29,8 @@ module _ {R S D N B K L : Type 0} {service : Service.Ghosts S K L} {decider : De
   -- connection's last.
   abbrev pub Takes : Responding R S D N B K L service decider keep → Type 0
   Takes future =
-      (future.api ≡ port.api) × (future.is_unread ≡ declares_too_long head)
-      × MatchOption (refusal_of (arc_value port.hosts) head)
+      (future.port ≡ front.port) × (future.is_unread ≡ declares_too_long head)
+      × MatchOption (refusal_of (arc_value front.hosts) head)
       (MatchOption future.exchange (future.refusal ≡ Some OutOfMemory)
       (λ exchange. (future.refusal ≡ None) × IsExchangeOf exchange.value))
       (λ refusal. (future.refusal ≡ Some refusal) × (future.exchange ≡ None))

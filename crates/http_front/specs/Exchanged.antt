@@ -25,18 +25,18 @@ use Rattle.usage_ledger.specs.declared.keep.Keep as Keep
 -- Of the bodies of requests: which frames each yields, and which bytes the data of a frame has.
 module _ {R S D N K L B P E : Type 0} {service : Service.Ghosts S K L} {decider : Decide.Ghosts D}
     {keep : Keep.Ghosts K} (clock : Clock.Ghosts N) (yields : B → Runs (Result (Frame P) E))
-    (has : P → List ℕ → Type 0) (port : Front R S D N K L service decider keep) (head : Parts) where
+    (has : P → List ℕ → Type 0) (front : Front R S D N K L service decider keep) (head : Parts) where
   -- What an exchange of a request with this head, and some body, may come to on the port's connection.
   abbrev pub ComesTo : Result (Outcome (HistoryBody R S K L) L) ExchangeFault → Type 0
   ComesTo made =
-      (came : B) × Exchanges (arc_value port.connection) clock
-      (ShowsFrom (arc_value (arc_value port.connection).service)) has (yields came) head [] made
+      (came : B) × Exchanges (arc_value front.connection) clock
+      (ShowsFrom (arc_value (arc_value front.connection).service)) has (yields came) head [] made
 
   -- The response to a request with this head. If the head is refused, it is that of the refusal. Otherwise it is that
   -- of its exchange, or of an allocation that failed.
   abbrev pub IsAnswer : Response (Either (Full (List ℕ)) (HistoryBody R S K L)) → Type 0
-  IsAnswer response = MatchOption (refusal_of (arc_value port.hosts) head)
-      (IsRefusal port.api (declares_too_long head) OutOfMemory response
+  IsAnswer response = MatchOption (refusal_of (arc_value front.hosts) head)
+      (IsRefusal front.port (declares_too_long head) OutOfMemory response
       ⊎ ((made : Result (Outcome (HistoryBody R S K L) L) ExchangeFault) × ComesTo made
-      × IsAnswerTo port.api (declares_too_long head) made response))
-      (λ refusal. IsRefusal port.api (declares_too_long head) refusal response)
+      × IsAnswerTo front.port (declares_too_long head) made response))
+      (λ refusal. IsRefusal front.port (declares_too_long head) refusal response)

@@ -1,11 +1,11 @@
 pub mod Responses
 pub mod Courses
-pub mod Hosts
+pub mod HostFaults
 pub mod Ports
-pub mod Doors
+pub mod ServedPorts
 pub mod Notices
 pub mod Exchanged
 pub mod Answered
-pub mod Attended
+pub mod Connections
 pub mod Withdrawn
 pub mod Beats

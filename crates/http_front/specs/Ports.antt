@@ -4,24 +4,8 @@ use Rattle.arn_ids.specs.Environments.{owners}
 use Rattle.arn_ids.specs.Limits.{most_extensions}
 use Rattle.arn_ids.specs.declared.config.Config.{Config}
 use Rattle.arn_ids.specs.declared.config.Slot.{Slot}
-use Rattle.http_routes.specs.declared.side.Port.{Port}
-use Rattle.http_routes.specs.declared.side.Port.TheVariants.{Account, Environment}
-use Rattle.request_guard.specs.declared.refusal.Api.{Api}
-use Rattle.request_guard.specs.declared.refusal.Api.TheVariants.{Lambda, Runtime}
-use Rattle.connection_state.specs.declared.limits.PortKind.{PortKind}
-use Rattle.connection_state.specs.declared.limits.PortKind.TheVariants as limits
-use Rattle.connection_places.specs.declared.owner.PortOwner.{PortOwner}
-use Rattle.connection_places.specs.declared.owner.PortOwner.TheVariants as owner
-
--- The kind of a port, which sets the limits of its connections.
-abbrev pub kind_of : Port → PortKind
-kind_of Account = limits.Account
-kind_of (Environment e) = limits.Environment
-
--- Whose port it is, for the place of a connection.
-abbrev pub owner_of : Port → PortOwner
-owner_of Account = owner.Account
-owner_of (Environment e) = owner.Environment e
+use Rattle.service_port.specs.declared.port.Port.TheVariants.{Account, Environment}
+use Rattle.service_port.specs.declared.port.Port.{Port}
 
 -- The greatest number of connections at once: one for each poll of all environments, each with its runtime and the
 -- most extensions, and 64 for callers; at least 1,024. (A configuration has up to 256 environments.)
@@ -40,8 +24,3 @@ environment_ports config = flat_map (λ function. ports_of function.slots) confi
 abbrev pub number_of : Config → Port → ℕ
 number_of config Account = config.invoke_port
 number_of config (Environment e) = get_or (environment_ports config) (e - 1) 0
-
--- The API of a port, in whose form it refuses.
-abbrev pub api_of : Port → Api
-api_of Account = Lambda
-api_of (Environment e) = Runtime

@@ -17,7 +17,7 @@ use Rattle.long_poll.specs.declared.fault.ExchangeFault.TheVariants as fault
 use Rattle.long_poll.specs.declared.outcome.Outcome.{Outcome}
 use Rattle.long_poll.specs.declared.outcome.Outcome.TheVariants.{Reply, History}
 use Rattle.request_guard.specs.Refusals.{closes, refusal_reply}
-use Rattle.request_guard.specs.declared.refusal.Api.{Api}
+use Rattle.service_port.specs.declared.port.Port.{Port}
 use Rattle.request_guard.specs.declared.refusal.Refusal.{Refusal}
 use Rattle.request_guard.specs.declared.refusal.Refusal.TheVariants.{BrokenBody, OutOfMemory}
 
@@ -57,15 +57,15 @@ IsResponseTo is_last (History body) response =
 
 -- A response is that of a refusal, in the form of its port's API. It is the connection's last if the body is left
 -- unread, or if the refusal itself ends the connection.
-abbrev pub IsRefusal : {H : Type 0} → Api → Bool → Refusal → Response (Either (Full (List ℕ)) H) → Type 0
-IsRefusal api is_unread refusal response =
-    IsResponseOf (is_unread || closes refusal) (refusal_reply api refusal) response
+abbrev pub IsRefusal : {H : Type 0} → Port → Bool → Refusal → Response (Either (Full (List ℕ)) H) → Type 0
+IsRefusal at is_unread refusal response =
+    IsResponseOf (is_unread || closes refusal) (refusal_reply at refusal) response
 
 -- A response is that of an exchange's result, whose body was left unread or not: 400 for a body that failed, 500 if an
 -- allocation failed. There is none for a lost bell.
-abbrev pub IsAnswerTo : {H L : Type 0} → Api → Bool → Result (Outcome H L) ExchangeFault
+abbrev pub IsAnswerTo : {H L : Type 0} → Port → Bool → Result (Outcome H L) ExchangeFault
     → Response (Either (Full (List ℕ)) H) → Type 0
-IsAnswerTo api is_unread (Ok outcome) response = IsResponseTo is_unread outcome response
-IsAnswerTo api is_unread (Err fault.BodyFailed) response = IsRefusal api is_unread BrokenBody response
-IsAnswerTo api is_unread (Err fault.OutOfMemory) response = IsRefusal api is_unread OutOfMemory response
-IsAnswerTo api is_unread (Err fault.BellLost) response = ⊥
+IsAnswerTo at is_unread (Ok outcome) response = IsResponseTo is_unread outcome response
+IsAnswerTo at is_unread (Err fault.BodyFailed) response = IsRefusal at is_unread BrokenBody response
+IsAnswerTo at is_unread (Err fault.OutOfMemory) response = IsRefusal at is_unread OutOfMemory response
+IsAnswerTo at is_unread (Err fault.BellLost) response = ⊥

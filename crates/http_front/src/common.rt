@@ -3,25 +3,24 @@
 ghost use Rattle.std.specs.Prelude.{◌≡◌, IfOk};
 ghost use Rattle.std.specs.Arc.{arc_value};
 
-use crate::Alarm;
-use crate::beat::Beat;
 use account_lock::{Account, Identity};
 use lambda_wire::HeaderMaps;
-use long_poll::OneShotBell;
-use request_guard::Hosts;
+use long_poll::{Alarm, Beat, Line, OneShotBell};
+use request_guard::KnownHosts;
 use std::alloc::{AllocError, Global};
 use std::sync::Arc;
 
 /// What the threads of a host have in common: the account that is served, the clock, the hosts that
 /// are listed in addition to the local ones, the maps of the headers that most replies have, and what
-/// they and the ticker tell each other.
+/// they and the ticker tell each other; and the line of the callers whose Invokes are held back.
 #[derive(Drop)]
 pub(crate) struct Common<S: Identity, N> {
     pub(crate) account: Arc<Account<S, OneShotBell>>,
     pub(crate) clock: Arc<N>,
-    pub(crate) hosts: Arc<Hosts>,
+    pub(crate) hosts: Arc<KnownHosts>,
     pub(crate) maps: Arc<HeaderMaps>,
     pub(crate) beat: Arc<Beat>,
+    pub(crate) line: Arc<Line>,
 }
 
 /// Shares a value. It fails only if an allocation fails; the value is then dropped.
@@ -41,7 +40,7 @@ impl<S: Identity + Drop, N: Drop> Common<S, N> {
         alloc: Global,
         account: Account<S, OneShotBell>,
         clock: N,
-        hosts: Hosts,
+        hosts: KnownHosts,
     ) -> Result<Common<S, N>, AllocError>
         ensures { IfOk result (λ common. (arc_value common.account ≡ account) × (arc_value common.hosts ≡ hosts)) }
     {
@@ -50,12 +49,14 @@ impl<S: Identity + Drop, N: Drop> Common<S, N> {
         let hosts = shared(alloc, hosts)?;
         let maps = shared(alloc, HeaderMaps::open(alloc)?)?;
         let beat = shared(alloc, Beat::new(shared(alloc, Alarm::new())?))?;
+        let line = shared(alloc, Line::new(alloc))?;
         Ok(Common {
             account,
             clock,
             hosts,
             maps,
             beat,
+            line,
         })
     }
 
@@ -69,12 +70,14 @@ impl<S: Identity + Drop, N: Drop> Common<S, N> {
         let hosts = Arc::try_clone(&self.hosts)?;
         let maps = Arc::try_clone(&self.maps)?;
         let beat = Arc::try_clone(&self.beat)?;
+        let line = Arc::try_clone(&self.line)?;
         Ok(Common {
             account,
             clock,
             hosts,
             maps,
             beat,
+            line,
         })
     }
 }

@@ -5,7 +5,7 @@ ghost use Rattle.http_front.specs.Courses.{IsExchangeOf, Takes};
 ghost use Rattle.long_poll.specs.Lengths as lengths;
 
 use crate::responding::Responding;
-use crate::{ResponseFault, Rousing};
+use crate::{Port, ResponseFault, Rousing};
 use bytes::Bytes;
 use decisions::Decide;
 use http::request::Parts;
@@ -15,7 +15,7 @@ use http_body_util::{Either, Full};
 use hyper::body::Incoming;
 use hyper::service;
 use long_poll::{Clock, Connection, Exchange, HistoryBody, Service, declares_too_long};
-use request_guard::{Api, Hosts, Refusal};
+use request_guard::{KnownHosts, Refusal};
 use std::alloc::Global;
 use std::sync::{Arc, Wait};
 use std::time;
@@ -26,37 +26,37 @@ use usage_ledger::{Keep, Ledgers};
 /// account's (Lambda API: Invoke, PutFunctionConcurrency, GetFunctionConcurrency; and this
 /// service's own routes).
 #[derive(Drop)]
-pub struct Front<R, S: Service<K, L>, D: Decide, N, K: Keep, L: Ledgers> {
+pub struct Front<R, A: Service<K, L>, D: Decide, N, K: Keep, L: Ledgers> {
     alloc: Global,
-    api: Api,
-    hosts: Arc<Hosts>,
+    port: Port,
+    hosts: Arc<KnownHosts>,
     rousing: Rousing<R, N>,
-    pub(crate) connection: Arc<Connection<R, S, D, N, K, L>>,
+    pub(crate) connection: Arc<Connection<R, A, D, N, K, L>>,
 }
 
 impl<
     R: Wait + time::Clock + Copy + Drop,
-    S: Service<K, L>,
+    A: Service<K, L>,
     D: Decide + Drop,
     N: Clock + Drop,
     K: Keep,
     L: Ledgers,
-> Front<R, S, D, N, K, L> {
+> Front<R, A, D, N, K, L> {
     /// Makes the port for a connection, which speaks this API and answers for these hosts in
     /// addition to the local ones. It allocates nothing.
     pub fn new(
         alloc: Global,
-        api: Api,
-        hosts: Arc<Hosts>,
+        port: Port,
+        hosts: Arc<KnownHosts>,
         rousing: Rousing<R, N>,
-        connection: Arc<Connection<R, S, D, N, K, L>>,
-    ) -> Front<R, S, D, N, K, L>
+        connection: Arc<Connection<R, A, D, N, K, L>>,
+    ) -> Front<R, A, D, N, K, L>
         ensures connection { result.connection ≡ connection }
-        ensures guarded { (result.api ≡ api) × (result.hosts ≡ hosts) }
+        ensures guarded { (result.port ≡ port) × (result.hosts ≡ hosts) }
     {
         Front {
             alloc,
-            api,
+            port,
             hosts,
             rousing,
             connection,
@@ -71,7 +71,7 @@ impl<
         parts: Parts,
         body: B,
         is_too_long: bool,
-    ) -> Option<Box<Exchange<R, S, D, N, B, K, L>>>
+    ) -> Option<Box<Exchange<R, A, D, N, B, K, L>>>
     where
         B::Data: Into<Bytes>,
         requires { is_too_long ≡ lengths.declares_too_long parts }
@@ -90,7 +90,7 @@ impl<
     /// Returns the response to a request with this head and body. If the head is refused, there is
     /// no exchange, so the request never becomes a call. If the head declares a body that is too
     /// long, the body is left unread.
-    fn respond<B: Body>(&self, parts: Parts, body: B) -> Responding<R, S, D, N, B, K, L>
+    fn respond<B: Body>(&self, parts: Parts, body: B) -> Responding<R, A, D, N, B, K, L>
     where
         B::Data: Into<Bytes>,
         ensures takes { Takes self.now parts body result }
@@ -99,36 +99,36 @@ impl<
         self.rousing.prepare(parts.uri.path());
         let is_unread = declares_too_long(&parts);
         if let Some(refusal) = self.hosts.refusal(&parts) {
-            return Responding::refused(self.alloc, self.api, is_unread, refusal);
+            return Responding::refused(self.alloc, self.port, is_unread, refusal);
         }
         match self.exchange(parts, body, is_unread) {
-            Some(exchange) => Responding::exchanging(self.alloc, self.api, is_unread, exchange),
-            None => Responding::refused(self.alloc, self.api, is_unread, Refusal::OutOfMemory),
+            Some(exchange) => Responding::exchanging(self.alloc, self.port, is_unread, exchange),
+            None => Responding::refused(self.alloc, self.port, is_unread, Refusal::OutOfMemory),
         }
     }
 }
 
 impl<
     R: Wait + time::Clock + Copy + Drop,
-    S: Service<K, L>,
+    A: Service<K, L>,
     D: Decide + Drop,
     N: Clock + Drop,
     I: Drop,
     K: Keep,
     L: Ledgers,
-> service::Service<Request<Incoming<I>>> for Front<R, S, D, N, K, L> {
-    type Response = Response<Either<Full<Bytes>, HistoryBody<R, S, K, L>>>;
+> service::Service<Request<Incoming<I>>> for Front<R, A, D, N, K, L> {
+    type Response = Response<Either<Full<Bytes>, HistoryBody<R, A, K, L>>>;
 
     type Error = ResponseFault;
 
-    type Future = Responding<R, S, D, N, Incoming<I>, K, L>;
+    type Future = Responding<R, A, D, N, Incoming<I>, K, L>;
 
     ghost use Rattle.http.specs.Request.{head_of, body_of};
     ghost use Rattle.http_front.specs.Courses.{Takes};
 
     ghost calls = { λ port request future. Takes port (head_of request) (body_of request) future };
 
-    fn call(&self, request: Request<Incoming<I>>) -> Responding<R, S, D, N, Incoming<I>, K, L> {
+    fn call(&self, request: Request<Incoming<I>>) -> Responding<R, A, D, N, Incoming<I>, K, L> {
         let (parts, body) = request.into_parts();
         self.respond(parts, body)
     }

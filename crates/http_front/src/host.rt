@@ -4,12 +4,12 @@ ghost use Rattle.std.specs.Prelude.{◌≡◌, ◌⊎◌, ◌+◌, ◌^◌, ◌�
 ghost use Rattle.std.specs.Arc.{arc_value};
 ghost use Rattle.arn_ids.specs.Environments.{owners};
 ghost use Rattle.arn_ids.specs.declared.faults.ConfigFault.TheVariants.{EntriesOutOfRange};
-ghost use Rattle.http_front.specs.Doors.{doors, doors_of};
-ghost use Rattle.http_front.specs.Hosts.{IsOfMachine};
+ghost use Rattle.http_front.specs.ServedPorts.{all_served, all_served_of};
+ghost use Rattle.http_front.specs.HostFaults.{IsOfMachine};
 ghost use Rattle.http_front.specs.declared.host_fault.HostFault.TheVariants.{Config};
 
-use crate::entrance::Entrance;
-use crate::reception::Reception;
+use crate::acceptor::Acceptor;
+use crate::ports::Ports;
 use crate::ticker::Ticker;
 use crate::{Alarm, HostFault, Notices, Plan};
 use account_lock::{Account, Identity};
@@ -17,7 +17,7 @@ use arn_ids::Checked;
 use http_connection::{EventLoop, Machine};
 use long_poll::{Clock, OneShotBell};
 use mio::Poll;
-use request_guard::Hosts;
+use request_guard::KnownHosts;
 use std::alloc::AllocError;
 use std::sync::Arc;
 use usage_ledger::{Blanks, Keep, Tally};
@@ -36,11 +36,11 @@ fn has_room_for_one<R: Machine>(rt: &R) -> bool {
 /// milliseconds, and `K` is what each tally keeps.
 #[derive(Drop)]
 pub struct Host<R, S: Identity, N, K: Keep> {
-    reception: Reception<R, S, N, K>,
+    acceptor: Acceptor<R, S, N, K>,
     ticker: Ticker<R, S, N, K>,
-    entrance: Entrance<S>,
+    ports: Ports<S>,
     notices: Arc<Notices>,
-    ghost listens: { doors entrance.gates.items ≡ doors_of S.config S.salt },
+    ghost listens: { all_served ports.listeners.items ≡ all_served_of S.config S.salt },
 }
 
 /// What a host leaves: its account, and all the tallies in which its calls count.
@@ -60,8 +60,8 @@ impl<
 > Host<R, S, N, K> {
     /// Opens the account of a plan and listens on every port. It takes up to `most` connections at
     /// once; one place in sixteen, up to 64, is kept for the account's port. If there is no place,
-    /// and some are kept, a newcomer takes that of the connection at the account's port that has
-    /// been longest without a complete request; any other newcomer is closed. If an Invoke would be
+    /// and some are kept, a new connection takes that of the connection at the account's port that has
+    /// been longest without a complete request; any other new connection is closed. If an Invoke would be
     /// throttled while an environment that could serve it has answered and is about to ask for the
     /// next invocation, it is held back for up to `patience` milliseconds, in which that
     /// environment may become ready again. A request that names a host which is neither local nor
@@ -75,7 +75,7 @@ impl<
         rt: R,
         plan: Plan,
         clock: N,
-        hosts: Hosts,
+        hosts: KnownHosts,
         most: u32,
         patience: u32,
         blanks: Blanks,
@@ -110,7 +110,7 @@ impl<
         rt: R,
         opened: (Account<S, OneShotBell>, Tally<K, S>),
         clock: N,
-        hosts: Hosts,
+        hosts: KnownHosts,
         config: &Arc<Checked>,
         salt: u64,
         notices: Notices,
@@ -122,8 +122,8 @@ impl<
         requires parts { 2 ≤ opened.1.held.parts }
         ensures { IfErr result IsOfMachine }
     {
-        match Entrance::open(&rt, rt.alloc(), config, salt) {
-            Ok(entrance) => Host::of(rt, opened, clock, hosts, entrance, notices, most, patience),
+        match Ports::open(&rt, rt.alloc(), config, salt) {
+            Ok(ports) => Host::of(rt, opened, clock, hosts, ports, notices, most, patience),
             Err(fault) => Err(fault),
         }
     }
@@ -133,31 +133,31 @@ impl<
         rt: R,
         opened: (Account<S, OneShotBell>, Tally<K, S>),
         clock: N,
-        hosts: Hosts,
-        entrance: Entrance<S>,
+        hosts: KnownHosts,
+        ports: Ports<S>,
         notices: Notices,
         most: u32,
         patience: u32,
     ) -> Result<Host<R, S, N, K>, HostFault>
         requires parts { 2 ≤ opened.1.held.parts }
-        requires listens { doors entrance.gates.items ≡ doors_of S.config S.salt }
+        requires listens { all_served ports.listeners.items ≡ all_served_of S.config S.salt }
         ensures { IfErr result IsOfMachine }
     {
-        let Ok(mut reception) = Reception::open(rt, opened, clock, hosts, most, patience) else {
+        let Ok(mut acceptor) = Acceptor::open(rt, opened, clock, hosts, most, patience) else {
             return Err(HostFault::OutOfMemory);
         };
         let notices = Arc::new(rt.alloc(), notices).map_err(AllocError::from)?;
-        let waker = Arc::try_clone(&entrance.waker)?;
-        let Ok(ticker) = reception.ticker(Arc::try_clone(&notices)?, waker) else {
+        let waker = Arc::try_clone(&ports.waker)?;
+        let Ok(ticker) = acceptor.ticker(Arc::try_clone(&notices)?, waker) else {
             return Err(HostFault::OutOfMemory);
         };
         if !has_room_for_one(&rt) {
             return Err(HostFault::TooFewDescriptors);
         }
         Ok(Host {
-            reception,
+            acceptor,
             ticker,
-            entrance,
+            ports,
             notices,
         })
     }
@@ -183,21 +183,21 @@ impl<
     /// `StillShared`. The account and the tallies are then dropped.
     pub fn run(self) -> Result<Hosted<S, K>, HostFault> {
         let Host {
-            mut reception,
+            mut acceptor,
             ticker,
-            mut entrance,
+            mut ports,
             ..
         } = self;
         let rt = ticker.rt;
         let Ok(ticker) = ticker.start() else {
             return Err(HostFault::OutOfMemory);
         };
-        let served = reception.serve(&mut entrance);
-        drop(entrance);
-        reception.finish();
+        let served = acceptor.serve(&mut ports);
+        drop(ports);
+        acceptor.finish();
         let ticked = ticker.join(&rt);
         match served {
-            Ok(()) => reception.into_hosted(ticked),
+            Ok(()) => acceptor.into_hosted(ticked),
             Err(fault) => Err(fault),
         }
     }

@@ -1,6 +1,6 @@
 //! Why a host did not open, or did not come to its end.
 
-ghost use Rattle.http_front.specs.Hosts.{IsOfMachine};
+ghost use Rattle.http_front.specs.HostFaults.{IsOfMachine};
 
 use account_book::OpenFault;
 use arn_ids::ConfigFault;
@@ -42,7 +42,7 @@ impl From<AllocError> for HostFault {
 
 impl From<OpenFault> for HostFault {
     ghost use Rattle.std.specs.Prelude.{◌≡◌};
-    ghost use Rattle.http_front.specs.Hosts.{fault_of_opening};
+    ghost use Rattle.http_front.specs.HostFaults.{fault_of_opening};
 
     ghost from_gives = { λ fault made. made ≡ fault_of_opening fault };
 

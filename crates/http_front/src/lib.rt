@@ -5,36 +5,35 @@
 //! does not see through.
 #![tactic(auto)]
 
+mod acceptor;
 mod admission;
-mod alarm;
-mod attendant;
-mod beat;
 mod common;
-mod door;
-mod entrance;
+mod deciders;
 mod front;
-mod gate;
 mod host;
 mod host_fault;
+mod listener;
 mod notices;
 mod plan;
-mod reception;
+mod ports;
 mod responding;
 mod response;
 mod response_fault;
 mod rousing;
-mod sides;
+mod served_port;
 mod ticker;
+mod worker;
 
-pub use alarm::Alarm;
 pub use front::Front;
 pub use host::{Host, Hosted};
 pub use host_fault::HostFault;
 pub use http_connection::Machine;
-pub use http_routes::{Decision, Port, Shown, Side, laws};
+pub use http_routes::{Decision, Shown, Side, laws};
+pub use long_poll::Alarm;
 pub use notices::{Notices, Room};
 pub use plan::Plan;
-pub use request_guard::{Api, Hosts, Refusal};
+pub use request_guard::{KnownHosts, Refusal};
 pub use responding::Responding;
 pub use response_fault::ResponseFault;
 pub use rousing::Rousing;
+pub use service_port::Port;

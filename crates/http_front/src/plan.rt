@@ -3,7 +3,7 @@
 ghost use Rattle.std.specs.Prelude.{◌≡◌, MatchResult, None};
 ghost use Rattle.std.specs.Arc.{arc_value};
 ghost use Rattle.arn_ids.specs.Faults.{first_fault};
-ghost use Rattle.http_front.specs.Hosts.{IsFaultOf};
+ghost use Rattle.http_front.specs.HostFaults.{IsFaultOf};
 ghost use Rattle.http_front.specs.Ports.{places_for};
 
 use crate::HostFault;

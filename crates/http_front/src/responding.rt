@@ -3,8 +3,8 @@
 ghost use Rattle.std.specs.Prelude.{◌≡◌, IfOk, Some, None};
 ghost use Rattle.http_front.specs.Responses.{IsAnswerTo, IsRefusal};
 
-use crate::ResponseFault;
 use crate::response::{reply_response, response_to};
+use crate::{Port, ResponseFault};
 use bytes::Bytes;
 use decisions::Decide;
 use futures::Future;
@@ -14,7 +14,7 @@ use http_body::Body;
 use http_body_util::{Either, Full};
 use lambda_wire::HeaderMaps;
 use long_poll::{Clock, Exchange, ExchangeFault, HistoryBody, Outcome, Service};
-use request_guard::{Api, Refusal, refusal_reply};
+use request_guard::{Refusal, refusal_reply};
 use std::alloc::Global;
 use std::sync::Wait;
 use std::time;
@@ -22,32 +22,32 @@ use usage_ledger::{Keep, Ledgers};
 
 /// The response to one request: a refusal, or what its exchange comes to.
 #[derive(Drop)]
-pub struct Responding<R, S: Service<K, L>, D: Decide, N, B, K: Keep, L: Ledgers> {
+pub struct Responding<R, A: Service<K, L>, D: Decide, N, B, K: Keep, L: Ledgers> {
     alloc: Global,
     // The API that its port speaks.
-    api: Api,
+    port: Port,
     // Whether the request's body is left unread, so that the connection ends.
     is_unread: bool,
     // `None` if the request is refused.
-    exchange: Option<Box<Exchange<R, S, D, N, B, K, L>>>,
+    exchange: Option<Box<Exchange<R, A, D, N, B, K, L>>>,
     // Why the request never becomes a call.
     refusal: Option<Refusal>,
 }
 
-impl<R, S: Service<K, L>, D: Decide, N, B, K: Keep, L: Ledgers> Responding<R, S, D, N, B, K, L> {
+impl<R, A: Service<K, L>, D: Decide, N, B, K: Keep, L: Ledgers> Responding<R, A, D, N, B, K, L> {
     /// Returns the response to a request that never becomes a call.
     pub(crate) fn refused(
         alloc: Global,
-        api: Api,
+        port: Port,
         is_unread: bool,
         refusal: Refusal,
-    ) -> Responding<R, S, D, N, B, K, L>
-        ensures at { (result.api ≡ api) × (result.is_unread ≡ is_unread) }
+    ) -> Responding<R, A, D, N, B, K, L>
+        ensures at { (result.port ≡ port) × (result.is_unread ≡ is_unread) }
         ensures refused { (result.refusal ≡ Some refusal) × (result.exchange ≡ None) }
     {
         Responding {
             alloc,
-            api,
+            port,
             is_unread,
             exchange: None,
             refusal: Some(refusal),
@@ -57,16 +57,16 @@ impl<R, S: Service<K, L>, D: Decide, N, B, K: Keep, L: Ledgers> Responding<R, S,
     /// Returns the response of an exchange.
     pub(crate) fn exchanging(
         alloc: Global,
-        api: Api,
+        port: Port,
         is_unread: bool,
-        exchange: Box<Exchange<R, S, D, N, B, K, L>>,
-    ) -> Responding<R, S, D, N, B, K, L>
-        ensures at { (result.api ≡ api) × (result.is_unread ≡ is_unread) }
+        exchange: Box<Exchange<R, A, D, N, B, K, L>>,
+    ) -> Responding<R, A, D, N, B, K, L>
+        ensures at { (result.port ≡ port) × (result.is_unread ≡ is_unread) }
         ensures exchanging { (result.refusal ≡ None) × (result.exchange ≡ Some exchange) }
     {
         Responding {
             alloc,
-            api,
+            port,
             is_unread,
             exchange: Some(exchange),
             refusal: None,
@@ -76,35 +76,35 @@ impl<R, S: Service<K, L>, D: Decide, N, B, K: Keep, L: Ledgers> Responding<R, S,
 
 impl<
     R: Wait + time::Clock + Copy + Drop,
-    S: Service<K, L>,
+    A: Service<K, L>,
     D: Decide + Drop,
     N: Clock + Drop,
     B: Body,
     K: Keep,
     L: Ledgers,
-> Future for Responding<R, S, D, N, B, K, L>
+> Future for Responding<R, A, D, N, B, K, L>
 where
     B::Data: Into<Bytes>,
 {
     ghost use Rattle.std.specs.Prelude.{IfOk, IfSome, IsSomeAnd, MatchOption};
     ghost use Rattle.http_front.specs.Responses.{IsAnswerTo, IsRefusal};
 
-    type Output = Result<Response<Either<Full<Bytes>, HistoryBody<R, S, K, L>>>, ResponseFault>;
+    type Output = Result<Response<Either<Full<Bytes>, HistoryBody<R, A, K, L>>>, ResponseFault>;
 
-    ghost can_poll = { λ r. IfSome r.exchange (λ e. ⟦<Exchange<R, S, D, N, B, K, L> as Future>⟧.can_poll e.value) };
+    ghost can_poll = { λ r. IfSome r.exchange (λ e. ⟦<Exchange<R, A, D, N, B, K, L> as Future>⟧.can_poll e.value) };
 
     ghost needs = { λ r source. IsSomeAnd r.exchange (λ e.
-        ⟦<Exchange<R, S, D, N, B, K, L> as Future>⟧.needs e.value source) };
+        ⟦<Exchange<R, A, D, N, B, K, L> as Future>⟧.needs e.value source) };
 
     ghost gives = { λ r answer. IfOk answer (λ response. MatchOption r.refusal
         (IsSomeAnd r.exchange (λ exchange. (made : _)
-        × ⟦<Exchange<R, S, D, N, B, K, L> as Future>⟧.gives exchange.value made
-        × IsAnswerTo r.api r.is_unread made response))
-        (λ refusal. IsRefusal r.api r.is_unread refusal response)) };
+        × ⟦<Exchange<R, A, D, N, B, K, L> as Future>⟧.gives exchange.value made
+        × IsAnswerTo r.port r.is_unread made response))
+        (λ refusal. IsRefusal r.port r.is_unread refusal response)) };
 
     fn poll(&mut self, cx: &mut Context<'_>) -> Poll<Self::Output> {
         if let Some(refusal) = self.refusal {
-            return Poll::Ready(refused(self.alloc, self.api, self.is_unread, refusal));
+            return Poll::Ready(refused(self.alloc, self.port, self.is_unread, refusal));
         }
         let Some(exchange) = &mut self.exchange else {
             return Poll::Ready(Err(ResponseFault::OutOfMemory));
@@ -114,7 +114,7 @@ where
             Poll::Ready(made) => Poll::Ready(answer_to(
                 self.alloc,
                 exchange.maps(),
-                self.api,
+                self.port,
                 self.is_unread,
                 made,
             )),
@@ -126,14 +126,14 @@ where
 #[inline(never)]
 fn refused<H: Drop>(
     alloc: Global,
-    api: Api,
+    port: Port,
     is_unread: bool,
     refusal: Refusal,
 ) -> Result<Response<Either<Full<Bytes>, H>>, ResponseFault>
-    ensures { IfOk result (IsRefusal api is_unread refusal) }
+    ensures { IfOk result (IsRefusal port is_unread refusal) }
 {
     let is_last = is_unread || refusal.closes();
-    reply_response(alloc, None, is_last, refusal_reply(alloc, api, refusal)?)
+    reply_response(alloc, None, is_last, refusal_reply(alloc, port, refusal)?)
 }
 
 /// Makes the response to an exchange's result. If its body or an allocation failed, the allocations
@@ -142,16 +142,16 @@ fn refused<H: Drop>(
 fn answer_to<H: Drop, L: Ledgers>(
     alloc: Global,
     maps: &HeaderMaps,
-    api: Api,
+    port: Port,
     is_unread: bool,
     made: Result<Outcome<H, L>, ExchangeFault>,
 ) -> Result<Response<Either<Full<Bytes>, H>>, ResponseFault>
-    ensures { IfOk result (IsAnswerTo api is_unread made) }
+    ensures { IfOk result (IsAnswerTo port is_unread made) }
 {
     match made {
         Ok(outcome) => response_to(alloc, maps, is_unread, outcome),
-        Err(ExchangeFault::BodyFailed) => refused(alloc, api, is_unread, Refusal::BrokenBody),
-        Err(ExchangeFault::OutOfMemory) => refused(alloc, api, is_unread, Refusal::OutOfMemory),
+        Err(ExchangeFault::BodyFailed) => refused(alloc, port, is_unread, Refusal::BrokenBody),
+        Err(ExchangeFault::OutOfMemory) => refused(alloc, port, is_unread, Refusal::OutOfMemory),
         Err(ExchangeFault::BellLost) => Err(ResponseFault::Exchange(ExchangeFault::BellLost)),
     }
 }

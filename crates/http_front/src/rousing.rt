@@ -1,7 +1,6 @@
 //! What a request does for a ticker that rests.
 
-use crate::beat::Beat;
-use long_poll::Clock;
+use long_poll::{Beat, Clock};
 use std::sync::{Arc, Wait};
 
 /// The greatest lag behind the time of day, in milliseconds, at which the clock is not set forward.

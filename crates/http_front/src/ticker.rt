@@ -3,7 +3,6 @@
 ghost use Rattle.std.specs.Prelude.{◌≡◌};
 ghost use Rattle.http_front.specs.Beats.{has_ended, refused_after, HasTickedAtMostOnce};
 
-use crate::beat::Beat;
 use crate::common::Common;
 use crate::rousing::MOST_LAG;
 use crate::{Alarm, Notices};
@@ -12,7 +11,7 @@ use account_lock::{Account, Identity};
 use arn_ids::GREATEST_MOMENT;
 use call_model::Call;
 use http_connection::Machine;
-use long_poll::{Clock, OneShotBell, moment};
+use long_poll::{Beat, Clock, OneShotBell, moment};
 use mio::Waker;
 use std::alloc::AllocError;
 use std::sync::{Arc, Wait};
@@ -184,13 +183,13 @@ pub(crate) struct Ticker<R, S: Identity, N, K: Keep> {
     pub(crate) rt: R,
     pub(crate) common: Common<S, N>,
     pub(crate) notices: Arc<Notices>,
-    // Ends the wait for newcomers.
+    // Ends the wait for new connections.
     pub(crate) waker: Arc<Waker>,
     pub(crate) tally: Tally<K, S>,
 }
 
 impl<R: Machine, S: Identity + Drop, N: Clock + Drop, K: Keep> Ticker<R, S, N, K> {
-    /// Ticks until the service is over, and then ends the wait for newcomers.
+    /// Ticks until the service is over, and then ends the wait for new connections.
     fn run(self) -> Tally<K, S> {
         let Ticker {
             rt,
@@ -207,7 +206,7 @@ impl<R: Machine, S: Identity + Drop, N: Clock + Drop, K: Keep> Ticker<R, S, N, K
             tally,
             &common.beat,
         );
-        // (If the descriptor fails, the next newcomer or the next round ends the wait.)
+        // (If the descriptor fails, the next new connection or the next round ends the wait.)
         let _ = waker.wake();
         tally
     }

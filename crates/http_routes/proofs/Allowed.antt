@@ -38,8 +38,8 @@ use Rattle.http_routes.specs.declared.routes.EnvironmentRoute.{EnvironmentRoute}
 use Rattle.http_routes.specs.declared.routes.EnvironmentRoute.TheVariants as environment
 use Rattle.http_routes.specs.declared.routes.AccountRoute.{AccountRoute}
 use Rattle.http_routes.specs.declared.routes.AccountRoute.TheVariants as account
-use Rattle.http_routes.specs.declared.side.Port.{Port}
-use Rattle.http_routes.specs.declared.side.Port.TheVariants as port
+use Rattle.service_port.specs.declared.port.Port.{Port}
+use Rattle.service_port.specs.declared.port.Port.TheVariants as port
 use Rattle.http_routes.proofs.Within.{Gives, Reads, environment_within, IsTarget, invoked_within, reserved_within, request_within, extension_within, that_passes, trace_within, short, payload_within, reservation_within}
 
 -- refusals need nothing

@@ -27,8 +27,8 @@ use Rattle.http_routes.specs.declared.routes.EnvironmentRoute.{EnvironmentRoute}
 use Rattle.http_routes.specs.declared.routes.EnvironmentRoute.TheVariants as environment
 use Rattle.http_routes.specs.declared.routes.AccountRoute.{AccountRoute}
 use Rattle.http_routes.specs.declared.routes.AccountRoute.TheVariants as account
-use Rattle.http_routes.specs.declared.side.Port.{Port}
-use Rattle.http_routes.specs.declared.side.Port.TheVariants as port
+use Rattle.service_port.specs.declared.port.Port.{Port}
+use Rattle.service_port.specs.declared.port.Port.TheVariants as port
 
 long : (body : List ℕ) → longest_body < length body → nat_lt longest_body (length body) ≡ true
 long body h = grind (arith, nat_tests)

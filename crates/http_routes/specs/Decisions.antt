@@ -6,8 +6,8 @@ use Rattle.call_types.specs.Within.{IsEnv}
 use Rattle.decisions.specs.declared.decide.Decision.{Decision}
 use Rattle.http_routes.specs.EnvironmentDecisions.{environment_decision}
 use Rattle.http_routes.specs.AccountDecisions.{account_decision}
-use Rattle.http_routes.specs.declared.side.Port.{Port}
-use Rattle.http_routes.specs.declared.side.Port.TheVariants.{Account, Environment}
+use Rattle.service_port.specs.declared.port.Port.{Port}
+use Rattle.service_port.specs.declared.port.Port.TheVariants.{Account, Environment}
 
 -- A port of the service: its configuration, its salt for identifiers, and whose port it is.
 pub record Served : Type 0 where

@@ -19,6 +19,8 @@ use Rattle.http_routes.specs.Routes.{environment_rows, route_in, is_environment_
 use Rattle.http_routes.specs.Heads.{has_header, extension_name, asks_for_account}
 use Rattle.http_routes.specs.Identifiers.{request_of, extension_of}
 use Rattle.http_routes.specs.Refusals.{refused, wrong_method}
+use Rattle.http_routes.specs.declared.environment_port.Report.{Report}
+use Rattle.http_routes.specs.declared.environment_port.Report.TheVariants.{InitError, ExitError}
 use Rattle.http_routes.specs.declared.refusals.Cause.TheVariants as cause
 use Rattle.http_routes.specs.declared.routes.EnvironmentRoute.{EnvironmentRoute}
 use Rattle.http_routes.specs.declared.routes.EnvironmentRoute.TheVariants.{Next, Response, Failure, InitFailure}
@@ -62,6 +64,11 @@ abbrev pub ext_next : ℕ → List ℕ → Option ℕ → Decision
 ext_next e body None = refused cause.UnknownExtension
 ext_next e body (Some x) = submitted body (call.ExtNext e x)
 
+-- The call of an extension's report.
+abbrev pub reported : Report → ℕ → ℕ → List ℕ → Call
+reported InitError e x body = call.ExtInitFailure e x body
+reported ExitError e x body = call.ExtExitFailure e x body
+
 -- Init error and Exit error. The header with the type of the error must be present, whatever its value.
 abbrev pub ext_report : Bool → List ℕ → (ℕ → Call) → Option ℕ → Decision
 ext_report has_type body made None = refused cause.UnknownExtension
@@ -80,9 +87,9 @@ on_environment_route config salt e p body InitFailure = submitted body (call.Ini
 on_environment_route config salt e p body Register = register e (asks_for_account p) body (extension_name p)
 on_environment_route config salt e p body ExtNext = ext_next e body (extension_of salt e p)
 on_environment_route config salt e p body ExtInitFailure =
-    ext_report (has_error_type p) body (λ x. call.ExtInitFailure e x body) (extension_of salt e p)
+    ext_report (has_error_type p) body (λ x. reported InitError e x body) (extension_of salt e p)
 on_environment_route config salt e p body ExtExitFailure =
-    ext_report (has_error_type p) body (λ x. call.ExtExitFailure e x body) (extension_of salt e p)
+    ext_report (has_error_type p) body (λ x. reported ExitError e x body) (extension_of salt e p)
 
 -- The decision on a route.
 abbrev pub at_environment : Config → ℕ → ℕ → Parts → List ℕ → Option EnvironmentRoute → Decision

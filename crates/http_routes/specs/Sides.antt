@@ -1,8 +1,8 @@
 -- The routes that a side keeps are those of its port.
 use Rattle.std.specs.Prelude.{◌≡◌}
 use Rattle.http_routes.specs.Routes.{environment_rows, account_rows}
-use Rattle.http_routes.specs.declared.side.Port.{Port}
-use Rattle.http_routes.specs.declared.side.Port.TheVariants as port
+use Rattle.service_port.specs.declared.port.Port.{Port}
+use Rattle.service_port.specs.declared.port.Port.TheVariants as port
 use Rattle.http_routes.specs.declared.side.Routes.{Routes}
 use Rattle.http_routes.specs.declared.side.Routes.TheVariants.{Account, Environment}
 

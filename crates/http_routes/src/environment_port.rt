@@ -19,6 +19,15 @@ use lambda_wire::{WireFault, read_register};
 use matchit::Router;
 use std::alloc::{AllocError, Global};
 
+/// What an extension reports of itself (Extensions API, Init error and Exit error).
+#[derive(Clone, Copy)]
+pub(crate) enum Report {
+    /// It failed in its Init.
+    InitError,
+    /// It failed, and exits.
+    ExitError,
+}
+
 fn is_too_long(body: &Bytes) -> bool
     ensures { result ≡ spec.is_too_long body.now }
 {
@@ -125,38 +134,26 @@ fn ext_next(
     }
 }
 
-/// Decides an extension's Init error.
-fn ext_init_failure(
-    alloc: Global,
-    env: EnvNo,
-    has_type: bool,
-    body: &Bytes,
-    ext: Option<u64>,
-) -> Result<Decision, AllocError>
-    ensures { IfOk result (λ d. d ≡ spec.ext_report has_type body.now (λ x. calls.ExtInitFailure env x body.now) ext) }
+/// Makes the call of an extension's report.
+fn reported(report: Report, env: EnvNo, ext: u64, body: Bytes) -> Call
+    ensures { result ≡ spec.reported report env ext body }
 {
-    let Some(ext) = ext else {
-        return refused(alloc, Cause::UnknownExtension);
-    };
-    if !has_type {
-        return refused(alloc, Cause::MissingHeader);
+    match report {
+        Report::InitError => Call::ExtInitFailure { env, ext, body },
+        Report::ExitError => Call::ExtExitFailure { env, ext, body },
     }
-    if is_too_long(body) {
-        return refused(alloc, Cause::TooLarge);
-    }
-    let body = body.clone()?;
-    Ok(Decision::Submit(Call::ExtInitFailure { env, ext, body }))
 }
 
-/// Decides an extension's Exit error.
-fn ext_exit_failure(
+/// Decides an extension's report.
+fn ext_report(
     alloc: Global,
     env: EnvNo,
+    report: Report,
     has_type: bool,
     body: &Bytes,
     ext: Option<u64>,
 ) -> Result<Decision, AllocError>
-    ensures { IfOk result (λ d. d ≡ spec.ext_report has_type body.now (λ x. calls.ExtExitFailure env x body.now) ext) }
+    ensures { IfOk result (λ d. d ≡ spec.ext_report has_type body.now (λ x. spec.reported report env x body.now) ext) }
 {
     let Some(ext) = ext else {
         return refused(alloc, Cause::UnknownExtension);
@@ -168,7 +165,7 @@ fn ext_exit_failure(
         return refused(alloc, Cause::TooLarge);
     }
     let body = body.clone()?;
-    Ok(Decision::Submit(Call::ExtExitFailure { env, ext, body }))
+    Ok(Decision::Submit(reported(report, env, ext, body)))
 }
 
 /// Decides a request on a route, for a method that it has.
@@ -206,11 +203,25 @@ fn on_route(
         }
         EnvironmentRoute::ExtInitFailure => {
             let ext = extension_of(salt, env, parts);
-            ext_init_failure(alloc, env, has_error_type(parts), body, ext)
+            ext_report(
+                alloc,
+                env,
+                Report::InitError,
+                has_error_type(parts),
+                body,
+                ext,
+            )
         }
         EnvironmentRoute::ExtExitFailure => {
             let ext = extension_of(salt, env, parts);
-            ext_exit_failure(alloc, env, has_error_type(parts), body, ext)
+            ext_report(
+                alloc,
+                env,
+                Report::ExitError,
+                has_error_type(parts),
+                body,
+                ext,
+            )
         }
     }
 }

@@ -13,4 +13,4 @@ mod routes;
 mod side;
 
 pub use decisions::{Decision, Shown};
-pub use side::{Port, Side};
+pub use side::Side;

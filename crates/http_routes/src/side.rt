@@ -16,18 +16,10 @@ use decisions::{Decide, Decision};
 use http::request::Parts;
 use lambda_wire::PayloadScratch;
 use matchit::Router;
+use service_port::Port;
 use std::alloc::{AllocError, Global};
 use std::marker::Model;
 use std::sync::Arc;
-
-/// Whose port a port is.
-#[derive(Clone, Copy, Debug, PartialEq, Eq)]
-pub enum Port {
-    /// The account's: callers and operators.
-    Account,
-    /// An environment's: its runtime and its extensions.
-    Environment(EnvNo),
-}
 
 /// The routes of a port.
 #[derive(Drop)]

@@ -1,7 +1,7 @@
 //! The hosts that the service answers for in addition to the local ones.
 
 use crate::setting_fault::SettingFault;
-use request_guard::Hosts;
+use request_guard::KnownHosts;
 use std::env::{self, Env, VarError};
 
 /// The environment variable that lists them.
@@ -13,10 +13,10 @@ const NAME: &str = "LAMBDA_LOCAL_HOSTS";
 ///
 /// # Errors
 /// `Malformed` if it is not such a list, otherwise `OutOfMemory`.
-pub fn read_hosts<R: Env + AllocGlobal>(rt: &R) -> Result<Hosts, SettingFault> {
+pub fn read_hosts<R: Env + AllocGlobal>(rt: &R) -> Result<KnownHosts, SettingFault> {
     match env::var(rt, NAME) {
-        Ok(text) => Hosts::read(text).ok_or(SettingFault::Malformed),
-        Err(VarError::NotPresent) => Ok(Hosts::none(rt.alloc())),
+        Ok(text) => KnownHosts::read(text).ok_or(SettingFault::Malformed),
+        Err(VarError::NotPresent) => Ok(KnownHosts::none(rt.alloc())),
         Err(VarError::NotUnicode) => Err(SettingFault::Malformed),
         Err(VarError::OutOfMemory) => Err(SettingFault::OutOfMemory),
     }

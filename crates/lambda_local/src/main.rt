@@ -1,7 +1,8 @@
 //! A local Lambda service. `lambda_local`, or `lambda_local replay`, replays a script of calls from
-//! standard input and writes each call's answer to standard output. `lambda_local serve PATH`
-//! serves the configuration in a file over HTTP until it is stopped, and then writes the account's
-//! counts.
+//! standard input and writes each call's answer to standard output. `lambda_local trace` writes the
+//! trace of the history that the script leads to instead: a JSON object for each entry, a line each;
+//! with `--bodies none`, without payloads, outputs and reports. `lambda_local serve PATH` serves the
+//! configuration in a file over HTTP until it is stopped, and then writes the account's counts.
 #![tactic(auto)]
 
 mod clock;
@@ -28,12 +29,15 @@ use std::net::{TcpListener, TcpStream};
 use std::process::ExitCode;
 use std::rt::Files;
 use thiserror::Error;
+use trace_replay::trace;
 
 /// What the arguments ask for.
 #[derive(Drop)]
 enum Asked {
     /// Replay standard input.
     Replay,
+    /// Write the trace of standard input, with or without bodies.
+    Trace { bodies: bool },
     /// Serve the configuration in the file with this path.
     Serve(String),
     /// Anything else: the program prints its usage.
@@ -74,6 +78,14 @@ impl From<SettingFault> for ProgramFault {
     }
 }
 
+/// Returns what `trace` with an option asks for.
+fn traced(option: &str, value: &str) -> Asked {
+    match (option, value) {
+        ("--bodies", "none") => Asked::Trace { bodies: false },
+        _ => Asked::Nothing,
+    }
+}
+
 /// Reads what the arguments ask for.
 fn read_arguments<R: Env + AllocGlobal>(rt: &R) -> io::Result<Asked> {
     let mut words = env::args(rt)?.skip(1);
@@ -81,12 +93,15 @@ fn read_arguments<R: Env + AllocGlobal>(rt: &R) -> io::Result<Asked> {
         return Ok(Asked::Replay);
     };
     let second = words.next();
+    let third = words.next();
     if words.next().is_some() {
         return Ok(Asked::Nothing);
     }
-    match (first.as_str(), second) {
-        ("replay", None) => Ok(Asked::Replay),
-        ("serve", Some(path)) => Ok(Asked::Serve(path)),
+    match (first.as_str(), second, third) {
+        ("replay", None, None) => Ok(Asked::Replay),
+        ("trace", None, None) => Ok(Asked::Trace { bodies: true }),
+        ("trace", Some(option), Some(value)) => Ok(traced(option.as_str(), value.as_str())),
+        ("serve", Some(path), None) => Ok(Asked::Serve(path)),
         _ => Ok(Asked::Nothing),
     }
 }
@@ -100,6 +115,11 @@ where
             let mut reader = rt.reader();
             let mut writer = io::writer(&rt);
             replay(rt.alloc(), &mut reader, &mut writer).map_err(ProgramFault::Replay)
+        }
+        Ok(Asked::Trace { bodies }) => {
+            let mut reader = rt.reader();
+            let mut writer = io::writer(&rt);
+            trace(rt.alloc(), &mut reader, &mut writer, bodies).map_err(ProgramFault::Replay)
         }
         Ok(Asked::Serve(path)) => {
             let patience = read_patience(&rt)?;

@@ -15,7 +15,7 @@ use account_lock::{Identity, Settled};
 use http_front::{Host, Hosted, Machine, Plan};
 use lambda_wire::read_config;
 use log::Log;
-use request_guard::Hosts;
+use request_guard::KnownHosts;
 use std::fmt::Display;
 use std::fs;
 use std::io::{self, Read};
@@ -76,7 +76,7 @@ fn serve_counted<R: Machine + Log, S: Identity + Drop + Send + Sync + 'static>(
     rt: R,
     plan: Plan,
     patience: u32,
-    hosts: Hosts,
+    hosts: KnownHosts,
     blanks: Blanks,
 ) -> Result<Counted<S>, ServeFault>
     requires configured { arc_value plan.config ≡ S.config }
@@ -105,7 +105,7 @@ fn serve_plan<R: Machine + Log, S: Identity + Drop + Send + Sync + 'static>(
     rt: R,
     plan: Plan,
     patience: u32,
-    hosts: Hosts,
+    hosts: KnownHosts,
     blanks: Blanks,
 ) -> Result<ClosingLine, ServeFault>
     requires configured { arc_value plan.config ≡ S.config }
@@ -128,7 +128,7 @@ fn serve_by_brand<R: Machine + Log>(
     rt: R,
     plan: Plan,
     patience: u32,
-    hosts: Hosts,
+    hosts: KnownHosts,
 ) -> Result<ClosingLine, ServeFault>
     ensures { IfOk result (λ line. (history : List Entry) × (tally : Tallied)
         × IsReached (arc_value plan.config) plan.max_entries history
@@ -148,7 +148,7 @@ pub fn serve<R: Machine + Log + Files + Print>(
     rt: R,
     path: &str,
     patience: u32,
-    hosts: Hosts,
+    hosts: KnownHosts,
 ) -> Result<(), ServeFault>
 where
     R::File: Read + Drop,

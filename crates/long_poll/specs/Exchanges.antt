@@ -76,12 +76,12 @@ module _ {R S D N K L : Type 0} {service : Service.Ghosts S K L} {decider : Deci
   abbrev pub shown : List Entry → ℕ → Option Reply → List Entry → Type 0
   shown seen ticket reply then = service.renders (arc_value connection.service) seen ticket reply then
 
-  -- What holds of a call that is held back: it is within the limits of the account's configuration, its bell can be
-  -- heard, and each pause takes some time.
+  -- What holds of a call that is held back: it is within the limits of the account's configuration, and its bell can be
+  -- heard.
   abbrev pub IsHeld : Dozing → Type 0
   IsHeld held =
       IsWithin (service.serves (arc_value connection.service)) held.call
-      × (rings_at held.bell ≡ hears_at held.heard) × (1 ≤ held.pause)
+      × (rings_at held.bell ≡ hears_at held.heard)
 
   -- What is decided about a request with this head and this body.
   abbrev pub Decides : Parts → List ℕ → Decision → Type 0

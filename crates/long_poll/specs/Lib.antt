@@ -21,4 +21,6 @@ pub mod Stages
 pub mod Standing
 pub mod Attempts
 pub mod Pending
+-- The order of the callers whose calls are held back.
+pub mod Queues
 pub mod Ringing

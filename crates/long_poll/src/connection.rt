@@ -9,8 +9,10 @@ ghost use Rattle.http.specs.declared.request.Parts.{Parts as Head};
 ghost use Rattle.futures.specs.Task.{Covers, Keeps};
 ghost use Rattle.futures.specs.Poll.{IfReady, OnPending};
 
+use crate::beat::Beat;
 use crate::clock::moment;
 use crate::history_body::HistoryBody;
+use crate::line::{Line, Place};
 use crate::refusal::refusal_reply;
 use crate::views::{reservation_reply, stats_reply};
 use crate::{Clock, ExchangeFault, Heard, OneShotBell, OpenPoll, Outcome, Service};
@@ -26,21 +28,16 @@ use lambda_wire::{HeaderMaps, PayloadScratch, Reply};
 use std::alloc::{AllocError, Global};
 use std::cell::Cell;
 use std::sync::{Arc, Mutex, Wait};
-use std::time::Duration;
-use std::{thread, time};
+use std::time;
 use usage_ledger::{Keep, Ledgers, Tally, Token};
 
-/// The first pause before a premature call is tried again, in microseconds: usually long enough for a
-/// runtime to ask for its next invocation, so that the caller waits no longer.
-const FIRST_PAUSE: u64 = 50;
-
-/// The longest pause, in microseconds.
+/// The longest pause of a caller that is not called, in microseconds: its connection then runs once.
 const LONGEST_PAUSE: u64 = 8_000;
 
 /// What the exchanges of one connection share: the account and the decider of its requests, both of one
 /// configuration; a clock; the connection's tally and token; the note of its open Next; the maps of the
-/// headers that most replies have; and its patience, which is how many milliseconds a premature call is
-/// held back at most.
+/// headers that most replies have; what wakes the ticker after a step; the line of the callers that are held
+/// back; and its patience, which is how many milliseconds a premature call is held back at most.
 #[derive(Drop)]
 pub struct Connection<R, S: Service<K, L>, D: Decide, N, K: Keep, L: Ledgers> {
     rt: R,
@@ -50,6 +47,11 @@ pub struct Connection<R, S: Service<K, L>, D: Decide, N, K: Keep, L: Ledgers> {
     pub(crate) clock: Arc<N>,
     tally: Arc<Mutex<Tally<K, L>>>,
     open: Arc<OpenPoll>,
+    // What wakes the ticker, and the line, both of all connections; and the function whose environment
+    // asks here, if one does.
+    beat: Arc<Beat>,
+    line: Arc<Line>,
+    function: Option<FnNo>,
     pub(crate) maps: Arc<HeaderMaps>,
     patience: u32,
     // The token, which has seen the history up to the earlier requests; none while a request has it.
@@ -59,18 +61,18 @@ pub struct Connection<R, S: Service<K, L>, D: Decide, N, K: Keep, L: Ledgers> {
     ghost agree: { S.serves (arc_value service) ≡ D.decides_for (arc_value decider) },
 }
 
-/// A premature call that is held back, with its bell and the future that hears it. Between two attempts
-/// the thread *sleeps* for a pause of at most 8 ms, and then lets its connection run once: only then are a
-/// signal to stop and the connection's own state noticed. (The timers of the kit's reactor round up to a
-/// millisecond; the first pauses are far shorter.)
+/// A call that is held back, with its bell and the future that hears it. Between two attempts its
+/// connection runs once, and only then notices a signal to stop and its own state; then the thread
+/// *sleeps* at its place in the line until it is called, for 8 ms at most.
 #[derive(Drop)]
 pub(crate) struct Dozing {
     call: Call,
     bell: OneShotBell,
     heard: Heard,
-    // How long it may still be held back, and how long the next pause is, in microseconds.
+    // How long it may still be held back, in microseconds.
     left: u64,
-    pause: u64,
+    // Its place, once it was held back.
+    place: Option<Place>,
 }
 
 /// How far a request has come.
@@ -78,8 +80,8 @@ pub(crate) struct Dozing {
 pub(crate) enum Begun<L: Ledgers> {
     /// It has its reply, with a token of the history that the reply is of.
     Replied(Reply, Token<L>),
-    /// Its call is premature and held back; a pause has passed. (On the heap, since few calls are, and
-    /// what is returned of the others would have its size.)
+    /// Its call is held back. (On the heap, since few calls are, and what is returned of the others would
+    /// have its size.)
     Dozes(Box<Dozing>),
     /// It asks for the history, from the entry of a ticket on or whole.
     AsksForHistory {
@@ -99,16 +101,16 @@ pub(crate) enum Begun<L: Ledgers> {
 enum Attempt<L: Ledgers> {
     /// It was submitted, with this result; if it was refused, the token has seen what was then seen.
     Made(Result<(Ticket, Token<L>), (Refused<OneShotBell>, Token<L>)>),
-    /// It was premature, and is returned with its bell.
+    /// It was premature, or came behind one that is, and is returned with its bell.
     HeldBack(Call, OneShotBell),
 }
 
-/// Returns the pause after this one, in microseconds: twice as long, up to the longest.
-fn next_pause(pause: u64) -> u64
-    requires { 1 ≤ pause }
-    ensures { 1 ≤ result }
-{
-    pause.saturating_mul(2).min(LONGEST_PAUSE)
+/// Returns the function that a call invokes, `None` if it is no Invoke.
+fn invoked(call: &Call) -> Option<FnNo> {
+    match call {
+        Call::Invoke { function, .. } => Some(*function),
+        _ => None,
+    }
 }
 
 impl<
@@ -130,7 +132,8 @@ impl<
     /// submit locks the connection's tally, and then the account. The token is shown the history at each
     /// submit and each reading, so that the replies to the connection's requests never go back in the
     /// history. A premature call is held back for `patience` milliseconds at most, during which the
-    /// connection's thread sleeps, pause by pause.
+    /// connection's thread sleeps at its place in the line. The function is that of the environment at
+    /// whose port the connection is, if it is at one: its Nexts call the callers of this function.
     pub fn new(
         rt: R,
         alloc: Global,
@@ -140,6 +143,9 @@ impl<
         tally: Arc<Mutex<Tally<K, L>>>,
         token: Token<L>,
         open: Arc<OpenPoll>,
+        beat: Arc<Beat>,
+        line: Arc<Line>,
+        function: Option<FnNo>,
         maps: Arc<HeaderMaps>,
         patience: u32,
     ) -> Connection<R, S, D, N, K, L>
@@ -154,6 +160,9 @@ impl<
             clock,
             tally,
             open,
+            beat,
+            line,
+            function,
             maps,
             patience,
             seen: Cell::new(Some(token)),
@@ -230,14 +239,26 @@ impl<
         }
     }
 
-    /// Submits a call with its bell, unless it is premature and may be held back for `left` microseconds more.
-    fn attempt_within(&self, left: u64, call: Call, bell: OneShotBell) -> Attempt<L>
+    /// Submits a call with its bell, unless it may be held back for `left` microseconds more and is premature, or
+    /// another Invoke of its function that came earlier is held back.
+    fn attempt_within(
+        &self,
+        left: u64,
+        place: &Option<Place>,
+        call: Call,
+        bell: OneShotBell,
+    ) -> Attempt<L>
         requires { IsWithin (S.serves (arc_value self.now.service)) call }
         ensures attempt { IsAttempt self.now N.Clock bell call result }
         ensures patience { IsPatient left result }
     {
         if left == 0 {
             return Attempt::Made(self.submit_at_reading(call, bell));
+        }
+        if let Some(function) = invoked(&call)
+            && !self.line.is_turn(&self.rt, function, place)
+        {
+            return Attempt::HeldBack(call, bell);
         }
         self.attempt(call, bell)
     }
@@ -254,12 +275,48 @@ impl<
             bell,
             heard,
             left: u64::from(self.patience) * 1_000,
-            pause: FIRST_PAUSE,
+            place: None,
         })
     }
 
+    /// Sleeps at a place in the line until it is called, for a pause at most. Returns how many microseconds of
+    /// these are left.
+    fn pause(&self, left: u64, place: &Option<Place>) -> u64
+        ensures { result ≤ left }
+    {
+        match place {
+            None => left,
+            Some(place) => left.saturating_sub(place.sleep(&self.rt, left.min(LONGEST_PAUSE))),
+        }
+    }
+
+    /// Returns a place in the line for a call that was held back, if it has none yet.
+    fn placed(&self, place: Option<Place>, call: &Call, readies: u64) -> Result<Place, AllocError> {
+        match place {
+            Some(place) => Ok(place),
+            None => self
+                .line
+                .join(&self.rt, invoked(call).unwrap_or(0), readies),
+        }
+    }
+
+    /// Does what follows from a call that was taken, which is a step: the ticker is woken if it rests; a Next is
+    /// noted as open, and may make an environment ready; a call that was held back leaves the line.
+    fn taken(&self, is_next: bool, ticket: Ticket, place: Option<Place>) {
+        self.beat.note_step();
+        if is_next {
+            self.open.note(ticket);
+            if let Some(function) = self.function {
+                self.line.call(&self.rt, function);
+            }
+        }
+        if let Some(place) = place {
+            self.line.leave(&self.rt, place);
+        }
+    }
+
     /// Submits a call that was held back, with its bell, once it is no longer premature or the connection's
-    /// patience is used up. Otherwise a pause passes, during which no lock is held. A Next is noted as open.
+    /// patience is used up. Before that its thread sleeps at its place in the line, during which no lock is held.
     pub(crate) fn submit_held(&self, held: Dozing) -> Result<Begun<L>, ExchangeFault>
         requires { IsHeld self.now held }
         ensures ok { IfOk result (IsBegun self.now N.Clock held.call) }
@@ -271,20 +328,21 @@ impl<
             bell,
             heard,
             left,
-            pause,
+            place,
         } = held;
         let is_next = matches!(call, Call::RuntimeNext { .. } | Call::ExtNext { .. });
         let is_invoke = call.is_invoke();
-        match self.attempt_within(left, call, bell) {
+        let left = self.pause(left, &place);
+        let readies = self.line.readies();
+        match self.attempt_within(left, &place, call, bell) {
             Attempt::HeldBack(call, bell) => {
-                let now = left.min(pause);
-                thread::sleep(&self.rt, Duration::from_micros(now));
+                let place = Some(self.placed(place, &call, readies)?);
                 let held = Dozing {
                     call,
                     bell,
                     heard,
-                    left: left - now,
-                    pause: next_pause(pause),
+                    left: left - 1,
+                    place,
                 };
                 Ok(Begun::Dozes(Box::new(self.alloc, held).map_err(AllocError::from)?))
             }
@@ -293,9 +351,7 @@ impl<
                 Ok(Begun::Replied(reply, seen))
             }
             Attempt::Made(Ok((ticket, token))) => {
-                if is_next {
-                    self.open.note(ticket);
-                }
+                self.taken(is_next, ticket, place);
                 Ok(Begun::Parked {
                     ticket,
                     heard,

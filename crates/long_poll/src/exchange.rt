@@ -36,7 +36,7 @@ enum Stage<B, L: Ledgers> {
         body: Collecting<B>,
         is_too_long: bool,
     },
-    /// The call is premature and held back: each poll tries it once, and sleeps for a pause if it still is.
+    /// The call is held back: each poll sleeps until it is called, for a pause at most, and tries it once.
     Holding(Box<Dozing>),
     /// The call that was held back is being tried, within one poll.
     Submitting,

@@ -2,6 +2,8 @@
 //! its body, submit its call to an account, and wait for the answer.
 #![tactic(auto)]
 
+mod alarm;
+mod beat;
 mod bell;
 mod clock;
 mod collecting;
@@ -12,14 +14,19 @@ mod first_bytes;
 mod history_body;
 pub mod laws;
 mod lengths;
+mod line;
 mod of_account;
 mod open_poll;
 mod outcome;
 mod poll;
+mod queue;
 mod refusal;
+mod seat;
 mod service;
 mod views;
 
+pub use alarm::Alarm;
+pub use beat::Beat;
 pub use bell::{Heard, OneShotBell};
 pub use clock::{Clock, moment};
 pub use connection::Connection;
@@ -27,6 +34,7 @@ pub use exchange::Exchange;
 pub use fault::ExchangeFault;
 pub use history_body::HistoryBody;
 pub use lengths::declares_too_long;
+pub use line::Line;
 pub use open_poll::OpenPoll;
 pub use outcome::Outcome;
 pub use poll::{BellLost, Poll};

@@ -3,8 +3,8 @@ use Rattle.std.specs.Prelude.{Bool, true, false, codes}
 use Rattle.lambda_wire.specs.Replies.{fault_reply, invoke_fault_reply}
 use Rattle.lambda_wire.specs.declared.body_writer.InvokeFault.TheVariants.{User, Service}
 use Rattle.lambda_wire.specs.declared.reply.Reply.{Reply}
-use Rattle.request_guard.specs.declared.refusal.Api.{Api}
-use Rattle.request_guard.specs.declared.refusal.Api.TheVariants.{Lambda, Runtime}
+use Rattle.service_port.specs.declared.port.Port.{Port}
+use Rattle.service_port.specs.declared.port.Port.TheVariants.{Account, Environment}
 use Rattle.request_guard.specs.declared.refusal.Refusal.{Refusal}
 use Rattle.request_guard.specs.declared.refusal.Refusal.TheVariants.{MalformedHost, FromPage, ForeignHost}
 use Rattle.request_guard.specs.declared.refusal.Refusal.TheVariants.{ForeignCoding, BrokenBody, OutOfMemory}
@@ -43,6 +43,6 @@ runtime_reply BrokenBody = fault_reply 400 (codes "Body is malformed") (codes "I
 runtime_reply OutOfMemory = fault_reply 500 (codes "Out of memory") (codes "OutOfMemory")
 
 -- The reply to a refused request, in the form of its port's API.
-abbrev pub refusal_reply : Api → Refusal → Reply
-refusal_reply Lambda = lambda_reply
-refusal_reply Runtime = runtime_reply
+abbrev pub refusal_reply : Port → Refusal → Reply
+refusal_reply Account = lambda_reply
+refusal_reply (Environment e) = runtime_reply

@@ -9,7 +9,7 @@ ghost use Rattle.request_guard.specs.Guarding as spec;
 use crate::codings::is_plainly_coded;
 use crate::hosts::host_name;
 use crate::pages::is_from_page;
-use crate::{Hosts, Refusal};
+use crate::{KnownHosts, Refusal};
 use http::request::Parts;
 use http_header::HeaderName;
 
@@ -32,7 +32,7 @@ fn has_rare_field(parts: &Parts) -> bool
     parts.headers.keys().any(|name| is_rare(name))
 }
 
-impl Hosts {
+impl KnownHosts {
     /// Returns why a request with this head never becomes a call; the first of these causes that
     /// holds: its host is named in two fields or by a text that is not a host, a web page sent it,
     /// its host is neither local nor listed, or its body is coded in a way that is not supported.

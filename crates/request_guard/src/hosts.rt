@@ -16,11 +16,11 @@ use std::marker::Model;
 
 /// Names of hosts that this service answers for in addition to the local ones, separated by commas.
 #[derive(Debug, Drop)]
-pub struct Hosts {
+pub struct KnownHosts {
     listed: String,
 }
 
-impl Model for Hosts {
+impl Model for KnownHosts {
     ghost use Rattle.std.specs.Prelude.{ℕ, List, string_bytes};
 
     ghost Value = { List ℕ };
@@ -56,24 +56,24 @@ fn are_names(text: &[u8]) -> bool
     true
 }
 
-impl Hosts {
+impl KnownHosts {
     /// Returns an empty list, for the local ones alone. It allocates nothing.
-    pub fn none(alloc: Global) -> Hosts
+    pub fn none(alloc: Global) -> KnownHosts
         ensures { result ≡ [] }
     {
-        Hosts {
+        KnownHosts {
             listed: String::new(alloc),
         }
     }
 
     /// Reads a list of hosts: names of letters, digits, `-`, `.` and `_`, separated by commas. An
     /// empty text lists none. Returns `None` if the text is not such a list.
-    pub fn read(text: String) -> Option<Hosts>
+    pub fn read(text: String) -> Option<KnownHosts>
         ensures { result ≡ spec.listed_in (string_bytes text) }
     {
         let bytes = text.as_bytes();
         if bytes.is_empty() || are_names(bytes) {
-            return Some(Hosts { listed: text });
+            return Some(KnownHosts { listed: text });
         }
         None
     }

@@ -9,5 +9,5 @@ mod names;
 mod pages;
 mod refusal;
 
-pub use hosts::Hosts;
-pub use refusal::{Api, Refusal, refusal_reply};
+pub use hosts::KnownHosts;
+pub use refusal::{Refusal, refusal_reply};

@@ -8,16 +8,8 @@ ghost use Rattle.request_guard.specs.Refusals as spec;
 ghost use Rattle.request_guard.specs.declared.refusal.Refusal.TheVariants.{ForeignCoding};
 
 use lambda_wire::{InvokeFault, Reply, fault_reply, invoke_fault_reply};
+use service_port::Port;
 use std::alloc::{AllocError, Global};
-
-/// The API of a port, in whose form it refuses.
-#[derive(Clone, Copy, Debug, PartialEq, Eq)]
-pub enum Api {
-    /// The Lambda API, for callers.
-    Lambda,
-    /// The Runtime API and the Extensions API.
-    Runtime,
-}
 
 /// Why a request never becomes a call, whatever it asks for.
 #[derive(Clone, Copy, Debug, PartialEq, Eq)]
@@ -143,13 +135,14 @@ fn runtime_reply(alloc: Global, refusal: Refusal) -> Result<Reply, AllocError>
     }
 }
 
-/// Makes the reply to a refused request, in the form of its port's API. It fails only if an
+/// Makes the reply to a refused request, in the form of its port's API: the Lambda
+/// API's at the account's port, the Runtime API's at an environment's. It fails only if an
 /// allocation fails.
-pub fn refusal_reply(alloc: Global, api: Api, refusal: Refusal) -> Result<Reply, AllocError>
-    ensures { IfOk result (λ reply. reply ≡ spec.refusal_reply api refusal) }
+pub fn refusal_reply(alloc: Global, port: Port, refusal: Refusal) -> Result<Reply, AllocError>
+    ensures { IfOk result (λ reply. reply ≡ spec.refusal_reply port refusal) }
 {
-    match api {
-        Api::Lambda => lambda_reply(alloc, refusal),
-        Api::Runtime => runtime_reply(alloc, refusal),
+    match port {
+        Port::Account => lambda_reply(alloc, refusal),
+        Port::Environment(_) => runtime_reply(alloc, refusal),
     }
 }

@@ -1,4 +1,4 @@
-mod Written
+pub mod Written
 mod Composing
 mod LineEnds
 mod LongLines

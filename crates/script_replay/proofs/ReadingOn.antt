@@ -1,16 +1,17 @@
 -- What was read and what is left, over a whole replay.
-use Rattle.std.proofs.Common.{◌≡◌, ℕ, ◌+◌, false, ◌==◌, List, [], ◌∷◌, ◌++◌, length, Option, Some, None, IfSome, take, refl, sym, ap, ◌∙◌, arith, append_assoc, length-append}
+use Rattle.std.proofs.Common.{◌≡◌, ℕ, ◌+◌, Bool, false, ◌==◌, List, [], ◌∷◌, ◌++◌, length, Option, Some, None, IfSome, Result, Ok, Err, OnOk, take, refl, sym, ap, ◌∙◌, arith, append_assoc, length-append}
 use Rattle.std.proofs.lemmas.Bool.Decides.{nat_tests}
 use Rattle.std.proofs.lemmas.List.{append-nil}
 use Rattle.std.specs.Io.KnownBytes.{Keeps, Consumes, IsAtEnd}
 use Rattle.std.specs.Str.Lines.{lines}
-use Rattle.account_book.specs.Run.{AtStart}
-use Rattle.script_replay.specs.Replays.{IsOpen, Played, Ended, StoppedAt, Replays, Stops}
-use Rattle.script_replay.specs.Steps.{Position, AreWhole, Going, StoppedIn, last_lines}
+use Rattle.account_book.specs.Book.{Kept}
+use Rattle.account_book.specs.Run.{Progress, AtStart, Taking, fault_at_end}
+use Rattle.script_replay.specs.Replays.{IsOpen, LeadsTo, Played, Replays, StoppedAt, Stops}
+use Rattle.script_replay.specs.Steps.{Position, AreWhole, Going, StoppedIn, first_position, last_lines}
 use Rattle.script_replay.specs.declared.fault.ReplayFault.{ReplayFault}
 use Rattle.script_replay.specs.declared.fault.ReplayFault.TheVariants as faults
-use Rattle.script_replay.proofs.LineEnds.{one_line, more_lines}
-use Rattle.script_replay.proofs.Composing.{played_more, stopped_after, ended_after}
+use Rattle.script_replay.proofs.LineEnds.{one_line, no_lines, more_lines}
+use Rattle.script_replay.proofs.Composing.{played_none, played_more, stopped_after, ends_played, nothing_played}
 
 -- what was read of the input, all but the rest, is the lines that were taken and what is pending
 pub record Reading (input rest : List ℕ) (now : Position) (old new : Option (List ℕ)) : Type 0 where
@@ -103,12 +104,28 @@ script_ends input rest s old new r end =
     lines_read input rest s old new r ∙ ap (λ (l : List ℕ). r.taken ++ lines (s.pending ++ l)) end ∙ ap (λ (l : List ℕ). r.taken ++ lines l) (append-nil s.pending)
     ∙ ap (λ (l : List (List ℕ)). r.taken ++ l) (last_cut s.pending r.free)
 
-pub read_last : (first left : Option (List ℕ)) (s : Position) (old mid new : Option (List ℕ)) → ReadSoFar first left s old mid → IsAtEnd left
-    → Ended (s.line + 1) s.progress (last_lines s.pending) None mid new → IfSome first (λ input. Replays input old new)
-read_last None left s old mid new r end last = tt
-read_last (Some input) None s old mid new r end last = absurd r
-read_last (Some input) (Some rest) s old mid new r end last =
-    ended_after 1 (s.line + 1) AtStart s.progress r.taken (last_lines s.pending) _ old mid new None r.done (omega (arith, r.counted)) (script_ends input rest s old mid r end) last
+pub read_last : (first left : Option (List ℕ)) (s : Position) (next : Progress) (old mid new : Option (List ℕ)) → ReadSoFar first left s old mid → IsAtEnd left
+    → Played (s.line + 1) s.progress next (last_lines s.pending) mid new → IfSome first (λ input. Played 1 AtStart next (lines input) old new)
+read_last None left s next old mid new r end last = tt
+read_last (Some input) None s next old mid new r end last = absurd r
+read_last (Some input) (Some rest) s next old mid new r end last =
+    rw (script_ends input rest s old mid r end) (played_more 1 (s.line + 1) AtStart s.progress next r.taken (last_lines s.pending) old mid new r.done last (omega (arith, r.counted)))
+
+-- nothing was read yet
+pub read_first : (first : Option (List ℕ)) (s : Position) (old : Option (List ℕ)) → s ≡ first_position → ReadSoFar first first s old old
+read_first first s old is = rw is (go first)
+  where
+    go : (first : Option (List ℕ)) → ReadSoFar first first first_position old old
+    go None = λ k d h. absurd (omega arith)
+    go (Some input) = record {
+      whole = [];
+      taken = [];
+      split = refl;
+      cut = no_lines;
+      done = played_none 1 AtStart old;
+      counted = refl;
+      free = λ k d h. absurd (omega arith);
+    }
 
 pub last_stopped : (first left : Option (List ℕ)) (s : Position) (old mid new : Option (List ℕ)) (e : ReplayFault) → ReadSoFar first left s old mid → IsAtEnd left
     → StoppedAt (s.line + 1) s.progress (last_lines s.pending) mid new e → IfSome first (λ input. Stops input left old new e)
@@ -125,3 +142,21 @@ read_nothing (Some input) (Some rest) None buf n now old new r taken zero = absu
 read_nothing (Some input) (Some rest) (Some more) buf n now old new r taken zero =
     let same : more ≡ rest = sym (rw zero at taken) in
     rw same r
+
+-- a replay without a fault, over what is known of the input
+pub replays_so : (r : Result (Unit {0}) ReplayFault) (first : Option (List ℕ)) (next : Progress) (old new : Option (List ℕ)) → OnOk r (IfSome first (λ input. Played 1 AtStart next (lines input) old new))
+    → OnOk r (fault_at_end next ≡ None) → OnOk r (IfSome first (λ input. Replays input old new))
+replays_so (Err e) first next old new p open_end = tt
+replays_so (Ok done) None next old new p open_end = tt
+replays_so (Ok done) (Some input) next old new p open_end = ends_played 1 AtStart next (lines input) old new None p open_end
+
+-- the book that it leads to
+pub leads_so : (first : Option (List ℕ)) (next : Progress) (reserves : Bool) (book : Kept) (old : Option (List ℕ)) → IfSome first (λ input. Played 1 AtStart next (lines input) old old)
+    → next ≡ Taking reserves book → IfSome first (λ input. LeadsTo input book)
+leads_so None next reserves book old p is = tt
+leads_so (Some input) next reserves book old p is = record { reserves = reserves; text = p.text; took = p.took ∙ ap (λ (b : Progress). Ok (b, p.text)) is }
+
+-- no line was replayed, for want of memory
+pub stops_nowhere : (first left : Option (List ℕ)) → IfSome first (λ input. Stops input left None None faults.OutOfMemory)
+stops_nowhere None left = tt
+stops_nowhere (Some input) left = nothing_played 1 AtStart (lines input) None

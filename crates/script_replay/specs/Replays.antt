@@ -1,9 +1,10 @@
 -- What a replay has written when it ends.
-use Rattle.std.specs.Prelude.{◌≡◌, ℕ, ◌+◌, ◌==◌, false, List, [], ◌∷◌, ◌++◌, Option, Some, None, Result, Ok, Err, All}
+use Rattle.std.specs.Prelude.{◌≡◌, ℕ, ◌+◌, ◌==◌, Bool, false, List, [], ◌∷◌, ◌++◌, Option, Some, None, Result, Ok, Err, All}
 use Rattle.std.specs.Io.{IsEmptyOrEndsWith}
 use Rattle.std.specs.Io.KnownBytes.{Appends, Consumes}
 use Rattle.std.specs.Str.Lines.{lines}
-use Rattle.account_book.specs.Run.{ScriptFault, InConfiguration, InText, InLine, Progress, AtStart}
+use Rattle.account_book.specs.Book.{Kept}
+use Rattle.account_book.specs.Run.{ScriptFault, InConfiguration, InText, InLine, Progress, AtStart, Taking}
 use Rattle.account_book.specs.Run.{line_taken, replay_from}
 use Rattle.script_replay.specs.declared.fault.ReplayFault.{ReplayFault}
 use Rattle.script_replay.specs.declared.fault.ReplayFault.TheVariants as faults
@@ -83,6 +84,12 @@ StoppedAt number progress lines old new faults.OutOfMemory = Broken number progr
 -- The whole script was replayed: its replay has no fault, and all that it writes was written.
 abbrev pub Replays : List ℕ → Option (List ℕ) → Option (List ℕ) → Type 0
 Replays input old new = Ended 1 AtStart (lines input) None old new
+
+-- The script leads to this book: its replay has no fault, and ends with it.
+pub record LeadsTo (input : List ℕ) (book : Kept) : Type 0 where
+  pub reserves : Bool
+  pub text : List ℕ
+  pub took : lines_taken 1 AtStart (lines input) ≡ Ok (Taking reserves book, text)
 
 -- A script was replayed up to a fault; `left` is what the reader still has.
 abbrev pub Stops : List ℕ → Option (List ℕ) → Option (List ℕ) → Option (List ℕ) → ReplayFault → Type 0

@@ -2,7 +2,7 @@
 use Rattle.std.specs.Prelude.{◌≡◌, ℕ, ◌+◌, ◌≤◌, List, [], ◌∷◌, ◌++◌, length, Option, Result, Ok}
 use Rattle.std.specs.Io.{IsEmptyOrEndsWith}
 use Rattle.std.specs.Str.Lines.{lines}
-use Rattle.account_book.specs.Run.{ScriptFault, Progress}
+use Rattle.account_book.specs.Run.{ScriptFault, Progress, AtStart}
 use Rattle.script_replay.specs.Replays.{IsOpen, Played, StoppedAt}
 use Rattle.script_replay.specs.declared.fault.ReplayFault.{ReplayFault}
 
@@ -23,6 +23,10 @@ pub record Position : Type 0 where
   pub progress : Progress
   pub line : ℕ
   pub pending : List ℕ
+
+-- The state of a replay before its first byte.
+abbrev pub first_position : Position
+first_position = record { progress = AtStart; line = 0; pending = [] }
 
 -- Bytes that are empty or end with a line feed, and the lines that they contain.
 pub record AreWhole (whole : List ℕ) (taken : List (List ℕ)) : Type 0 where

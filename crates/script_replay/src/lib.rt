@@ -9,4 +9,5 @@ mod player;
 mod whole;
 
 pub use fault::ReplayFault;
-pub use player::replay;
+pub use player::{lead, replay};
+pub use whole::write_whole;

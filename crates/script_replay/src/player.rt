@@ -4,13 +4,15 @@ ghost use Rattle.std.specs.Prelude.{◌≡◌, ◌+◌, ◌<◌, ◌≤◌, ◌^
 ghost use Rattle.std.specs.Prelude.{position, MatchOption, IfOk, IfErr, IfSome, OnOk, vec_len, ◌==◌};
 ghost use Rattle.std.specs.Io.KnownBytes.{IsAtEnd};
 ghost use Rattle.std.specs.Str.Lines.{lines};
-ghost use Rattle.script_replay.specs.Replays.{IsOpen, Played, Ended, StoppedAt, Replays, Stops};
-ghost use Rattle.script_replay.specs.Steps.{EndsLine, Going, StoppedIn, last_lines};
+ghost use Rattle.account_book.specs.Run.{AtStart, fault_at_end};
+ghost use Rattle.script_replay.specs.Replays.{IsOpen, LeadsTo, Played, StoppedAt, Replays, Stops};
+ghost use Rattle.script_replay.specs.Steps.{EndsLine, Going, StoppedIn, first_position, last_lines};
 ghost use Rattle.script_replay.specs.Views.{seen, stand};
 
 use crate::fault::ReplayFault;
 use crate::line::{LINE_LIMIT, Progress, drop_return, overlong, take_line};
 use crate::whole::write_whole;
+use account_book::Book;
 use lambda_wire::WireFault;
 use std::alloc::{AllocError, Global};
 use std::io::{self, Read, Write};
@@ -26,6 +28,20 @@ struct Player {
     pending: Vec<u8>,
     /// The text that a line writes. Its memory is used again for the next line.
     answers: Vec<u8>,
+}
+
+impl Player {
+    /// Returns the state before the first line.
+    fn new(alloc: Global) -> Player
+        ensures { stand result ≡ first_position }
+    {
+        Player {
+            progress: Progress::AtStart,
+            line: 0,
+            pending: Vec::new(alloc),
+            answers: Vec::new(alloc),
+        }
+    }
 }
 
 /// Takes what was read so far as the next line, and writes its answers.
@@ -139,8 +155,9 @@ fn play_last<W: Write>(
 fn finish<W: Write>(alloc: Global, player: &mut Player, writer: &mut W) -> Result<(), ReplayFault>
     requires line { player.old.line + 1 < 2 ^ 64 }
     ensures ok { OnOk result
-        (Ended (player.old.line + 1) (seen player.old.progress) (last_lines player.old.pending.items) None
-        (W.contents writer.old) (W.contents writer.new)) }
+        (Played (player.old.line + 1) (seen player.old.progress) (seen player.new.progress)
+        (last_lines player.old.pending.items) (W.contents writer.old) (W.contents writer.new)) }
+    ensures booked { OnOk result (fault_at_end (seen player.new.progress) ≡ None) }
     ensures stopped { IfErr result
         (λ e. StoppedAt (player.old.line + 1) (seen player.old.progress) (last_lines player.old.pending.items)
         (W.contents writer.old) (W.contents writer.new) e) }
@@ -168,26 +185,23 @@ fn replay_by<R: Read, W: Write>(
     alloc: Global,
     reader: &mut R,
     writer: &mut W,
+    player: &mut Player,
     piece: &mut [u8],
 ) -> Result<(), ReplayFault>
+    requires first { stand player.old ≡ first_position }
     requires room { 0 < length piece.old }
     requires small { length piece.old ≤ 65536 }
-    ensures ok { OnOk result (IfSome (R.remaining reader.old) (λ input. Replays input
-        (W.contents writer.old) (W.contents writer.new))) }
+    ensures ok { OnOk result (IfSome (R.remaining reader.old) (λ input. Played 1 AtStart (seen player.new.progress)
+        (lines input) (W.contents writer.old) (W.contents writer.new))) }
+    ensures booked { OnOk result (fault_at_end (seen player.new.progress) ≡ None) }
     ensures end { OnOk result (IsAtEnd (R.remaining reader.new)) }
     ensures stopped { IfErr result (λ e. IfSome (R.remaining reader.old) (λ input. Stops input (R.remaining reader.new)
         (W.contents writer.old) (W.contents writer.new) e)) }
 {
-    let mut player = Player {
-        progress: Progress::AtStart,
-        line: 0,
-        pending: Vec::new(alloc),
-        answers: Vec::new(alloc),
-    };
     for _ in 0..4_294_967_296u64 {
         match reader.read(piece) {
-            Ok(0) => return finish(alloc, &mut player, writer),
-            Ok(n) => feed(alloc, &mut player, writer, &piece[..n])?,
+            Ok(0) => return finish(alloc, player, writer),
+            Ok(n) => feed(alloc, player, writer, &piece[..n])?,
             Err(e) => {
                 if e.kind() != io::ErrorKind::Interrupted {
                     return Err(ReplayFault::Read);
@@ -225,5 +239,32 @@ pub fn replay<R: Read, W: Write>(
         (W.contents writer.old) (W.contents writer.new) e)) }
 {
     let mut piece = buffer(alloc, PIECE)?;
-    replay_by(alloc, reader, writer, &mut piece)
+    let mut player = Player::new(alloc);
+    replay_by(alloc, reader, writer, &mut player, &mut piece)
+}
+
+/// Replays the script that the reader gives, as `replay` does, and writes nothing: returns the book that
+/// the script leads to.
+///
+/// # Errors
+/// Those of `replay`; since nothing is written, none is `Write`.
+pub fn lead<R: Read>(alloc: Global, reader: &mut R) -> Result<Book, ReplayFault>
+    // The book is the one that the replay of the input ends with,
+    ensures ok { IfOk result (λ book. IfSome (R.remaining reader.old) (λ input. LeadsTo input book)) }
+    // and the whole input was read.
+    ensures end { IfOk result (λ book. IsAtEnd (R.remaining reader.new)) }
+    // A fault of the script is the one that its replay has.
+    ensures stopped { IfErr result (λ e. IfSome (R.remaining reader.old) (λ input.
+        Stops input (R.remaining reader.new) None None e)) }
+{
+    let mut piece = buffer(alloc, PIECE)?;
+    let mut player = Player::new(alloc);
+    replay_by(alloc, reader, &mut io::sink(), &mut player, &mut piece)?;
+    let Player { progress, .. } = player;
+    match progress {
+        Progress::Taking { book, .. } => Ok(book),
+        // An input that ends before its configuration is a fault, which `replay_by` returned.
+        Progress::AtStart => Err(ReplayFault::OutOfMemory),
+        Progress::AfterForm => Err(ReplayFault::OutOfMemory),
+    }
 }

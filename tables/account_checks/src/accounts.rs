@@ -12,6 +12,7 @@ mod texts;
 ghost use Rattle.std.specs.Prelude.{◌≡◌, ◌^◌};
 ghost use Rattle.std.specs.Arc.{arc_value};
 
+use crate::Runner;
 use crate::accounts::bells::Bells;
 use crate::accounts::places::{Way, open};
 use crate::accounts::running::{Deed, deed_of, end_case, one_part, turns_of};
@@ -21,16 +22,10 @@ use account_book::OpenFault;
 use account_lock::Identity;
 use case_tables::{Case, CaseFault, Given, Part};
 use std::marker::Brand;
-use std::sync::Wait;
-use std::thread::Threads;
 use usage_ledger::{Blanks, Keep, KeepAll, KeepNone};
 
 /// Performs a part.
-fn play_part<
-    R: Wait + Threads + Copy + Send + Sync + Drop + 'static,
-    S: Identity + Send + Sync + Drop,
-    K: Keep + Send + Sync,
->(
+fn play_part<R: Runner, S: Identity + Send + Sync + Drop, K: Keep + Send + Sync>(
     seats: &mut Seats<R, S, K>,
     bells: &mut Bells,
     part: &Part,
@@ -43,11 +38,7 @@ fn play_part<
 }
 
 /// Performs the parts of a case, in their order.
-fn play_parts<
-    R: Wait + Threads + Copy + Send + Sync + Drop + 'static,
-    S: Identity + Send + Sync + Drop,
-    K: Keep + Send + Sync,
->(
+fn play_parts<R: Runner, S: Identity + Send + Sync + Drop, K: Keep + Send + Sync>(
     seats: &mut Seats<R, S, K>,
     bells: &mut Bells,
     case: &Case,
@@ -60,11 +51,7 @@ fn play_parts<
 }
 
 /// Performs the parts of a case in their order, and then the settlement.
-fn run_case<
-    R: Wait + Threads + Copy + Send + Sync + Drop + 'static,
-    S: Identity + Send + Sync + Drop,
-    K: Keep + Send + Sync,
->(
+fn run_case<R: Runner, S: Identity + Send + Sync + Drop, K: Keep + Send + Sync>(
     case: &Case,
     seats: Seats<R, S, K>,
     bells: &mut Bells,
@@ -89,11 +76,7 @@ fn push_unopened(fault: OpenFault, given: &mut Given) -> Result<(), CaseFault> {
 }
 
 /// Opens what a case configures, and runs the case.
-fn play<
-    R: Wait + Threads + Copy + Send + Sync + Drop + 'static,
-    S: Identity + Send + Sync + Drop,
-    K: Keep + Send + Sync,
->(
+fn play<R: Runner, S: Identity + Send + Sync + Drop, K: Keep + Send + Sync>(
     rt: R,
     case: &Case,
     way: Way,
@@ -114,7 +97,7 @@ fn play<
 }
 
 /// Names the configuration, the salt, the ledgers and the history of a case.
-fn play_by_brand<R: Wait + Threads + Copy + Send + Sync + Drop + 'static, K: Keep + Send + Sync>(
+fn play_by_brand<R: Runner, K: Keep + Send + Sync>(
     rt: R,
     case: &Case,
     way: Way,
@@ -136,12 +119,7 @@ fn keeps_all(case: &Case) -> Result<bool, CaseFault> {
 }
 
 /// Runs a case on an account or on a desk.
-fn run_in<R: Wait + Threads + Copy + Send + Sync + Drop + 'static>(
-    rt: R,
-    case: &Case,
-    way: Way,
-    given: &mut Given,
-) -> Result<(), CaseFault> {
+fn run_in<R: Runner>(rt: R, case: &Case, way: Way, given: &mut Given) -> Result<(), CaseFault> {
     let keeps_all = keeps_all(case)?;
     let mut bells = Bells::new(given.alloc())?;
     let opening = opening_of(given.alloc(), case)?;
@@ -179,11 +157,7 @@ fn push_other(given: &mut Given, other: &Given) -> Result<(), CaseFault> {
 ///
 /// For a call, the case gives its ticket, the bells that rang (each call has one, numbered from 0),
 /// and the answers. After the parts, the account is settled.
-pub fn give<R: Wait + Threads + Copy + Send + Sync + Drop + 'static>(
-    rt: R,
-    case: &Case,
-    given: &mut Given,
-) -> Result<(), CaseFault> {
+pub fn give<R: Runner>(rt: R, case: &Case, given: &mut Given) -> Result<(), CaseFault> {
     let mut other = Given::new(given.alloc());
     run_in(rt, case, Way::Account, given)?;
     run_in(rt, case, Way::Desk, &mut other)?;

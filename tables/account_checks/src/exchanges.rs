@@ -9,6 +9,7 @@ mod scene;
 ghost use Rattle.std.specs.Prelude.{◌≡◌};
 ghost use Rattle.std.specs.Arc.{arc_value};
 
+use crate::Runner;
 use crate::exchanges::board::{Board, Mood};
 use crate::exchanges::rows::Rows;
 use crate::exchanges::scene::{Scene, Shared};
@@ -19,12 +20,9 @@ use account_lock::{Account, Identity};
 use arn_ids::Checked;
 use case_tables::{Case, CaseFault, Given, Part};
 use long_poll::OneShotBell;
-use std::alloc::{AllocGlobal, Global};
+use std::alloc::Global;
 use std::marker::Brand;
-use std::random::RandomSource;
-use std::sync::{Arc, Wait};
-use std::thread::Threads;
-use std::time::Clock;
+use std::sync::Arc;
 use usage_ledger::{Blanks, KeepNone, Tally};
 
 /// Reads how a board treats calls.
@@ -88,10 +86,7 @@ fn not_opened(line: u64, fault: OpenFault) -> CaseFault {
 type Opened<S> = (Account<S, OneShotBell>, Tally<KeepNone, S>);
 
 /// Runs a case over an account.
-fn play_over_account<
-    R: Wait + Threads + Clock + RandomSource + AllocGlobal + Copy + Send + Sync + Drop,
-    S: Identity + Drop + Send + Sync,
->(
+fn play_over_account<R: Runner, S: Identity + Drop + Send + Sync>(
     rt: R,
     patience: u32,
     rows: Arc<Rows<S>>,
@@ -105,10 +100,7 @@ fn play_over_account<
 }
 
 /// Runs a case over a board.
-fn play_over_board<
-    R: Wait + Threads + Clock + RandomSource + AllocGlobal + Copy + Send + Sync + Drop,
-    S: Identity + Drop + Send + Sync,
->(
+fn play_over_board<R: Runner, S: Identity + Drop + Send + Sync>(
     rt: R,
     patience: u32,
     rows: Arc<Rows<S>>,
@@ -131,10 +123,7 @@ fn play_over_board<
 }
 
 /// Opens a new account, and runs a case over it or over a board.
-fn play<
-    R: Wait + Threads + Clock + RandomSource + AllocGlobal + Copy + Send + Sync + Drop,
-    S: Identity + Drop + Send + Sync,
->(
+fn play<R: Runner, S: Identity + Drop + Send + Sync>(
     rt: R,
     terms: Terms,
     case: &Case,
@@ -188,11 +177,7 @@ fn play<
 ///
 /// For a request, the case gives the reply or the history, or why there is none, or that it
 /// `waits`; then the Next that its connection has open. For a board, it gives the calls at the end.
-pub fn give<R: Wait + Threads + Clock + RandomSource + AllocGlobal + Copy + Send + Sync + Drop>(
-    rt: R,
-    case: &Case,
-    given: &mut Given,
-) -> Result<(), CaseFault> {
+pub fn give<R: Runner>(rt: R, case: &Case, given: &mut Given) -> Result<(), CaseFault> {
     let terms = terms_of(case)?;
     let opening = opening_of(given.alloc(), case)?;
     let blanks = Blanks::new(given.alloc())?;

@@ -19,6 +19,35 @@ use std::sync::Wait;
 use std::thread::Threads;
 use std::time::Clock;
 
+/// What the checks need from the machine that they run on: threads, locks, a clock to sleep by, random
+/// bytes, somewhere to print and memory, by a handle of which each thread has a copy.
+pub trait Runner: Wait
+    + Threads
+    + Clock
+    + RandomSource
+    + Print
+    + AllocGlobal
+    + Copy
+    + Send
+    + Sync
+    + Drop
+    + 'static {}
+
+impl<R> Runner for R
+where
+    R: Wait
+        + Threads
+        + Clock
+        + RandomSource
+        + Print
+        + AllocGlobal
+        + Copy
+        + Send
+        + Sync
+        + Drop
+        + 'static,
+{}
+
 /// The subject of a file's cases.
 #[derive(Clone, Copy)]
 enum Table {
@@ -41,9 +70,7 @@ const TABLES: [(&str, Table); 9] = [
 ];
 
 /// Adds what a case gives.
-fn tell<
-    R: Wait + Threads + Clock + RandomSource + AllocGlobal + Copy + Send + Sync + Drop + 'static,
->(rt: R, table: Table, case: &Case, given: &mut Given) -> Result<(), CaseFault> {
+fn tell<R: Runner>(rt: R, table: Table, case: &Case, given: &mut Given) -> Result<(), CaseFault> {
     let told = match table {
         Table::Accounts => accounts::give(rt, case, given),
         Table::Ledgers => ledgers::give(case, given),
@@ -54,38 +81,24 @@ fn tell<
 }
 
 /// Runs a case of a table, and returns whether it agrees.
-fn run_case<
-    R: Wait
-        + Threads
-        + Clock
-        + RandomSource
-        + Print
-        + AllocGlobal
-        + Copy
-        + Send
-        + Sync
-        + Drop
-        + 'static,
->(rt: R, file: &'static str, table: Table, case: &Case) -> Result<bool, TableFault> {
+fn run_case<R: Runner>(
+    rt: R,
+    file: &'static str,
+    table: Table,
+    case: &Case,
+) -> Result<bool, TableFault> {
     let mut given = Given::new(rt.alloc());
     let came = tell(rt, table, case, &mut given);
     judge_case(&rt, file, case, came, given.as_str())
 }
 
 /// Runs the cases of a table, and returns whether all agree.
-fn run_cases<
-    R: Wait
-        + Threads
-        + Clock
-        + RandomSource
-        + Print
-        + AllocGlobal
-        + Copy
-        + Send
-        + Sync
-        + Drop
-        + 'static,
->(rt: R, file: &'static str, table: Table, cases: &[Case]) -> Result<bool, TableFault> {
+fn run_cases<R: Runner>(
+    rt: R,
+    file: &'static str,
+    table: Table,
+    cases: &[Case],
+) -> Result<bool, TableFault> {
     let mut agree = true;
     for case in cases {
         if !run_case(rt, file, table, case)? {
@@ -99,20 +112,7 @@ fn run_cases<
 }
 
 /// Reads a table, runs its cases, and returns whether all agree.
-fn run_table<
-    R: Wait
-        + Threads
-        + Clock
-        + RandomSource
-        + Files
-        + Print
-        + AllocGlobal
-        + Copy
-        + Send
-        + Sync
-        + Drop
-        + 'static,
->(rt: R, file: &'static str, table: Table) -> Result<bool, TableFault>
+fn run_table<R: Runner + Files>(rt: R, file: &'static str, table: Table) -> Result<bool, TableFault>
 where
     R::File: Read + Drop,
 {
@@ -126,20 +126,7 @@ where
 ///
 /// # Errors
 /// Any `TableFault`; the tables after it are not run.
-pub fn run<
-    R: Wait
-        + Threads
-        + Clock
-        + RandomSource
-        + Files
-        + Print
-        + AllocGlobal
-        + Copy
-        + Send
-        + Sync
-        + Drop
-        + 'static,
->(rt: R) -> Result<bool, TableFault>
+pub fn run<R: Runner + Files>(rt: R) -> Result<bool, TableFault>
 where
     R::File: Read + Drop,
 {

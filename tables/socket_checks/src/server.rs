@@ -9,7 +9,7 @@ use case_tables::{CaseFault, Part};
 use http_front::{Alarm, Host, HostFault, Hosted, Machine, Plan};
 use lambda_wire::read_config;
 use long_poll::{Clock, OneShotBell};
-use request_guard::Hosts;
+use request_guard::KnownHosts;
 use socket_peers::{Progress, number};
 use std::alloc::{AllocError, Global};
 use std::marker::Brand;
@@ -212,7 +212,7 @@ fn run<R: Machine, S: Identity + Drop + Send + Sync + 'static>(
         rt,
         plan,
         clock,
-        Hosts::none(rt.alloc()),
+        KnownHosts::none(rt.alloc()),
         terms.places,
         terms.patience,
         blanks,

@@ -7,27 +7,27 @@ mod request;
 
 use crate::routes::decided::push_decided;
 use crate::routes::methods::push_methods;
-use crate::routes::port::{Door, door_of};
+use crate::routes::port::{PortOfCase, port_of_case};
 use crate::routes::request::{read_body, read_head};
 use bytes::Bytes;
 use case_tables::{Case, CaseFault, Given, Part};
 
 /// Adds the decision about a request with this body, whose head is in these lines of a part.
 fn push_headed(
-    door: &Door,
+    port: &PortOfCase,
     part: &Part,
     lines: &str,
     body: &Bytes,
     given: &mut Given,
 ) -> Result<(), CaseFault> {
     let head = read_head(given.alloc(), part, lines)?;
-    push_decided(door, &head, body, given);
+    push_decided(port, &head, body, given);
     Ok(())
 }
 
 /// Adds the decision about the request in a part; the parts after it may extend its body.
 fn push_request(
-    door: &Door,
+    port: &PortOfCase,
     part: &Part,
     others: &[Part],
     given: &mut Given,
@@ -35,13 +35,13 @@ fn push_request(
     let text = part.lines();
     let (lines, body) = text.split_once("\n\n").unwrap_or((text, ""));
     let body = read_body(given.alloc(), body, others)?;
-    push_headed(door, part, lines, &body, given)
+    push_headed(port, part, lines, &body, given)
 }
 
 /// Adds the decisions about the requests in a part, and returns whether the next part may extend a
 /// body.
 fn push_part(
-    door: &Door,
+    port: &PortOfCase,
     part: &Part,
     others: &[Part],
     has_body: bool,
@@ -49,11 +49,11 @@ fn push_part(
 ) -> Result<bool, CaseFault> {
     match part.word() {
         "request" => {
-            push_request(door, part, others, given)?;
+            push_request(port, part, others, given)?;
             Ok(true)
         }
         "methods" => {
-            push_methods(door, part, given)?;
+            push_methods(port, part, given)?;
             Ok(false)
         }
         _ if has_body => Ok(true),
@@ -62,10 +62,10 @@ fn push_part(
 }
 
 /// Adds the decisions about the requests of a case.
-fn push_requests(door: &Door, parts: &[Part], given: &mut Given) -> Result<(), CaseFault> {
+fn push_requests(port: &PortOfCase, parts: &[Part], given: &mut Given) -> Result<(), CaseFault> {
     let mut has_body = false;
     for place in 0..parts.len() {
-        has_body = push_part(door, &parts[place], &parts[place + 1..], has_body, given)?;
+        has_body = push_part(port, &parts[place], &parts[place + 1..], has_body, given)?;
     }
     Ok(())
 }
@@ -93,6 +93,6 @@ fn cut_part<'c>(
 pub fn give(case: &Case, given: &mut Given) -> Result<(), CaseFault> {
     let (config, parts) = cut_part(case.parts(), "config")?;
     let (port, parts) = cut_part(parts, "port")?;
-    let door = door_of(given.alloc(), config, port)?;
-    push_requests(&door, parts, given)
+    let port = port_of_case(given.alloc(), config, port)?;
+    push_requests(&port, parts, given)
 }

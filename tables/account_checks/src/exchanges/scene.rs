@@ -5,6 +5,7 @@ ghost use Rattle.std.specs.Arc.{arc_value};
 ghost use Rattle.long_poll.specs.Stages.{CanGoOn};
 ghost use Rattle.long_poll.specs.Standing.{Holds};
 
+use crate::Runner;
 use crate::exchanges::asks::{Pieces, ask_in, three_in};
 use crate::exchanges::outcomes::{
     finished, made_at_once, push_collected, push_made, push_open, push_poll, push_three,
@@ -17,13 +18,13 @@ use case_tables::{Case, CaseFault, Given, Part, value_of};
 use http_body_util::BodyExt;
 use lambda_wire::{HeaderMaps, Reply};
 use long_poll::{
-    BellLost, Connection, Exchange, Heard, HistoryBody, OneShotBell, OpenPoll, Poll, Service,
-    declares_too_long,
+    Alarm, Beat, BellLost, Connection, Exchange, Heard, HistoryBody, Line, OneShotBell, OpenPoll,
+    Poll, Service, declares_too_long,
 };
 use std::alloc::{AllocError, AllocGlobal, Global};
 use std::random::RandomSource;
 use std::sync::{Arc, Mutex, Wait};
-use std::thread::{self, Threads};
+use std::thread;
 use std::time::Clock;
 use usage_ledger::{KeepNone, Tally};
 
@@ -129,6 +130,8 @@ impl<
         let own = self.shared.again()?;
         let token = own.service.token(&self.rt);
         let maps = arc_of(self.alloc, HeaderMaps::open(self.alloc)?)?;
+        let beat = arc_of(self.alloc, Beat::new(arc_of(self.alloc, Alarm::new())?))?;
+        let line = arc_of(self.alloc, Line::new(self.alloc))?;
         let connection = Connection::new(
             self.rt,
             self.alloc,
@@ -138,6 +141,9 @@ impl<
             own.tally,
             token,
             open,
+            beat,
+            line,
+            None,
             maps,
             self.patience,
         );
@@ -280,11 +286,11 @@ impl<
 
 /// Polls on another thread for the answer of a runtime's Next, while this thread begins the request
 /// of a part.
-fn poll_across<
-    R: Wait + Threads + Clock + RandomSource + AllocGlobal + Copy + Send + Sync + Drop,
-    X: Service<KeepNone, S> + Send + Sync,
-    S: Identity + Drop + Send + Sync,
->(scene: &Scene<R, X, S>, part: &Part, given: &mut Given) -> Result<(), CaseFault> {
+fn poll_across<R: Runner, X: Service<KeepNone, S> + Send + Sync, S: Identity + Drop + Send + Sync>(
+    scene: &Scene<R, X, S>,
+    part: &Part,
+    given: &mut Given,
+) -> Result<(), CaseFault> {
     let parked = scene.park()?;
     let ticket = parked.ticket;
     let (came, asked) = thread::join(
@@ -321,11 +327,11 @@ const DEEDS: [(&str, Deed); 8] = [
 ];
 
 /// Performs a part of a case.
-fn act<
-    R: Wait + Threads + Clock + RandomSource + AllocGlobal + Copy + Send + Sync + Drop,
-    X: Service<KeepNone, S> + Send + Sync,
-    S: Identity + Drop + Send + Sync,
->(scene: &Scene<R, X, S>, part: &Part, given: &mut Given) -> Result<(), CaseFault> {
+fn act<R: Runner, X: Service<KeepNone, S> + Send + Sync, S: Identity + Drop + Send + Sync>(
+    scene: &Scene<R, X, S>,
+    part: &Part,
+    given: &mut Given,
+) -> Result<(), CaseFault> {
     match value_of(&DEEDS, part.word()) {
         Some(Deed::Opens) => Ok(()),
         Some(Deed::Asks) => scene.ask_all(part, given),
@@ -337,11 +343,11 @@ fn act<
 }
 
 /// Performs the parts of a case, in their order.
-pub fn play<
-    R: Wait + Threads + Clock + RandomSource + AllocGlobal + Copy + Send + Sync + Drop,
-    X: Service<KeepNone, S> + Send + Sync,
-    S: Identity + Drop + Send + Sync,
->(scene: &Scene<R, X, S>, case: &Case, given: &mut Given) -> Result<(), CaseFault> {
+pub fn play<R: Runner, X: Service<KeepNone, S> + Send + Sync, S: Identity + Drop + Send + Sync>(
+    scene: &Scene<R, X, S>,
+    case: &Case,
+    given: &mut Given,
+) -> Result<(), CaseFault> {
     for part in case.parts() {
         act(scene, part, given)?;
     }

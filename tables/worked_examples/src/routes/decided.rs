@@ -3,7 +3,7 @@
 ghost use Rattle.std.specs.Prelude.{◌≡◌, [], ◌∷◌, IfOk};
 ghost use Rattle.call_model.specs.CallCounts.{request_count};
 
-use crate::routes::port::Door;
+use crate::routes::port::PortOfCase;
 use arn_ids::Checked;
 use bytes::Bytes;
 use call_model::{Answers, Call, Entry, Ticket};
@@ -22,12 +22,12 @@ const LONGEST_SHOWN: usize = 1000;
 /// Decides a request at a port.
 pub fn decided(
     alloc: Global,
-    door: &Door,
+    port: &PortOfCase,
     head: &Parts,
     body: &Bytes,
 ) -> Result<Decision, AllocError> {
     let mut scratch = PayloadScratch::new();
-    door.side.decide(alloc, &mut scratch, head, body)
+    port.side.decide(alloc, &mut scratch, head, body)
 }
 
 /// Returns the count in the request identifier of the only call of a history.
@@ -139,9 +139,9 @@ fn push_decision(config: &Checked, decision: Decision, body: &[u8], given: &mut 
 }
 
 /// Adds a port's decision about a request, as a line.
-pub fn push_decided(door: &Door, head: &Parts, body: &Bytes, given: &mut Given) {
-    match decided(given.alloc(), door, head, body) {
-        Ok(decision) => push_decision(&door.config, decision, body.as_slice(), given),
+pub fn push_decided(port: &PortOfCase, head: &Parts, body: &Bytes, given: &mut Given) {
+    match decided(given.alloc(), port, head, body) {
+        Ok(decision) => push_decision(&port.config, decision, body.as_slice(), given),
         Err(_) => given.cut(),
     }
     given.push("\n");

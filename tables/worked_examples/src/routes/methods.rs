@@ -1,7 +1,7 @@
 //! Targets with each method: whether a port has the path, and whether the path accepts the method.
 
 use crate::routes::decided::decided;
-use crate::routes::port::Door;
+use crate::routes::port::PortOfCase;
 use crate::routes::request::head_of;
 use bytes::Bytes;
 use case_tables::{CaseFault, Given, Part};
@@ -25,8 +25,8 @@ fn word_of(decision: &Decision) -> &'static str {
 }
 
 /// Adds the word for the decision about a request with this head and no body.
-fn push_word(door: &Door, head: &Parts, given: &mut Given) {
-    match decided(given.alloc(), door, head, &Bytes::new()) {
+fn push_word(port: &PortOfCase, head: &Parts, given: &mut Given) {
+    match decided(given.alloc(), port, head, &Bytes::new()) {
         Ok(decision) => given.push(word_of(&decision)),
         Err(_) => given.cut(),
     }
@@ -34,25 +34,30 @@ fn push_word(door: &Door, head: &Parts, given: &mut Given) {
 
 /// Adds the word for a method.
 fn push_method(
-    door: &Door,
+    port: &PortOfCase,
     part: &Part,
     method: &str,
     target: &str,
     given: &mut Given,
 ) -> Result<(), CaseFault> {
     let head = head_of(given.alloc(), part, method, target)?;
-    push_word(door, &head, given);
+    push_word(port, &head, given);
     Ok(())
 }
 
 /// Adds the line of a target: a word for each method.
-fn push_target(door: &Door, part: &Part, target: &str, given: &mut Given) -> Result<(), CaseFault> {
+fn push_target(
+    port: &PortOfCase,
+    part: &Part,
+    target: &str,
+    given: &mut Given,
+) -> Result<(), CaseFault> {
     let mut is_first = true;
     for method in part.arguments().split(' ') {
         if !is_first {
             given.push(" ");
         }
-        push_method(door, part, method, target, given)?;
+        push_method(port, part, method, target, given)?;
         is_first = false;
     }
     given.push("\n");
@@ -60,9 +65,9 @@ fn push_target(door: &Door, part: &Part, target: &str, given: &mut Given) -> Res
 }
 
 /// Adds a line for each target of a part.
-pub fn push_methods(door: &Door, part: &Part, given: &mut Given) -> Result<(), CaseFault> {
+pub fn push_methods(port: &PortOfCase, part: &Part, given: &mut Given) -> Result<(), CaseFault> {
     for target in part.lines().split('\n') {
-        push_target(door, part, target, given)?;
+        push_target(port, part, target, given)?;
     }
     Ok(())
 }

@@ -3,13 +3,14 @@
 use crate::accounts::{Account, account_of};
 use arn_ids::Checked;
 use case_tables::{CaseFault, Part};
-use http_routes::{Port, Side};
+use http_routes::Side;
+use service_port::Port;
 use std::alloc::Global;
 use std::sync::Arc;
 
 /// A port, and its configuration.
 #[derive(Drop)]
-pub struct Door {
+pub struct PortOfCase {
     pub config: Arc<Checked>,
     pub side: Side,
 }
@@ -46,12 +47,16 @@ fn open(
 }
 
 /// Opens the port that one part names, of the configuration in another.
-pub fn door_of(alloc: Global, config_part: &Part, port_part: &Part) -> Result<Door, CaseFault> {
+pub fn port_of_case(
+    alloc: Global,
+    config_part: &Part,
+    port_part: &Part,
+) -> Result<PortOfCase, CaseFault> {
     let port = port_of(port_part)?;
     let Account { config, salt } = account_of(alloc, config_part)?;
     let config = Arc::new(alloc, config)?;
     match open(alloc, &config, salt, port, port_part) {
-        Ok(side) => Ok(Door { config, side }),
+        Ok(side) => Ok(PortOfCase { config, side }),
         Err(fault) => Err(fault),
     }
 }

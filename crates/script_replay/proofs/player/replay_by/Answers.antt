@@ -1,8 +1,15 @@
-use Rattle.std.proofs.Common.{◌<◌, length, arith, length-take-le}
+use Rattle.std.proofs.Common.{◌<◌, length, ap, arith, length-take-le}
 use Rattle.std.proofs.lemmas.Result.{err_from_is_err_and, on_ok_weaker, IfErr-weaker}
-use Rattle.script_replay.proofs.ReadingOn.{read_piece, read_kept, read_stopped, read_failed, read_nothing, read_last, last_stopped}
+use Rattle.script_replay.specs.Steps.{Position}
+use Rattle.script_replay.proofs.ReadingOn.{read_piece, read_kept, read_stopped, read_failed, read_first, read_nothing, read_last, last_stopped}
 use Rattle.script_replay.proofs.player.replay_by.Goals.{in-Ok+in_ok-feed-in-Ok, in-Err+else-ne}
 use Rattle.script_replay.proofs.player.replay_by.Goals as goal
+
+pub loop-init : goal.loop-init
+loop-init g c = record {
+  so_far = read_first _ _ _ c.requires.first;
+  line = let is = ap (λ (s : Position). s.line) c.requires.first in omega (arith, is);
+}
 
 pub returns-in-Ok-eq0-clause-ok : goal.returns-in-Ok-eq0-clause-ok
 returns-in-Ok-eq0-clause-ok g c =
@@ -10,7 +17,7 @@ returns-in-Ok-eq0-clause-ok g c =
     let zero = c.in-Ok-eq0.field-0-test in
     let so_far = read_nothing _ _ _ _ _ _ _ _ c.loop.invariant.so_far read.0 zero in
     let some : 0 < length c.read.new.buf = omega (arith, c.in-Ok-eq0.ensures.bound, c.loop.auto.piece, c.read.auto, c.requires.room) in
-    on_ok_weaker c.finish.result (λ last. read_last _ _ _ _ _ _ so_far (read.1 zero some) last) c.finish.ensures.ok
+    on_ok_weaker c.finish.result (λ last. read_last _ _ _ _ _ _ _ so_far (read.1 zero some) last) c.finish.ensures.ok
 
 pub returns-in-Ok-eq0-clause-stopped : goal.returns-in-Ok-eq0-clause-stopped
 returns-in-Ok-eq0-clause-stopped g c =

@@ -1,0 +1,154 @@
+-- What answers a request on a connection of a port answers it at the port.
+use Rattle.std.proofs.Common.{◌≡◌, ◌<◌, ◌⊎◌, ℕ, List, [], length, Option, Some, None, Result, Ok, Err, MatchOption, subst, sym, ap, ◌∙◌, inl, inr}
+use Rattle.std.specs.Arc.{arc_value}
+use Rattle.arn_ids.specs.Limits.{longest_body}
+use Rattle.call_types.specs.declared.call.Call.{Call}
+use Rattle.call_types.specs.declared.call.Entry.{Entry}
+use Rattle.call_types.specs.declared.stats.Stats.{Stats as Counted}
+use Rattle.decisions.specs.declared.decide.Decide as Decide
+use Rattle.decisions.specs.declared.decide.Decision.{Decision}
+use Rattle.decisions.specs.declared.decide.Decision.TheVariants as decided
+use Rattle.decisions.specs.declared.decide.Shown.TheVariants as show
+use Rattle.futures.specs.Runs.{Runs}
+use Rattle.http.specs.declared.request.Parts.{Parts}
+use Rattle.http.specs.declared.response.Response.{Response}
+use Rattle.http_body.specs.declared.frame.Frame.{Frame}
+use Rattle.http_body_util.specs.declared.either.Either.{Either}
+use Rattle.http_body_util.specs.declared.full.Full.{Full}
+use Rattle.http_front.specs.Answered.{IsReplyTo, IsOutcomeOf, IsDecided, IsAnswerAt}
+use Rattle.http_front.specs.Exchanged.{ComesTo, IsAnswer}
+use Rattle.http_front.specs.Responses.{IsAnswerTo, IsRefusal, IsResponseTo}
+use Rattle.http_front.specs.declared.front.Front.{Front}
+use Rattle.http_routes.specs.Decisions.{Served, decision}
+use Rattle.lambda_wire.specs.declared.reply.Reply.{Reply}
+use Rattle.long_poll.specs.Exchanges.{IsOfBody, ComesOf, IsReply}
+use Rattle.long_poll.specs.Lengths.{declares_too_long}
+use Rattle.long_poll.specs.Outcomes.{ShowsFrom}
+use Rattle.long_poll.specs.Reads.{Counts, Reserves}
+use Rattle.long_poll.specs.Replies.{IsReplyAt}
+use Rattle.long_poll.specs.Views.{stats_reply, reservation_reply}
+use Rattle.long_poll.specs.declared.clock.Clock as Clock
+use Rattle.long_poll.specs.declared.connection.Connection.{Connection}
+use Rattle.long_poll.specs.declared.fault.ExchangeFault.{ExchangeFault}
+use Rattle.long_poll.specs.declared.fault.ExchangeFault.TheVariants.{BodyFailed, OutOfMemory, BellLost}
+use Rattle.long_poll.specs.declared.history_body.HistoryBody.{HistoryBody}
+use Rattle.long_poll.specs.declared.outcome.Outcome.{Outcome}
+use Rattle.long_poll.specs.declared.outcome.Outcome.TheVariants as outcome
+use Rattle.long_poll.specs.declared.service.Service as Service
+use Rattle.request_guard.specs.Guarding.{refusal_of}
+use Rattle.service_port.specs.declared.port.Port.{Port}
+use Rattle.request_guard.specs.declared.refusal.Refusal.{Refusal}
+use Rattle.request_guard.specs.declared.refusal.Refusal.TheVariants as refused
+use Rattle.usage_ledger.specs.declared.keep.Keep as Keep
+
+-- it is so of the same bodies
+of_body : {P E : Type 0} (has : P → List ℕ → Type 0) (source : Runs (Result (Frame P) E)) (head : Parts) (held : List ℕ)
+    (is less : List ℕ → Type 0) → ((body : List ℕ) → is body → less body) → IsOfBody has source head held is
+    → IsOfBody has source head held less
+of_body has source head held is less weaken (inl x) = inl (x.0, x.1, weaken x.0 x.2)
+of_body has source head held is less weaken (inr x) = inr (x.0, λ body long. weaken body (x.1 body long))
+
+-- On a connection of an account and a decider whose relations are those of the port.
+module _ {R S D N K L B P E : Type 0} {service : Service.Ghosts S K L} {decider : Decide.Ghosts D}
+    {keep : Keep.Ghosts K} (clock : Clock.Ghosts N) (yields : B → Runs (Result (Frame P) E))
+    (has : P → List ℕ → Type 0) (front : Front R S D N K L service decider keep) (served : Served)
+    (most : ℕ)
+    (replies : (call : Call) (reply : Reply) (token : List Entry)
+    → IsReply (arc_value front.connection) clock (decided.Submit call) reply token
+    → IsReplyAt served.config most served.salt call reply token)
+    (counts : (seen : List Entry) (stats : Counted) (then : List Entry)
+    → service.counts (arc_value (arc_value front.connection).service) seen stats then
+    → Counts served.config most seen stats then)
+    (reserves : (seen : List Entry) (f : ℕ) (count : Option ℕ) (then : List Entry)
+    → service.reserves (arc_value (arc_value front.connection).service) seen f count then
+    → Reserves served.config most seen f count then)
+    (decides : (head : Parts) (body : List ℕ) (made : Decision)
+    → decider.decides (arc_value (arc_value front.connection).decider) head body made
+    → made ≡ decision served head body) where
+  abbrev connection : Connection R S D N K L service decider keep
+  connection = arc_value front.connection
+
+  abbrev H : Type 0
+  H = HistoryBody R S K L
+
+  reply_to : (made : Decision) (reply : Reply) (token : List Entry) → IsReply connection clock made reply token
+      → IsReplyTo served.config most served.salt made reply token
+  reply_to (decided.Submit call) reply token x = replies call reply token x
+  reply_to (decided.Reply own) reply token x = x
+  reply_to (decided.Show show.Stats) reply token x =
+      let counted = counts x.1.0 x.0 token x.1.1 in
+      (counted.0.reached, x.2 ∙ ap stats_reply counted.1)
+  reply_to (decided.Show (show.History from)) reply token x = x
+  reply_to (decided.Show (show.Reservation f)) reply token x =
+      let reserved = reserves x.1.0 f x.0 token x.1.1 in
+      (reserved.0.reached, x.2 ∙ ap reservation_reply reserved.1)
+
+  outcome_of : (shows : Option ℕ → H → Type 0) (head : Parts) (body : List ℕ) (given : Outcome H L)
+      → ComesOf connection clock shows head body (Ok given) → IsOutcomeOf L shows served most (decision served head body) given
+  outcome_of shows head body (outcome.Reply reply token) x =
+      subst (λ made. IsReplyTo served.config most served.salt made reply token) (decides head body x.0 x.1)
+      (reply_to x.0 reply token x.2)
+  outcome_of shows head body (outcome.History shown) x =
+      (x.0, sym (decides head body (decided.Show (show.History x.0)) x.1), x.2)
+
+  module _ (hosts : List ℕ) (head : Parts) (response : Response (Either (Full (List ℕ)) H)) where
+    abbrev shows : Option ℕ → H → Type 0
+    shows = ShowsFrom (arc_value connection.service)
+
+    abbrev Exchanged : Port → Type 0
+    Exchanged at =
+        (made : Result (Outcome H L) ExchangeFault) × ComesTo clock yields has front head made × IsAnswerTo at (declares_too_long head) made response
+
+    exchanged : (made : Result (Outcome H L) ExchangeFault) → ComesTo clock yields has front head made
+        → IsAnswerTo served.port (declares_too_long head) made response
+        → IsRefusal served.port (declares_too_long head) refused.BrokenBody response
+        ⊎ (IsRefusal served.port (declares_too_long head) refused.OutOfMemory response
+        ⊎ IsDecided L shows served most yields has hosts head response)
+    exchanged (Ok given) x answer =
+        inr (inr (
+          x.0,
+          given,
+          of_body
+              has
+              (yields x.0)
+              head
+              []
+              (λ body. ComesOf connection clock shows head body (Ok given))
+              (λ body. IsOutcomeOf L shows served most (decision served head body) given)
+              (λ body. outcome_of shows head body given)
+              x.1,
+          answer,
+        ))
+    exchanged (Err BodyFailed) x answer = inl answer
+    exchanged (Err OutOfMemory) x answer = inr (inl answer)
+    exchanged (Err BellLost) x answer = absurd answer
+
+    guarded : (guard : Option Refusal)
+        → MatchOption guard (IsRefusal served.port (declares_too_long head) refused.OutOfMemory response ⊎ Exchanged served.port)
+        (λ refusal. IsRefusal served.port (declares_too_long head) refusal response)
+        → MatchOption guard
+        (IsRefusal served.port (declares_too_long head) refused.BrokenBody response
+        ⊎ (IsRefusal served.port (declares_too_long head) refused.OutOfMemory response
+        ⊎ IsDecided L shows served most yields has hosts head response))
+        (λ refusal. IsRefusal served.port (declares_too_long head) refusal response)
+    guarded (Some refusal) x = x
+    guarded None (inl x) = inr (inl x)
+    guarded None (inr x) = exchanged x.0 x.1 x.2
+
+    pub at_port : (account : S) → arc_value connection.service ≡ account → front.port ≡ served.port
+        → arc_value front.hosts ≡ hosts → IsAnswer clock yields has front head response
+        → IsAnswerAt L (ShowsFrom account) served most yields has hosts head response
+    at_port account same at listed x =
+        let of_hosts : MatchOption (refusal_of hosts head) (IsRefusal front.port (declares_too_long head) refused.OutOfMemory response ⊎ Exchanged front.port)
+        (λ refusal. IsRefusal front.port (declares_too_long head) refusal response)
+        = subst (λ h. MatchOption (refusal_of h head)
+        (IsRefusal front.port (declares_too_long head) refused.OutOfMemory response ⊎ Exchanged front.port)
+        (λ refusal. IsRefusal front.port (declares_too_long head) refusal response)) listed x in
+        let of_api : MatchOption (refusal_of hosts head)
+        (IsRefusal served.port (declares_too_long head) refused.OutOfMemory response ⊎ Exchanged served.port)
+        (λ refusal. IsRefusal served.port (declares_too_long head) refusal response)
+        = subst (λ a. MatchOption (refusal_of hosts head)
+        (IsRefusal a (declares_too_long head) refused.OutOfMemory response ⊎ Exchanged a) (λ refusal. IsRefusal a (declares_too_long head) refusal response))
+        at of_hosts in
+        subst (λ a. IsAnswerAt L (ShowsFrom a) served most yields has hosts head response) same
+        (guarded (refusal_of hosts head) of_api)

@@ -1,0 +1,29 @@
+use Rattle.std.proofs.Common.{rules, ◌≡◌, ◌∙◌, subst, sym}
+use Rattle.std.specs.Arc.{arc_value}
+use Rattle.http_front.proofs.Answering.{weakened}
+use Rattle.http_front.proofs.AtPorts.{at_port}
+use Rattle.http_routes.specs.Decisions.{decision}
+use Rattle.long_poll.specs.Reads.{Counts, Reserves}
+use Rattle.long_poll.specs.Replies.{IsReplyAt}
+use Rattle.http_front.proofs.worker.Worker.serve_socket.Goals as goal
+
+pub returns : goal.returns
+returns g c =
+    let front = c.in-Ok-front.front in
+    let served = c.args.job.served in
+    let configured : g.S.Identity.config ≡ served.config = search rules in
+    let salted : g.S.Identity.salt ≡ served.salt = search rules in
+    let decider : arc_value (arc_value front.connection).decider ≡ served = search rules in (
+      c.serve_by.ensures.same ∙ c.in-Ok-watch.ensures.name,
+      weakened _ _ _ _
+          (λ head response x. at_port _ _ _ front served g.S.Identity.most
+          (λ call reply token r. subst (λ s. IsReplyAt served.config g.S.Identity.most s call reply token) salted
+          (subst (λ k. IsReplyAt k g.S.Identity.most g.S.Identity.salt call reply token) configured
+          ((rw c.deref-2.ensures at c.replies.ensures) call reply token r)))
+          (λ seen stats then r. subst (λ k. Counts k g.S.Identity.most seen stats then) configured r)
+          (λ seen f count then r. subst (λ k. Reserves k g.S.Identity.most seen f count then) configured r)
+          (λ head body made d. subst (λ side. made ≡ decision side head body) decider d)
+          (arc_value c.args.self.now.common.hosts) head response
+          (arc_value c.args.self.now.common.account) (search rules) (search rules) (search rules) x)
+          c.serve_by.result.io _ c.serve_by.ensures.written,
+    )

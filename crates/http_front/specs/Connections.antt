@@ -1,0 +1,34 @@
+-- What was written to a connection that a thread attended.
+use Rattle.std.specs.Prelude.{◌≡◌, ℕ, List, Result, Ok, Err}
+use Rattle.std.specs.Arc.{arc_value}
+use Rattle.account_lock.specs.declared.account.Account.{Account}
+use Rattle.futures.specs.Runs.{Runs}
+use Rattle.http_body.specs.declared.frame.Frame.{Frame}
+use Rattle.http_body_util.specs.declared.either.Either.{Either}
+use Rattle.http_body_util.specs.declared.full.Full.{Full}
+use Rattle.http_connection.specs.Written.{Written, outcome_of}
+use Rattle.http_connection.specs.Wires.{name_of}
+use Rattle.http_connection.specs.declared.event_loop.Ended.{Ended}
+use Rattle.http_connection.specs.declared.wire.Wire.{Wire}
+use Rattle.http_front.specs.Answered.{IsAnswerAt}
+use Rattle.http_front.specs.declared.common.Common.{Common}
+use Rattle.http_routes.specs.Decisions.{Served}
+use Rattle.long_poll.specs.Outcomes.{ShowsFrom}
+use Rattle.long_poll.specs.declared.bell.OneShotBell.{OneShotBell}
+use Rattle.long_poll.specs.declared.history_body.HistoryBody.{HistoryBody}
+use Rattle.socket_loop.specs.Halves.{name_of_unused}
+use Rattle.socket_loop.specs.declared.unused.Unused.{Unused}
+
+-- The bodies of responses and those of requests yield frames, and the data of a frame has bytes.
+module _ {R S N K L B P X E : Type 0}
+    (sends : Either (Full (List ℕ)) (HistoryBody R (Account S OneShotBell) K L) → Runs (Result (Frame P) X))
+    (yields : B → Runs (Result (Frame P) E)) (has : P → List ℕ → Type 0) (common : Common S N)
+    (served : Served) (most name : ℕ) where
+  -- A connection at this port, over the socket of this name, came to this. It is the same socket, and each response that
+  -- it took answers its request: as this port does within this limit, with the account and the hosts that the threads
+  -- have in common. Or it was closed before anything was written to it.
+  abbrev pub IsServed : Result (Ended Wire) Unused → Type 0
+  IsServed (Ok ended) = (name_of ended.io ≡ name) × Written sends has
+      (IsAnswerAt L (ShowsFrom (arc_value common.account)) served most yields has (arc_value common.hosts))
+      ended.io (outcome_of ended.outcome)
+  IsServed (Err unused) = name_of_unused unused ≡ name

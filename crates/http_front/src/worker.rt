@@ -1,0 +1,380 @@
+//! The thread of a place, which serves one connection after the other.
+
+ghost use Rattle.std.specs.Prelude.{◌≡◌, IfErr, IfOk, OnOk};
+ghost use Rattle.std.specs.Arc.{arc_value};
+ghost use Rattle.account_lock.specs.Submits.{IsTurnedAway};
+ghost use Rattle.call_types.specs.declared.call.Call.TheVariants.{Withdraw};
+ghost use Rattle.http_connection.specs.Wires.{IsFresh, name_of};
+ghost use Rattle.http_connection.specs.Written.{Written, outcome_of};
+ghost use Rattle.http_front.specs.Connections.{IsServed};
+ghost use Rattle.http_front.specs.Exchanged.{IsAnswer};
+ghost use Rattle.http_front.specs.Withdrawn.{IsWithdrawn};
+ghost use Rattle.socket_loop.specs.Halves.{name_of_accepted, name_of_unused};
+
+use crate::common::Common;
+use crate::deciders::Deciders;
+use crate::front::Front;
+use crate::served_port::ServedPort;
+use crate::{Port, Rousing, Side};
+use account_book::Refusal;
+use account_lock::{Account, Identity};
+use arn_ids::FnNo;
+use bytes::Bytes;
+use call_model::{Call, Ticket};
+use connection_places::{Post, WorkerThread};
+use connection_state::{Pulse, Signals};
+use decisions::Decide;
+use http_body::Body;
+use http_body_util::{Either, Full};
+use http_connection::{Ended, Ends, EventLoop, Machine, Park, Wire};
+use hyper::body::Incoming;
+use long_poll::{Clock, Connection, HistoryBody, OneShotBell, OpenPoll, Service, laws, moment};
+use socket_loop::{Accepted, Unused};
+use std::alloc::{AllocError, AllocGlobal};
+use std::sync::{Arc, Mutex, Wait};
+use std::{io, thread, time};
+use usage_ledger::{Keep, Ledgers, Tally, Token};
+
+/// The stack of a thread, in bytes. The deepest chain of calls takes some 80 KB.
+const STACK: usize = 512 * 1024;
+
+/// The note of a connection's open Next, by which its socket's end is watched.
+#[derive(Drop)]
+struct OpenNext {
+    open: Arc<OpenPoll>,
+}
+
+impl Park for OpenNext {
+    fn is_parked(&self) -> bool {
+        self.open.ticket().is_some()
+    }
+}
+
+/// An accepted connection that no thread serves yet: its socket, the signals that end it, and the
+/// pulse that publishes its state.
+#[derive(Drop)]
+pub(crate) struct PendingConnection {
+    pub(crate) socket: Accepted,
+    pub(crate) signals: Signals,
+    pub(crate) pulse: Arc<Pulse>,
+}
+
+/// A connection to serve, and its port.
+#[derive(Drop)]
+pub(crate) struct Job<S: Identity> {
+    pub(crate) pending: PendingConnection,
+    pub(crate) served: ServedPort<S>,
+}
+
+impl<S: Identity + Drop> Job<S> {
+    /// Closes the connection because an allocation failed, before anything was written to it.
+    fn close(self) -> Unused
+        ensures { name_of_unused result ≡ name_of_accepted self.pending.socket }
+    {
+        let Job { pending, .. } = self;
+        pending.socket.close(AllocError.into())
+    }
+}
+
+/// What a thread needs to serve its connections: its event loop, the decider of the last one's
+/// requests, and its token, which has seen a beginning of the account's history.
+#[derive(Drop)]
+struct Tools<S: Identity> {
+    event_loop: EventLoop,
+    deciders: Deciders<S>,
+    token: Token<S>,
+}
+
+impl<S: Identity> Tools<S> {
+    /// Opens them for the present thread, for connections to this account.
+    fn open<R: Machine>(rt: &R, account: &Account<S, OneShotBell>) -> io::Result<Tools<S>> {
+        match EventLoop::open(rt) {
+            Ok(event_loop) => Ok(Tools {
+                event_loop,
+                deciders: Deciders::new(),
+                token: account.token(rt),
+            }),
+            Err(fault) => Err(fault),
+        }
+    }
+}
+
+/// Serves the connections of a place. It has what the threads have in common, the place with the
+/// tally in which the calls count, and the most milliseconds for which a premature call is held
+/// back.
+#[derive(Drop)]
+pub(crate) struct Worker<R, S: Identity, N, K: Keep> {
+    pub(crate) rt: R,
+    pub(crate) common: Common<S, N>,
+    pub(crate) post: Post<Tally<K, S>, Job<S>>,
+    pub(crate) patience: u32,
+}
+
+/// Serves a connection at this port with a front. Returns its socket, and how it ended, if
+/// it ended by itself: each response that the socket took is one with which the front answers its
+/// request. The service and the decider are parameters here: their own types, repeated in each of
+/// those that `hyper` makes of a connection, are too large for a proof.
+fn serve_by<
+    R: Machine,
+    A: Service<K, L>,
+    D: Decide + Drop,
+    N: Clock + Drop,
+    O: Park,
+    K: Keep,
+    L: Ledgers,
+>(
+    event_loop: &mut EventLoop,
+    rt: &R,
+    ends: Ends,
+    port: Port,
+    front: Front<R, A, D, N, K, L>,
+    signals: Signals,
+    open: O,
+    pulse: Arc<Pulse>,
+) -> Ended<Wire>
+    requires { IsFresh ends.wire }
+    ensures written { Written ⟦<Either<Full<Bytes>, HistoryBody<R, A, K, L>> as Body>⟧.yields ⟦<Bytes as Into<Bytes>>⟧.converts
+        (IsAnswer N.Clock ⟦<Incoming<Wire> as Body>⟧.yields ⟦<Bytes as Into<Bytes>>⟧.converts front)
+        result.io (outcome_of result.outcome) }
+    ensures same { name_of result.io ≡ name_of ends.wire }
+{
+    event_loop.serve(rt, ends, port, front, signals, open, pulse)
+}
+
+impl<
+    R: Machine,
+    S: Identity + Drop + Send + Sync + 'static,
+    N: Clock + Drop + Send + Sync + 'static,
+    K: Keep + Send + 'static,
+> Worker<R, S, N, K> {
+    /// Starts the thread, with its first connection. If no thread can be made, the connection is
+    /// closed.
+    pub(crate) fn start(self, first: Job<S>) -> Option<WorkerThread<Job<S>>> {
+        let rt = self.rt;
+        let Ok(mailbox) = Arc::try_clone(&self.post.mailbox) else {
+            return None;
+        };
+        let builder = thread::Builder::new().stack_size(STACK);
+        match builder.spawn(&rt, move || self.work(first)) {
+            Ok(thread) => Some(WorkerThread { thread, mailbox }),
+            Err(_) => None,
+        }
+    }
+}
+
+impl<R: Machine, S: Identity + Drop, N: Clock + Drop, K: Keep> Worker<R, S, N, K> {
+    /// Serves this connection and those that follow, until none follows. If the event loop cannot
+    /// be opened, or fails, the place is left earlier.
+    fn work(self, first: Job<S>) {
+        if !self.serve_all(first) {
+            self.post.leave(&self.rt);
+        }
+    }
+
+    /// Serves this connection and those that follow, with tools of this thread. Returns whether it
+    /// ended because none followed.
+    fn serve_all(&self, first: Job<S>) -> bool {
+        match Tools::open(&self.rt, &*self.common.account) {
+            Ok(mut tools) => self.serve_in_turn(&mut tools, first),
+            Err(_) => false,
+        }
+    }
+
+    /// Serves this connection and those that follow, one after the other. Returns whether it ended
+    /// because none followed.
+    fn serve_in_turn(&self, tools: &mut Tools<S>, first: Job<S>) -> bool {
+        let mut job = first;
+        for _ in self.rt.forever() {
+            let Ok(Ended { outcome: Ok(_), .. }) = self.serve(tools, job) else {
+                return false;
+            };
+            match self.post.next(&self.rt) {
+                Some(next) => job = next,
+                None => return true,
+            }
+        }
+        unreachable!()
+    }
+
+    /// Serves a connection, withdraws its open Next (Runtime API, Next invocation), and notes that the
+    /// last step of a connection was made.
+    /// Returns its socket, and how it ended, if it ended by itself: each response that the socket took
+    /// answers its request at the connection's own port.
+    ///
+    /// # Errors
+    /// If the connection cannot be served. Its socket is then closed, and nothing was written to it.
+    fn serve(&self, tools: &mut Tools<S>, job: Job<S>) -> Result<Ended<Wire>, Unused>
+        ensures { IsServed ⟦<Either<Full<Bytes>, HistoryBody<R, Account<S, OneShotBell>, K, S>> as Body>⟧.yields
+            ⟦<Incoming<Wire> as Body>⟧.yields ⟦<Bytes as Into<Bytes>>⟧.converts
+            self.now.common job.served S.most (name_of_accepted job.pending.socket) result }
+    {
+        let Ok(open) = Arc::new(self.rt.alloc(), OpenPoll::new()) else {
+            return Err(job.close());
+        };
+        let ended = self.serve_socket(tools, job, &open);
+        if let Some(ticket) = open.ticket() {
+            let _ = self.withdraw(&mut tools.token, ticket);
+        }
+        self.common.beat.note_step();
+        ended
+    }
+
+    /// Serves a connection. Returns its socket, and how it ended, if it ended by itself.
+    ///
+    /// # Errors
+    /// If the connection cannot be served. Its socket is then closed, and nothing was written to it.
+    fn serve_socket(
+        &self,
+        tools: &mut Tools<S>,
+        job: Job<S>,
+        open: &Arc<OpenPoll>,
+    ) -> Result<Ended<Wire>, Unused>
+        ensures { IsServed ⟦<Either<Full<Bytes>, HistoryBody<R, Account<S, OneShotBell>, K, S>> as Body>⟧.yields
+            ⟦<Incoming<Wire> as Body>⟧.yields ⟦<Bytes as Into<Bytes>>⟧.converts
+            self.now.common job.served S.most (name_of_accepted job.pending.socket) result }
+    {
+        let Job { pending, served } = job;
+        let PendingConnection {
+            socket,
+            signals,
+            pulse,
+        } = pending;
+        let port = served.port();
+        let Ok(parked) = self.parked(open) else {
+            return Err(socket.close(AllocError.into()));
+        };
+        let token = self.common.account.again(&mut tools.token);
+        let front = match self.front(&mut tools.deciders, token, served, open) {
+            Ok(front) => front,
+            Err(refused) => return Err(socket.close(refused.into())),
+        };
+        let ends = match tools.event_loop.watch(&self.rt, socket) {
+            Ok(ends) => ends,
+            Err(unused) => return Err(unused),
+        };
+        laws::replies(&*front.connection);
+        Ok(serve_by(
+            &mut tools.event_loop,
+            &self.rt,
+            ends,
+            port,
+            front,
+            signals,
+            parked,
+            pulse,
+        ))
+    }
+}
+
+impl<
+    R: Wait + time::Clock + AllocGlobal + Copy + Drop,
+    S: Identity + Drop,
+    N: Clock + Drop,
+    K: Keep,
+> Worker<R, S, N, K> {
+    /// Returns the front of a connection at a port: of the same account, with the decider of
+    /// that port.
+    fn front(
+        &self,
+        deciders: &mut Deciders<S>,
+        token: Token<S>,
+        served: ServedPort<S>,
+        open: &Arc<OpenPoll>,
+    ) -> Result<Front<R, Account<S, OneShotBell>, Side, N, K, S>, AllocError>
+        ensures guarded { IfOk result (λ front. (front.port ≡ served.port)
+            × (arc_value front.hosts ≡ arc_value self.now.common.hosts)) }
+        ensures account { IfOk result (λ front.
+            arc_value (arc_value front.connection).service ≡ arc_value self.now.common.account) }
+        ensures decided { IfOk result (λ front. arc_value (arc_value front.connection).decider ≡ served) }
+        ensures named { IfOk result (λ front. (served.config ≡ S.config) × (served.salt ≡ S.salt)) }
+    {
+        let alloc = self.rt.alloc();
+        let port = served.port();
+        let function = served.function();
+        let hosts = Arc::try_clone(&self.common.hosts)?;
+        let rousing = self.rousing()?;
+        let Ok(decider) = deciders.of(alloc, served) else {
+            return Err(AllocError);
+        };
+        match self.connection(decider, token, function, open) {
+            Ok(connection) => Ok(Front::new(alloc, port, hosts, rousing, connection)),
+            Err(refused) => Err(refused),
+        }
+    }
+
+    /// Returns the note of a connection's open Next.
+    fn parked(&self, open: &Arc<OpenPoll>) -> Result<OpenNext, AllocError> {
+        Ok(OpenNext {
+            open: Arc::try_clone(open)?,
+        })
+    }
+
+    /// Returns what the front of a connection does before each request.
+    fn rousing(&self) -> Result<Rousing<R, N>, AllocError> {
+        let clock = Arc::try_clone(&self.common.clock)?;
+        let beat = Arc::try_clone(&self.common.beat)?;
+        Ok(Rousing::new(self.rt, clock, beat))
+    }
+
+    /// Returns what the exchanges of a connection share, with a token of its own. The function is that of
+    /// the environment at whose port the connection came.
+    fn connection(
+        &self,
+        decider: Arc<Side>,
+        token: Token<S>,
+        function: Option<FnNo>,
+        open: &Arc<OpenPoll>,
+    ) -> Result<Arc<Connection<R, Account<S, OneShotBell>, Side, N, K, S>>, AllocError>
+        requires { (arc_value decider).config ≡ S.config }
+        ensures account { IfOk result (λ connection.
+            arc_value (arc_value connection).service ≡ arc_value self.now.common.account) }
+        ensures decider { IfOk result (λ connection. (arc_value connection).decider ≡ decider) }
+    {
+        let Common {
+            account,
+            clock,
+            maps,
+            beat,
+            line,
+            ..
+        } = self.common.share()?;
+        let tally = Arc::try_clone(&self.post.tally)?;
+        let open = Arc::try_clone(open)?;
+        let alloc = self.rt.alloc();
+        let connection = Connection::new(
+            self.rt,
+            alloc,
+            account,
+            decider,
+            clock,
+            tally,
+            token,
+            open,
+            beat,
+            line,
+            function,
+            maps,
+            self.patience,
+        );
+        Arc::new(alloc, connection).map_err(AllocError::from)
+    }
+
+    /// Withdraws the Next with this ticket.
+    ///
+    /// # Errors
+    /// If that is refused. The Next then stays pending.
+    fn withdraw(&self, token: &mut Token<S>, ticket: Ticket) -> Result<(), Refusal>
+        ensures taken { OnOk result (IsWithdrawn S.config S.most token.old ticket token.new) }
+        ensures refused { IfErr result (λ refusal.
+            IsTurnedAway S.config S.most token.old (Withdraw ticket) refusal token.new) }
+    {
+        let now = moment(&*self.common.clock);
+        let mut tally = self.post.tally.lock(&self.rt);
+        let withdraw = Call::Withdraw { ticket };
+        let account = &*self.common.account;
+        match account.submit(&self.rt, &mut tally, token, now, withdraw, None) {
+            Ok(_) => Ok(()),
+            Err(refused) => Err(refused.refusal),
+        }
+    }
+}

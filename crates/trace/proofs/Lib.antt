@@ -1,0 +1,13 @@
+-- What is told, token by token.
+mod Telling
+-- The names of functions.
+mod Names
+-- The history before an entry.
+mod Earlier
+-- The environments before any call and after an entry.
+mod Opening
+mod Following
+-- The line of an entry.
+mod Lines
+-- Reading the calls back.
+mod ReadBack

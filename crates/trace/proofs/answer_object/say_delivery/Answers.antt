@@ -1,0 +1,4 @@
+use Rattle.trace.proofs.answer_object.say_delivery.Goals as goal
+
+pub returns : goal.returns
+returns c = rw (c.body_of.ensures, c.request_part.ensures) at c.say_around.ensures

@@ -1,0 +1,70 @@
+-- The environments of a history, as a follower keeps them.
+use Rattle.std.specs.Prelude.{ℕ, ◌+◌, ◌<◌, ◌^◌, if◌then◌else◌, List, [], ◌∷◌, map}
+use Rattle.arn_ids.specs.declared.config.Config.{Config}
+use Rattle.arn_ids.specs.Environments.{environments, function_of}
+use Rattle.call_types.specs.declared.call.Call.{Call}
+use Rattle.call_types.specs.declared.call.Entry.{Entry}
+use Rattle.call_model.specs.History.{requests, is_invoke_of}
+use Rattle.call_model.specs.Life.{phase}
+use Rattle.environment_step.specs.After.{Step}
+use Rattle.env_phase.specs.Meeting.{known_at}
+use Rattle.env_phase.specs.Taking.{taken, registered_name, IsShort}
+use Rattle.trace.specs.declared.arrival.Arrival.{Arrival}
+use Rattle.trace.specs.declared.reach.Reach.{Reach}
+use Rattle.trace.specs.declared.site.Site.{Site}
+use Rattle.trace.specs.Object.{Turn}
+use Rattle.trace.specs.Reaches.{reaches}
+
+-- A history without its newest entry.
+abbrev pub older : List Entry → List Entry
+older [] = []
+older (entry ∷ h) = h
+
+-- An environment after a history, and its phase before the newest entry.
+abbrev pub site : Config → List Entry → ℕ → Site
+site config h e = record {
+  number = e;
+  function = function_of config e;
+  requests = requests h (function_of config e);
+  before = phase config (older h) e;
+  environment = known_at config h e;
+}
+
+-- All environments after a history, in the order of their numbers.
+abbrev pub sites : Config → List Entry → List Site
+sites config h = map (site config h) (environments config)
+
+-- How many Invokes an environment's function has had, a call included.
+abbrev pub counted : Call → Site → ℕ
+counted call s = (if is_invoke_of s.function call then 1 else 0) + s.requests
+
+-- What a call brings to an environment.
+abbrev pub step : ℕ → ℕ → Call → Site → Step
+step ticket moment call s = record { ticket = ticket; now = moment; count = counted call s }
+
+-- An environment after a call with this ticket, moment and reach, whether the call reaches it or not.
+abbrev pub visited_by : ℕ → ℕ → Reach → Call → Site → Site
+visited_by ticket moment reach call s = record {
+  number = s.number;
+  function = s.function;
+  requests = counted call s;
+  before = s.environment.stand.phase;
+  environment =
+      if reaches reach s.number then taken s.environment (step ticket moment call s) call else s.environment;
+}
+
+-- An environment after a call that arrives.
+abbrev pub visited : Arrival → Site → Site
+visited arrival s = visited_by arrival.ticket arrival.moment arrival.reach arrival.call.now s
+
+-- The environment's counts are so small that there is room for more.
+abbrev pub IsFew : Site → Type 0
+IsFew s = (s.environment.stand.events < 2 ^ 52) × (s.environment.stand.registrations < 2 ^ 52) × (s.requests < 2 ^ 52)
+
+-- What the newest entry made of an environment.
+abbrev pub turn_of : Site → Turn
+turn_of s = record { environment = s.number; before = s.before; after = s.environment.stand.phase }
+
+-- An entry that a follower can follow: its moment and the name in a Register are in their ranges.
+abbrev pub IsFit : Entry → Type 0
+IsFit entry = (entry.moment < 2 ^ 53) × IsShort (registered_name entry.call)

@@ -1,0 +1,298 @@
+//! The object of a call.
+
+ghost use Rattle.std.specs.Prelude.{◌≡◌, ◌∷◌, [], codes};
+ghost use Rattle.arn_ids.specs.Environments.{function_at};
+ghost use Rattle.trace.specs.CallObject.{call_object, report};
+ghost use Rattle.trace.specs.CallObject as spec;
+ghost use Rattle.trace.specs.Members.{object, body_member, flag_member, number_member, text_member, number_if};
+ghost use Rattle.trace.specs.Telling.{Tells};
+
+use crate::teller::{Part, Teller};
+use arn_ids::{Checked, EnvNo, FnNo, Text};
+use call_model::Call;
+
+/// Returns the name of a function; an empty one if there is no function with this number.
+#[tactic(auto, using(crate::proofs::Names::no_name))]
+fn name_of(config: &Checked, function: FnNo) -> &str
+    ensures { result.now ≡ (function_at config.now function).name }
+{
+    let functions = config.functions();
+    if function == 0 {
+        return "";
+    }
+    if function as usize > functions.len() {
+        return "";
+    }
+    config.function(function).name.as_str()
+}
+
+fn say_invoke<'a>(
+    teller: &mut Teller,
+    name: &'a str,
+    qualified: bool,
+    trace: &'a Option<Text>,
+    bodies: bool,
+    body: &[u8],
+)
+    ensures { Tells (object (body_member bodies body.now ∷ text_member (codes "function") name.now
+        ∷ spec.kind (codes "invoke") ∷ flag_member (codes "qualified") qualified ∷ spec.trace_if trace.now ∷ []))
+        teller.old teller.new }
+{
+    match trace {
+        None => teller.say_around(
+            &[Part::Open],
+            bodies,
+            body,
+            &[
+                Part::Key("function"),
+                Part::Text(name),
+                Part::Key("kind"),
+                Part::Text("invoke"),
+                Part::Key("qualified"),
+                Part::Flag(qualified),
+                Part::Close,
+            ],
+        ),
+        Some(trace) => teller.say_around(
+            &[Part::Open],
+            bodies,
+            body,
+            &[
+                Part::Key("function"),
+                Part::Text(name),
+                Part::Key("kind"),
+                Part::Text("invoke"),
+                Part::Key("qualified"),
+                Part::Flag(qualified),
+                Part::Key("trace"),
+                Part::Text(trace.as_str()),
+                Part::Close,
+            ],
+        ),
+    }
+}
+
+fn say_report<'a>(
+    teller: &mut Teller,
+    bodies: bool,
+    word: &'a str,
+    named: &'a str,
+    env: EnvNo,
+    count: u64,
+    body: &[u8],
+)
+    ensures { Tells (report bodies word.now named.now env count body.now) teller.old teller.new }
+{
+    teller.say_around(
+        &[Part::Open],
+        bodies,
+        body,
+        &[
+            Part::Key("environment"),
+            Part::Number(u64::from(env)),
+            Part::Key(named),
+            Part::Number(count),
+            Part::Key("kind"),
+            Part::Text(word),
+            Part::Close,
+        ],
+    )
+}
+
+fn say_init_failure(teller: &mut Teller, bodies: bool, env: EnvNo, body: &[u8])
+    ensures { Tells (object (body_member bodies body.now ∷ spec.environment env
+        ∷ spec.kind (codes "init-failure") ∷ [])) teller.old teller.new }
+{
+    teller.say_around(
+        &[Part::Open],
+        bodies,
+        body,
+        &[
+            Part::Key("environment"),
+            Part::Number(u64::from(env)),
+            Part::Key("kind"),
+            Part::Text("init-failure"),
+            Part::Close,
+        ],
+    )
+}
+
+/// Tells a call that has no more than its kind.
+fn say_kind(teller: &mut Teller, word: &str)
+    ensures { Tells (object (spec.kind word.now ∷ [])) teller.old teller.new }
+{
+    teller.say_all(&[Part::Open, Part::Key("kind"), Part::Text(word), Part::Close]);
+}
+
+/// Tells a call that names an environment alone.
+fn say_environment(teller: &mut Teller, word: &str, env: EnvNo)
+    ensures { Tells (object (spec.environment env ∷ spec.kind word.now ∷ [])) teller.old teller.new }
+{
+    teller.say_all(&[
+        Part::Open,
+        Part::Key("environment"),
+        Part::Number(u64::from(env)),
+        Part::Key("kind"),
+        Part::Text(word),
+        Part::Close,
+    ]);
+}
+
+/// Tells a call that names an environment, and an invocation or an extension there.
+fn say_counted<'a>(teller: &mut Teller, word: &'a str, named: &'a str, env: EnvNo, count: u64)
+    ensures { Tells (object (spec.environment env ∷ number_member named.now count ∷ spec.kind word.now ∷ []))
+        teller.old teller.new }
+{
+    teller.say_all(&[
+        Part::Open,
+        Part::Key("environment"),
+        Part::Number(u64::from(env)),
+        Part::Key(named),
+        Part::Number(count),
+        Part::Key("kind"),
+        Part::Text(word),
+        Part::Close,
+    ]);
+}
+
+fn say_register(
+    teller: &mut Teller,
+    env: EnvNo,
+    name: &Text,
+    invoke: bool,
+    shutdown: bool,
+    account: bool,
+)
+    ensures { Tells (object (flag_member (codes "account") account ∷ spec.environment env
+        ∷ flag_member (codes "invoke") invoke ∷ spec.kind (codes "register")
+        ∷ text_member (codes "name") name.now ∷ flag_member (codes "shutdown") shutdown ∷ []))
+        teller.old teller.new }
+{
+    teller.say_all(&[
+        Part::Open,
+        Part::Key("account"),
+        Part::Flag(account),
+        Part::Key("environment"),
+        Part::Number(u64::from(env)),
+        Part::Key("invoke"),
+        Part::Flag(invoke),
+        Part::Key("kind"),
+        Part::Text("register"),
+        Part::Key("name"),
+        Part::Text(name.as_str()),
+        Part::Key("shutdown"),
+        Part::Flag(shutdown),
+        Part::Close,
+    ]);
+}
+
+fn say_withdraw(teller: &mut Teller, ticket: u64)
+    ensures { Tells (object (spec.kind (codes "withdraw") ∷ number_member (codes "ticket") ticket ∷ []))
+        teller.old teller.new }
+{
+    teller.say_all(&[
+        Part::Open,
+        Part::Key("kind"),
+        Part::Text("withdraw"),
+        Part::Key("ticket"),
+        Part::Number(ticket),
+        Part::Close,
+    ]);
+}
+
+fn say_reserve(teller: &mut Teller, name: &str, count: Option<u32>)
+    ensures { Tells (object (number_if (codes "count") count ∷ text_member (codes "function") name.now
+        ∷ spec.kind (codes "reserve") ∷ [])) teller.old teller.new }
+{
+    match count {
+        None => teller.say_all(&[
+            Part::Open,
+            Part::Key("function"),
+            Part::Text(name),
+            Part::Key("kind"),
+            Part::Text("reserve"),
+            Part::Close,
+        ]),
+        Some(count) => teller.say_all(&[
+            Part::Open,
+            Part::Key("count"),
+            Part::Number(u64::from(count)),
+            Part::Key("function"),
+            Part::Text(name),
+            Part::Key("kind"),
+            Part::Text("reserve"),
+            Part::Close,
+        ]),
+    }
+}
+
+/// Tells the object of a call.
+#[tactic(auto, unfolding(crate::specs::CallObject::call_object))]
+pub(crate) fn say_call(teller: &mut Teller, config: &Checked, bodies: bool, call: &Call)
+    ensures { Tells (call_object bodies config.now call.now) teller.old teller.new }
+{
+    match call {
+        Call::Invoke {
+            function,
+            qualified,
+            trace,
+            body,
+        } => {
+            let name = name_of(config, *function);
+            say_invoke(teller, name, *qualified, trace, bodies, body.as_slice())
+        }
+        Call::RuntimeNext { env } => say_environment(teller, "next", *env),
+        Call::Response { env, id, body } => {
+            say_report(teller, bodies, "response", "id", *env, *id, body.as_slice())
+        }
+        Call::ResponseTooLarge { env, id } => {
+            say_counted(teller, "response-too-large", "id", *env, *id)
+        }
+        Call::Failure { env, id, body } => {
+            say_report(teller, bodies, "failure", "id", *env, *id, body.as_slice())
+        }
+        Call::InitFailure { env, body } => say_init_failure(teller, bodies, *env, body.as_slice()),
+        Call::Register {
+            env,
+            name,
+            invoke,
+            shutdown,
+            account,
+        } => say_register(teller, *env, name, *invoke, *shutdown, *account),
+        Call::ExtNext { env, ext } => say_counted(teller, "ext-next", "extension", *env, *ext),
+        Call::ExtInitFailure { env, ext, body } => {
+            let bytes = body.as_slice();
+            say_report(
+                teller,
+                bodies,
+                "ext-init-failure",
+                "extension",
+                *env,
+                *ext,
+                bytes,
+            )
+        }
+        Call::ExtExitFailure { env, ext, body } => {
+            let bytes = body.as_slice();
+            say_report(
+                teller,
+                bodies,
+                "ext-exit-failure",
+                "extension",
+                *env,
+                *ext,
+                bytes,
+            )
+        }
+        Call::Tick => say_kind(teller, "tick"),
+        Call::Withdraw { ticket } => say_withdraw(teller, *ticket),
+        Call::Spindown { env } => say_environment(teller, "spindown", *env),
+        Call::Stop => say_kind(teller, "stop"),
+        Call::Expire { env } => say_environment(teller, "expire", *env),
+        Call::Reserve { function, count } => say_reserve(
+            teller,
+            name_of(config, *function),
+            *count,
+        ),
+    }
+}

@@ -1,0 +1,141 @@
+//! A follower of a history: the environments after the entries that it has followed.
+
+ghost use Rattle.std.specs.Prelude.{◌≡◌, ◌+◌, ◌-◌, ◌<◌, ◌≤◌, ◌^◌, [], length, map, reverse, slice_set, slice_index_or, All, IfOk, None};
+ghost use Rattle.arn_ids.specs.Environments.{owners};
+ghost use Rattle.arn_ids.specs.Faults.{first_fault};
+ghost use Rattle.call_types.specs.declared.call.Entry.{Entry};
+ghost use Rattle.call_model.specs.Next.{IsLegal};
+ghost use Rattle.env_phase.specs.Taking.{registered_name, IsShort};
+ghost use Rattle.trace.specs.Object.{before};
+ghost use Rattle.trace.specs.Sites as spec;
+ghost use Rattle.trace.specs.Sites.{sites as sites_in, visited, IsFew, IsFit};
+
+use crate::arrival::Arrival;
+use crate::reach::Reach;
+use crate::site::Site;
+use arn_ids::{Checked, EnvNo};
+use call_model::{Entry, Phase, Ticket};
+use entry_blocks::Blocks;
+use env_phase::Environment;
+use extension_set::Moves;
+use std::alloc::{AllocError, Global};
+use std::marker::Model;
+
+/// The environments after the first entries of a history, with their phases before the newest of these.
+/// Only `open` allocates.
+#[derive(Drop)]
+pub struct Follower {
+    pub(crate) alloc: Global,
+    sites: Vec<Site>,
+    moves: Moves,
+}
+
+impl Model for Follower {
+    ghost use Rattle.std.specs.Prelude.{List};
+    ghost use Rattle.trace.specs.declared.site.Site.{Site};
+
+    ghost Value = { List Site };
+
+    ghost view = { λ f. f.sites.items };
+}
+
+/// Returns an environment before any call.
+fn open_site(alloc: Global, config: &Checked, env: EnvNo) -> Result<Site, AllocError>
+    requires sound { first_fault config.now ≡ None }
+    requires low { 1 ≤ env }
+    requires high { env ≤ length (owners config.now) }
+    ensures { IfOk result (λ site. site ≡ spec.site config.now [] env) }
+{
+    let function = config.function_of(env);
+    Ok(Site {
+        number: env,
+        function,
+        requests: 0,
+        before: Phase::Starting {
+            deadline: None,
+            bound: None,
+        },
+        environment: Environment::open(alloc, config.function(function))?,
+    })
+}
+
+/// Returns the environments before any call.
+fn open_sites(alloc: Global, config: &Checked) -> Result<Vec<Site>, AllocError>
+    requires { first_fault config.now ≡ None }
+    ensures { IfOk result (λ sites. sites.items ≡ sites_in config.now []) }
+{
+    let mut sites = Vec::with_capacity(alloc, config.environments() as usize)?;
+    for index in 0..config.environments() {
+        sites.push(open_site(alloc, config, index + 1)?)?;
+    }
+    Ok(sites)
+}
+
+impl Follower {
+    /// Returns a follower of the empty history.
+    ///
+    /// # Errors
+    /// Only if memory is refused.
+    pub fn open(alloc: Global, config: &Checked) -> Result<Follower, AllocError>
+        ensures { IfOk result (λ follower. follower ≡ sites_in config.now []) }
+    {
+        // A checked configuration has no fault: its functions say so.
+        let _functions = config.functions();
+        Ok(Follower {
+            alloc,
+            sites: open_sites(alloc, config)?,
+            moves: Moves::new(),
+        })
+    }
+
+    /// Follows the entry with a ticket, after all entries before it. It allocates nothing, and looks at no
+    /// entry but this one and, for a Withdraw, that of the Next.
+    pub fn follow(&mut self, config: &Checked, entries: &Blocks<Entry>, ticket: Ticket)
+        requires legal { IsLegal config.now (reverse entries.now.0) }
+        requires there { ticket < length entries.now.0 }
+        requires few { length entries.now.0 ≤ 2 ^ 32 }
+        requires fit { All IsFit entries.now.0 }
+        requires at { self.old ≡ sites_in config.now (before (reverse entries.now.0) ticket) }
+        ensures { self.new ≡ sites_in config.now (before (reverse entries.now.0) (ticket + 1)) }
+    {
+        let entry = entries.at(ticket as usize);
+        let arrival = Arrival {
+            ticket,
+            moment: entry.moment,
+            reach: Reach::of(entries, ticket, entry.place, &entry.call),
+            call: &entry.call,
+        };
+        self.visit_all(&arrival);
+    }
+
+    /// Returns the environments, in the order of their numbers.
+    pub(crate) fn sites(&self) -> &[Site]
+        ensures { result.now ≡ self.now }
+    {
+        &self.sites
+    }
+
+    /// Lets each environment take a call.
+    fn visit_all(&mut self, arrival: &Arrival<'_>)
+        requires moment { arrival.now.moment < 2 ^ 53 }
+        requires few { All IsFew self.old }
+        requires short { IsShort (registered_name arrival.now.call.now) }
+        ensures { self.new ≡ map (visited arrival.now) self.old }
+    {
+        for index in 0..self.sites.as_slice().len() {
+            self.visit_at(index, arrival);
+        }
+    }
+
+    /// Lets the environment at an index take a call.
+    fn visit_at(&mut self, index: usize, arrival: &Arrival<'_>)
+        requires there { index < length self.old }
+        requires moment { arrival.now.moment < 2 ^ 53 }
+        requires few { (d : Site) → IsFew (slice_index_or self.old index d) }
+        requires short { IsShort (registered_name arrival.now.call.now) }
+        ensures { (d : Site) → self.new
+            ≡ slice_set self.old index (visited arrival.now (slice_index_or self.old index d)) }
+    {
+        self.sites[index].visit(arrival, &mut self.moves);
+    }
+}

@@ -1,0 +1,147 @@
+//! The line of an entry.
+
+ghost use Rattle.std.specs.Prelude.{◌≡◌, ◌+◌, ◌<◌, ◌++◌, length, map, reverse, slice_index_or, OnOk, OnErr};
+ghost use Rattle.std.specs.List.{flat_map};
+ghost use Rattle.call_types.specs.declared.call.Entry.{Entry};
+ghost use Rattle.json.specs.Lex.{tokens};
+ghost use Rattle.json.specs.Print.{print};
+ghost use Rattle.trace.specs.AnswerObject.{answer_object};
+ghost use Rattle.trace.specs.Members.{number_if, object};
+ghost use Rattle.trace.specs.Object.{before, charged_at, expired, object_text, object_tokens};
+ghost use Rattle.trace.specs.Object.{released, request_if, told};
+ghost use Rattle.trace.specs.Sites.{sites as sites_in, turn_of};
+ghost use Rattle.trace.specs.Telling.{Tells};
+
+use crate::answer_object::say_answer;
+use crate::call_object::say_call;
+use crate::follower::Follower;
+use crate::past_parts::request_part;
+use crate::phase_object::{say_all_released, say_phases};
+use crate::site::Site;
+use crate::teller::{Part, Teller};
+use arn_ids::{Checked, EnvNo};
+use call_model::{Answer, Call, Entry, Past, Ticket};
+use std::alloc::AllocError;
+
+fn say_answers(teller: &mut Teller, past: &Past, bodies: bool, answers: &[(Ticket, Answer)])
+    ensures { Tells (flat_map (λ a. answer_object bodies past.now.salt (reverse past.now.entries.now.0) a.0 a.1)
+        answers.now) teller.old teller.new }
+{
+    for (ticket, answer) in answers {
+        say_answer(teller, past, bodies, *ticket, *answer);
+    }
+}
+
+fn charged_at(ticket: Ticket, place: Option<EnvNo>) -> Option<Ticket>
+    ensures { result ≡ charged_at ticket place }
+{
+    match place {
+        None => None,
+        Some(_) => Some(ticket),
+    }
+}
+
+fn expired(call: &Call) -> Option<u64>
+    ensures { result ≡ expired call.now }
+{
+    match call {
+        Call::Expire { env } => Some(u64::from(*env)),
+        _ => None,
+    }
+}
+
+fn place_number(place: Option<EnvNo>) -> Option<u64>
+    ensures { result ≡ place }
+{
+    match place {
+        None => None,
+        Some(env) => Some(u64::from(env)),
+    }
+}
+
+fn say_request_if(teller: &mut Teller, past: &Past, ticket: Ticket, call: &Call)
+    ensures { Tells (request_if past.now.salt (reverse past.now.entries.now.0) ticket call.now)
+        teller.old teller.new }
+{
+    if call.is_invoke() {
+        teller.say_all(&[Part::Key("request"), request_part(past, ticket)]);
+    }
+}
+
+/// Tells the object of an entry, given the environments after it.
+#[tactic(auto, unfolding(crate::specs::Object::told))]
+fn say_entry(
+    teller: &mut Teller,
+    config: &Checked,
+    past: &Past,
+    bodies: bool,
+    ticket: Ticket,
+    entry: &Entry,
+    sites: &[Site],
+)
+    ensures { Tells (told bodies config.now past.now.salt (reverse past.now.entries.now.0) ticket entry.now
+        (map turn_of sites.now)) teller.old teller.new }
+{
+    teller.say_all(&[Part::Open, Part::Key("answers"), Part::OpenList]);
+    say_answers(teller, past, bodies, entry.answers.as_slice());
+    teller.say_all(&[Part::CloseList, Part::Key("call")]);
+    say_call(teller, config, bodies, &entry.call);
+    teller.say_number_if("charged", charged_at(ticket, entry.place));
+    teller.say_number_if("expires", expired(&entry.call));
+    teller.say_all(&[
+        Part::Key("moment"),
+        Part::Number(entry.moment),
+        Part::Key("phases"),
+        Part::OpenList,
+    ]);
+    say_phases(teller, sites);
+    teller.say_all(&[Part::CloseList]);
+    teller.say_number_if("place", place_number(entry.place));
+    teller.say_all(&[Part::Key("released"), Part::OpenList]);
+    say_all_released(teller, sites);
+    teller.say_all(&[Part::CloseList]);
+    say_request_if(teller, past, ticket, &entry.call);
+    teller.say_all(&[Part::Key("ticket"), Part::Number(ticket), Part::Close]);
+}
+
+impl Follower {
+    /// Adds the line of the entry with a ticket, the newest that this follower has followed: its object,
+    /// the members in the order of their names' bytes, and a line feed. With `bodies`, payloads, outputs
+    /// and reports are members: `body` if they are UTF-8, otherwise `bodyBase64`. A reader of JSON reads the
+    /// object's own tokens from it.
+    ///
+    /// # Errors
+    /// Only if memory is refused; `out` is then as it was.
+    pub fn push_object(
+        &self,
+        out: &mut Vec<u8>,
+        config: &Checked,
+        past: &Past,
+        bodies: bool,
+        ticket: Ticket,
+    ) -> Result<(), AllocError>
+        requires there { ticket < length past.now.entries.now.0 }
+        requires at { self.now ≡ sites_in config.now (before (reverse past.now.entries.now.0) (ticket + 1)) }
+        ensures ok { let h = reverse past.now.entries.now.0 in OnOk result ((d : Entry) → out.new.items
+            ≡ out.old.items ++ object_text bodies config.now past.now.salt h (before h ticket)
+            (slice_index_or past.now.entries.now.0 ticket d)) }
+        ensures reads_back { let h = reverse past.now.entries.now.0 in OnOk result ((d : Entry) →
+            let object = object_tokens bodies config.now past.now.salt h (before h ticket)
+            (slice_index_or past.now.entries.now.0 ticket d) in tokens (print object) ≡ object) }
+        ensures err { OnErr result (out.new.items ≡ out.old.items) }
+    {
+        let entry = past.entries.at(ticket as usize);
+        let start = out.len();
+        let mut teller = Teller::new(self.alloc, out);
+        say_entry(
+            &mut teller,
+            config,
+            past,
+            bodies,
+            ticket,
+            entry,
+            self.sites(),
+        );
+        teller.finish(out, start)
+    }
+}

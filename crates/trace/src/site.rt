@@ -1,0 +1,64 @@
+//! One environment, as a follower keeps it.
+
+ghost use Rattle.std.specs.Prelude.{◌≡◌, ◌<◌, ◌^◌, if◌then◌else◌};
+ghost use Rattle.call_model.specs.History.{is_invoke_of};
+ghost use Rattle.env_phase.specs.Taking.{registered_name, IsShort};
+ghost use Rattle.trace.specs.Sites.{visited, IsFew};
+
+use crate::arrival::Arrival;
+use arn_ids::{EnvNo, FnNo};
+use call_model::{Call, Phase};
+use env_phase::{Environment, Step};
+use extension_set::Moves;
+
+/// An environment after a history.
+#[derive(Drop)]
+pub(crate) struct Site {
+    /// Its number, from 1.
+    pub(crate) number: EnvNo,
+    /// The number of its function, from 1.
+    pub(crate) function: FnNo,
+    /// How many Invokes its function has had.
+    pub(crate) requests: u64,
+    /// Its phase before the newest entry.
+    pub(crate) before: Phase,
+    /// The environment itself.
+    pub(crate) environment: Environment,
+}
+
+/// Returns 1 if a call is an Invoke of a function, and 0 otherwise.
+fn one_if_invokes(function: FnNo, call: &Call) -> u64
+    ensures { result ≡ if is_invoke_of function call.now then 1 else 0 }
+{
+    match call {
+        Call::Invoke {
+            function: invoked,
+            qualified: _,
+            trace: _,
+            body: _,
+        } => { if *invoked == function { 1 } else { 0 } }
+        _ => 0,
+    }
+}
+
+impl Site {
+    /// Notes the phase, and takes the call if it reaches the environment. `moves` is scratch space.
+    pub(crate) fn visit(&mut self, arrival: &Arrival<'_>, moves: &mut Moves)
+        requires moment { arrival.now.moment < 2 ^ 53 }
+        requires few { IsFew self.old }
+        requires short { IsShort (registered_name arrival.now.call.now) }
+        ensures { self.new ≡ visited arrival.now self.old }
+    {
+        self.requests += one_if_invokes(self.function, arrival.call);
+        self.before = self.environment.phase();
+        if arrival.reach.reaches(self.number) {
+            let step = Step {
+                ticket: arrival.ticket,
+                now: arrival.moment,
+                count: self.requests,
+            };
+            moves.clear();
+            self.environment.take(step, arrival.call, moves);
+        }
+    }
+}

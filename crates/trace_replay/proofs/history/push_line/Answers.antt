@@ -1,0 +1,18 @@
+use Rattle.std.proofs.lemmas.List.{length-reverse}
+use Rattle.std.proofs.lemmas.Result.{on_ok_weaker}
+use Rattle.trace_replay.proofs.Fit.{fit_reached, fit_reversed}
+use Rattle.trace_replay.proofs.Lines.{line_added}
+use Rattle.trace_replay.proofs.history.push_line.Goals as goal
+
+pub follow-requires-clause-few : goal.follow-requires-clause-few
+follow-requires-clause-few c = rw (c.entries.ensures, length-reverse) c.requires.few
+
+pub follow-requires-clause-fit : goal.follow-requires-clause-fit
+follow-requires-clause-fit c =
+    let book = c.args.book.now in
+    rw c.entries.ensures (fit_reversed book.history (fit_reached book.config book.max_entries book.history c.facts.ensures.reached))
+
+pub returns-clause-ok : goal.returns-clause-ok
+returns-clause-ok c =
+    let added = rw (c.config-2.ensures, c.salt.ensures) at c.push_object.ensures.ok in
+    on_ok_weaker c.push_object.result (line_added c.args.bodies c.args.book.now c.entries.result.now.0 c.args.ticket _ _ c.entries.ensures c.requires.there) added

@@ -1,0 +1,5 @@
+use Rattle.trace_replay.proofs.Fit.{fit_reached}
+use Rattle.trace_replay.proofs.laws.fit.Goals as goal
+
+pub returns : goal.returns
+returns c = fit_reached

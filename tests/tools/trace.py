@@ -1,0 +1,160 @@
+"""Checks the trace of random scripts (`./lambda_local trace`), of all kinds of calls: the script and the answers of its
+replay can be written again from the trace, so nothing is lost; what is charged is released once, later; without bodies
+all else is the same; and the phases are those that `./lambda_local timeline` finds from the replay's answers. TRACES=N
+in the environment takes N random scripts (default: 40)."""
+import base64
+import json
+import os
+import subprocess
+
+from tests.library.timelines import ONE, PROGRAM, TimelineCase, events, phases, run
+from tests.tools.timeline import random_script
+
+# What the words of a line of a script are for, by kind: members of the call's object.
+FIELDS = {
+    "invoke": ("function", "qualified", "trace", "body"), "next": ("environment",),
+    "response": ("environment", "id", "body"), "failure": ("environment", "id", "body"),
+    "response-too-large": ("environment", "id"), "init-failure": ("environment", "body"),
+    "register": ("environment", "name", "events", "account"), "ext-next": ("environment", "extension"),
+    "ext-init-failure": ("environment", "extension", "body"), "ext-exit-failure": ("environment", "extension", "body"),
+    "withdraw": ("ticket",), "spindown": ("environment",), "reserve": ("function", "count"), "tick": (), "stop": ()}
+# The same of an answer's line.
+WORDS = {
+    "deliver": ("request", "deadline", "body"), "tell": ("event", "request", "deadline"),
+    "shutdown": ("event", "reason", "deadline"), "registered": ("extension",), "output": ("body",), "error": ("body",),
+    "throttled": ("reason",), "refused": ("reason",), "reserved": ("count",), **dict.fromkeys(
+        ("timeout", "init-timeout", "too-large-output", "stopped", "withdrawn", "unreserved", "accepted", "done"), ())}
+
+
+def replayed(script, *words):
+    done = subprocess.run([PROGRAM, *words], input=script.encode(), capture_output=True, timeout=300)
+    return done.stdout.decode() if done.returncode == 0 else f"status {done.returncode}: {done.stderr.decode()}"
+
+
+def traced(script, *words):
+    return [json.loads(line) for line in replayed(script, "trace", *words).splitlines()]
+
+
+def text_field(item):
+    """The bytes of an object as a script has them."""
+    whole = item["body"].encode() if "body" in item else base64.b64decode(item["bodyBase64"], validate=True)
+    return "=" + "".join(chr(byte) if 0x21 <= byte <= 0x7E and byte != 0x25 else f"%{byte:02X}" for byte in whole)
+
+
+def word(item, name):
+    if name == "body":
+        return text_field(item)
+    if name == "qualified":
+        return "q" if item[name] else "-"
+    if name == "account":
+        return "a" if item[name] else "-"
+    if name == "events":
+        return "i" * item["invoke"] + "s" * item["shutdown"] or "-"
+    if name in ("trace", "name"):
+        return f"={item[name]}" if name in item else "-"
+    return str(item.get(name, "-"))
+
+
+def line_again(entry):
+    """The line of a script that makes this entry; nothing for an expiry."""
+    call = entry["call"]
+    return [] if call["kind"] == "expire" else [
+        " ".join([str(entry["moment"]), call["kind"], *(word(call, name) for name in FIELDS[call["kind"]])])]
+
+
+def answers_again(entry):
+    """The lines that a replay writes for this entry."""
+    return [" ".join([str(entry["ticket"]), str(answer["ticket"]), answer["answer"],
+                      *(word(answer, name) for name in WORDS[answer["answer"]])]) for answer in entry["answers"]]
+
+
+def canonical(script):
+    """The lines of a script without comments, each at the moment at which its call is taken, as far as the journal has
+    room: what a replay refuses as full makes no entry."""
+    form, configuration, *lines = script.splitlines()
+    answers, moment = replayed(script, "replay").splitlines(), 0
+    room = len(lines) - answers.count("refused JournalFull")
+    again = []
+    for line in lines:
+        now, rest = line.split(" ", 1)
+        moment = max(moment, int(now))
+        again.append(f"{moment} {rest}")
+    return form, configuration, again, room
+
+
+def once(names):
+    """Names without "closing", each run of equal ones once."""
+    names = [name for name in names if name != "closing"]
+    return [name for place, name in enumerate(names) if place == 0 or names[place - 1] != name]
+
+
+class Traces(TimelineCase):
+    def test_random_scripts(self):
+        for seed in range(int(os.environ.get("TRACES", "40"))):
+            script = random_script(seed)
+            trace = traced(script)
+            self.nothing_lost(seed, script, trace)
+            self.in_flight(seed, trace)
+            self.same_phases(seed, script, trace)
+            self.without_bodies(seed, script, trace)
+
+    def test_bodies(self):
+        """Bodies of each byte, and of none."""
+        bodies = [bytes([byte]) for byte in range(256)] + [b"", bytes(range(256)), "\u00e9\U0001f600".encode()]
+        lines = "".join(f"0 invoke f - - ={''.join(f'%{byte:02x}' for byte in body)}\n" for body in bodies)
+        calls = [entry["call"] for entry in traced(f"{ONE}\n{lines}")]
+        self.check("bodies", [call["body"].encode() if "body" in call
+                              else base64.b64decode(call["bodyBase64"], validate=True) for call in calls], bodies)
+        self.check("as text if they are UTF-8", sum("body" in call for call in calls), 128 + 2)
+
+    def nothing_lost(self, seed, script, trace):
+        form, configuration, lines, room = canonical(script)
+        again = [line for entry in trace for line in line_again(entry)]
+        self.check(f"{seed}: as many calls", len(again), room)
+        if room == len(lines):
+            self.check(f"{seed}: the calls", again, lines)
+        anew = "\n".join([form, configuration, *again]) + "\n"
+        answers = [line for line in replayed(script, "replay").splitlines() if line != "refused JournalFull"]
+        self.check(f"{seed}: the answers", [line for entry in trace for line in answers_again(entry)], answers)
+        self.check(f"{seed}: the replay of the calls", replayed(anew, "replay").splitlines(), answers)
+        self.check(f"{seed}: the trace of the calls", traced(anew), trace)
+
+    def in_flight(self, seed, trace):
+        flying = set()
+        for ticket, entry in enumerate(trace):
+            name = f"{seed}, ticket {ticket}"
+            self.check(f"{name}: what is placed is charged", (entry["ticket"], "place" in entry),
+                       (ticket, "charged" in entry))
+            if "charged" in entry:
+                self.check(f"{name}: its own ticket is charged", entry["charged"], ticket)
+                flying.add(ticket)
+            self.check(f"{name}: what is released was in flight", flying.issuperset(entry["released"]))
+            flying.difference_update(entry["released"])
+            self.check(f"{name}: an expiry names its environment", entry.get("expires"),
+                       entry["call"]["environment"] if entry["call"]["kind"] == "expire" else None)
+        last = {}
+        for entry in trace:
+            last.update({phase["environment"]: phase for phase in entry["phases"]})
+        held = {phase[name] for phase in last.values() for name in ("bound", "invoke") if name in phase}
+        self.check(f"{seed}: what is in flight at the end is at an environment", flying, held)
+
+    def same_phases(self, seed, script, trace):
+        """The names of the phases of each environment, one after the other. A phase that begins anew counts once. A
+        Closing counts for nothing: the timeline also draws one that ends in the entry in which it began."""
+        status, drawn, said = run("--trace", script=script)
+        self.check(f"{seed}: is drawn", status, 0, shown=said)
+        environments = len([port for function in json.loads(script.splitlines()[1])["functions"]
+                            for port in function["ports"]])
+        for environment in range(1, environments + 1):
+            wanted = [name.split(" (")[0].lower() for name in phases(drawn, environment)]
+            seen = ["starting"] + [phase["phase"] for entry in trace for phase in entry["phases"]
+                                   if phase["environment"] == environment]
+            self.check(f"{seed}: the phases of environment {environment}", once(seen), once(wanted))
+        self.check(f"{seed}: a span a call", len(events(drawn, "call")) <= len(trace) + script.count("\n"))
+
+    def without_bodies(self, seed, script, trace):
+        for entry in trace:
+            for item in (entry["call"], *entry["answers"]):
+                item.pop("body", None)
+                item.pop("bodyBase64", None)
+        self.check(f"{seed}: without bodies", traced(script, "--bodies", "none"), trace)
