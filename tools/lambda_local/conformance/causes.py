@@ -23,13 +23,16 @@ FOLLOWS: Dict[str, Tuple[str, ...]] = {
     "init_error": ("error_message", "error_type", "long_text"), "next_after_response": ("late_response",),
     "closing_answers": ("connection_end", "header_names"), "slow_answers": ("long_text",),
     "cut_event": ("slow_answers", "long_text", "connection_end"), "lost_poll": ("connection_end",),
+    "connection_end": ("asks_after_invoke",),
     "missing_handler": ("init_error",), "broken_handler": ("init_error",), "responds_once": ("error_reported",),
     "long_handler": ("late_response",),
     # of extensions
     "ends_at_spindown": ("asks_after_invoke",), "many_events": ("asks_after_invoke",),
-    "ends_at_timeout": ("ends_at_spindown",), "ends_at_failure": ("ends_at_spindown",), "exit_error": ("init_error",),
-    "ends_at_500": ("init_error_ends", "crash_noticed"), "ends_at_500_register": ("crash_noticed", "ends_at_500"),
-    "refused_registration": ("ends_at_500_register",),
+    "ends_at_timeout": ("asks_after_invoke", "ends_at_spindown"), "ends_at_failure": ("ends_at_spindown",),
+    "crash_noticed": ("ends_at_spindown",), "telemetry": ("asks_after_invoke",), "exit_error": ("init_error",),
+    "ends_at_500": ("init_error_ends", "ends_at_spindown", "crash_noticed"),
+    "ends_at_500_register": ("crash_noticed", "ends_at_500"), "refused_registration": ("ends_at_500_register",),
+    "refused_next": ("ends_at_spindown", "crash_noticed", "ends_at_500"),
 }
 # What many checks look at once more, by the words with which they tell it, and the checks that are about it.
 TOLD: Dict[Pattern[str], Tuple[str, ...]] = {

@@ -86,15 +86,15 @@ def invocations(stage: ExtensionStage) -> None:
             silent += 1
             break
         seconds = stage.polls_after(event)[0].begun - event.end
-        if seconds > stage.timeout:
+        if min(seconds, environment.own.seconds) > TIMEOUT or seconds > stage.timeout:
             late.append(seconds)
-            break  # (the environment was reset)
+            break  # (the environment may have been reset)
     CLOCK.sleep(SETTLES)
     polls = environment.proxy.of("event")
     overlap = any(other.begun < one.end for one, other in zip(polls, polls[1:]))
     stage.check("asks_after_invoke", not silent, f"no Next within {2 * TIMEOUT} s after an INVOKE: {stage.said()}")
     stage.check("invoke_in_time", not late,
-                f"{late[0] if late else 0:.1f} s after its INVOKE, of a timeout of {stage.timeout} s")
+                f"{late[0] if late else 0:.1f} s after its INVOKE, of a timeout of {TIMEOUT} s")
     stage.check("one_poll", not overlap, "a second Next while one waited")
     stray = [one for one in environment.proxy.of("other", "register") if one.refused]
     stage.check("known_requests", not stray, str(stray and stray[0]))
