@@ -27,7 +27,7 @@ from tests.library.kit_programs import (PROGRAMS, SHAPES, clients, extensions, l
 EXAMPLES = os.path.join(ROOT, "examples")
 HANDLERS = os.path.join(EXAMPLES, "conformance")
 
-LENIENT = {"runtime": {"keep_alive", "continue_first", "header_spaces", "same_process", "error_header",
+LENIENT = {"runtime": {"keep_alive", "continue_first", "header_spaces", "reason_phrase", "same_process", "error_header",
                        "environments_apart"},
            "extension": {"takes_empty_batch", "takes_in_shutdown"}}
 OF_TELEMETRY = [one.name for part in (extension.telemetry, extension.delivery, extension.batches,
@@ -189,11 +189,12 @@ def in_go():
 
 def wrong(kind, mistake, is_whole):
     """Run with all scenarios, or with those of its own check."""
-    settings = {**kind.settings, **getattr(mistake, "settings", {}), **({} if is_whole else {"only": mistake.check})}
+    settings, beside = {**kind.settings, **getattr(mistake, "settings", {})}, getattr(mistake, "beside", ())
     options = [word for name, value in settings.items() for word in (f"--{name}", str(value))]
+    options += [word for name in (() if is_whole else (mistake.check, *beside)) for word in ("--only", name)]
     with tempfile.TemporaryDirectory() as temporary:
         return Run(kind.name, *options, "--", *PYTHON, program(f"wrong_{kind.name}s.py"), mistake.__name__,
-                   is_forked=True, TMPDIR=temporary)
+                   is_forked=True, TMPDIR=temporary, EVERYONES_FOLDER=temporary)
 
 
 class Job(NamedTuple):
@@ -226,7 +227,7 @@ def jobs():
     yield Job("sound", sound_extension, (), "passes", ("the sound extension", {"takes_logs", "takes_in_shutdown"}))
     for name, shape in subscribers.SHAPES.items():
         yield Job("sound", subscriber, (name,), "passes", (f"an extension that {name}", shape.leaves_open))
-    mistakes = [(kind, mistake, WHOLE or place % EACH == TODAY)
+    mistakes = [(kind, mistake, (WHOLE or place % EACH == TODAY) and not hasattr(mistake, "beside"))
                 for kind in KINDS for place, mistake in enumerate(kind.mistakes.values())]
     for kind, mistake, is_whole in sorted(mistakes, key=lambda each: (not hasattr(each[1], "settings"), not each[2])):
         yield Job(mistake.__name__, wrong, (kind, mistake, is_whole), "caught", (kind, mistake))

@@ -10,6 +10,7 @@ import http.client
 import io
 import json
 import re
+import threading
 from collections import Counter
 from typing import Any, BinaryIO, Dict, Iterable, Iterator, List, NamedTuple, Optional, Sequence, Set, Tuple
 from urllib.parse import unquote_to_bytes
@@ -180,20 +181,6 @@ def opened(history: str) -> Tuple[Members, Iterator[Entry]]:
     return configuration, entries_of(lines[2:])
 
 
-def parked(history: str) -> Tuple[Set[int], "Counter[int]"]:
-    """The polls that wait, by the text of a whole history: the numbers of the environments whose runtime waits, and for
-    each environment how many extensions wait."""
-    waits: Dict[int, Entry] = {}
-    for entry in opened(history)[1]:
-        if entry.kind in ("next", "ext-next"):
-            waits[entry.number] = entry
-        for answer in entry.answers:
-            waits.pop(answer.ticket, None)
-    polls = [(entry.kind, entry.environment) for entry in waits.values()]
-    extensions = Counter(number for kind, number in polls if kind == "ext-next" and number)
-    return {number for kind, number in polls if kind == "next" and number}, extensions
-
-
 def sized_entries(lines: Iterable[bytes], number: int) -> Iterator[Tuple[Entry, int]]:
     """The entries of the lines (bytes, each with its end), the first of which has this number, with the bytes of
     each."""
@@ -278,3 +265,28 @@ class Follower:
             raise http.client.HTTPException(
                 f"GET {path}: {answer.status} {answer.read()[:200].decode(errors='replace')}")
         return answer
+
+
+class Parked:
+    """Which polls wait, by the history of the service whose callers' port this is, as it grows. One thread at a time
+    reads it."""
+
+    def __init__(self, port: int) -> None:
+        self._follower, self._lock = Follower(port), threading.Lock()
+        self._waits: Dict[int, Entry] = {}
+
+    def read(self) -> Tuple[Set[int], "Counter[int]"]:
+        """The numbers of the environments whose runtime waits, and for each environment how many extensions wait."""
+        with self._lock:
+            for entry in self._follower.stream():
+                if entry.kind in ("next", "ext-next"):
+                    self._waits[entry.number] = entry
+                for answer in entry.answers:
+                    self._waits.pop(answer.ticket, None)
+            polls = [(entry.kind, entry.environment) for entry in self._waits.values()]
+        extensions = Counter(number for kind, number in polls if kind == "ext-next" and number)
+        return {number for kind, number in polls if kind == "next" and number}, extensions
+
+    def close(self) -> None:
+        with self._lock:
+            self._follower.close()

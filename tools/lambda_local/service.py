@@ -22,7 +22,6 @@ from typing import Callable, Collection, Dict, Iterator, List, Mapping, Optional
 
 from .configuration import Members, explained
 from .guard import GUARD
-from .history import parked  # noqa: F401 (for those who ask a service)
 from .paths import LAUNCHER, LIMITS, own_program
 
 RUNTIME = "/2018-06-01/runtime/"

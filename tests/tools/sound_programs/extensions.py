@@ -53,7 +53,8 @@ class Telemetry(Extension):
 
     def shut_down(self, reason):
         time.sleep(0.3)
-        super().shut_down(reason)
+        if reason in ("SPINDOWN", "TIMEOUT", "FAILURE"):  # (as the page writes them)
+            super().shut_down(reason)
 
 
 class LogsApi(Extension):
@@ -70,6 +71,10 @@ class AsksForTheAccount(Extension):
             "Lambda-Extension-Name": self.name(), "Lambda-Extension-Accept-Feature": "accountId",
             "Content-Type": "application/json"})
         self.identifier = answer.headers["Lambda-Extension-Identifier"]
+
+    def shut_down(self, reason):
+        if reason.lower() in ("spindown", "timeout", "failure"):
+            super().shut_down(reason)
 
 
 class SaysThatItIsDone(Extension):

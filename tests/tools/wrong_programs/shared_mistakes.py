@@ -14,6 +14,11 @@ def temporary():
     return os.environ.get("TMPDIR", "/tmp")
 
 
+def everyones():
+    """A folder of this machine, whichever environment asks."""
+    return os.environ.get("EVERYONES_FOLDER", "/tmp")
+
+
 class PollsTwice:
     """Asks on a second connection too, if nothing comes at once."""
 

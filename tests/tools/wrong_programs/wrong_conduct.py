@@ -10,7 +10,7 @@ import time
 
 import shared_mistakes
 from connection import Connection
-from shared_mistakes import TOO_LONG, is_scenario, temporary
+from shared_mistakes import TOO_LONG, everyones, is_scenario, temporary
 from sound_runtime import Parts, Runtime
 
 
@@ -219,10 +219,10 @@ class LeavesFolders(Runtime):
 
 class SharesAFile(Runtime):
     """Passes the output on through a file that all environments of the function share."""
-    check, outcome = "environments_apart", "SHOULD"
+    check, outcome = "environments_apart", "NOTE"
 
     def respond(self, request, output):
-        path = os.path.join(temporary(), f"wrong_runtime.{os.environ['AWS_LAMBDA_FUNCTION_NAME']}.output")
+        path = os.path.join(everyones(), f"wrong_runtime.{os.environ['AWS_LAMBDA_FUNCTION_NAME']}.output")
         if is_scenario("several_at_once"):
             with open(path, "a+") as file:
                 file.write(f"{output}\n")

@@ -205,3 +205,18 @@ class NeverConnectsAgain(Runtime):
             super().connect()
 
     connected = Once
+
+
+class KnowsStatusLines(Runtime):
+    """Compares the whole line with those that the service writes if all is well."""
+    check, outcome = "reason_phrase", "SHOULD"
+
+    class ByLines(Connection):
+        def _until(self, end):
+            data = super()._until(end)
+            line = data.split(b"\r\n")[0]
+            if line.startswith(b"HTTP/1.1 20") and line not in (b"HTTP/1.1 200 OK", b"HTTP/1.1 202 Accepted"):
+                sys.exit(f"another status line: {line.decode()}")
+            return data
+
+    connected = ByLines

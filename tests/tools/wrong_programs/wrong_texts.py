@@ -62,6 +62,12 @@ def surrogates(body: bytes) -> bytes:
     return b"".join(found)
 
 
+def unquoted_json(body: bytes) -> bytes:
+    """The text of an output that is a JSON object or list itself; another output as it is."""
+    text = json.loads(body)
+    return text.encode() if isinstance(text, str) and text[:1] in ("{", "[") and text[-1:] in ("}", "]") else body
+
+
 def decoded_twice(text: str) -> str:
     return text.replace("\\n", "\n").replace("\\t", "\t").replace("\\d", "d")
 
@@ -72,6 +78,7 @@ LARGE = {"payload_limit", "output_limit", "many_invocations", "long_text"}
 TABLE: Iterable[Tuple[str, str, Set[str], str, Rewrite]] = (
     ("SendsRawTexts", "first_echo", set(), WRITTEN,
      lambda body: json.loads(body).encode() if body.startswith(b'"') else body),
+    ("SendsTextsOfJsonAsTheyAre", "kinds", set(), WRITTEN, unquoted_json),
     ("AddsAByteOrderMark", "first_echo", set(), WRITTEN, lambda body: b"\xef\xbb\xbf" + body),
     ("WritesNumbersAsTexts", "first_echo", set(), OUTPUT, numbers(str)),
     ("WritesFloats", "first_echo", set(), OUTPUT, numbers(float)),

@@ -5,8 +5,10 @@ import time
 from typing import Any, Callable, Optional
 
 PAUSE = 0.15  # seconds between two looks
+SHARE = 10  # of the time that a look takes, it pauses at least: it is not to take what little there is
+LONGEST_PAUSE = 3.0  # seconds
 WORK = 0.003  # seconds of a processor for each look
-LONGEST = 0.3  # seconds that may count without a look
+LONGEST = 0.3  # seconds that may count without a look, of a machine that is not busy
 SLOWEST = 10  # that a limit is stretched at most
 
 
@@ -53,13 +55,15 @@ class Clock:
         self.wait(lambda part: time.sleep(part), seconds)
 
     def _run(self) -> None:
+        pause = PAUSE
         while True:
             begun = time.monotonic()
-            time.sleep(PAUSE)
+            time.sleep(pause)
             worked = time.thread_time()
             while time.thread_time() - worked < WORK:
                 pass
-            took = time.monotonic() - begun - PAUSE
+            took = time.monotonic() - begun - pause
+            pause = min(LONGEST_PAUSE, max(PAUSE, SHARE * took))
             with self._lock:
                 passed = time.monotonic() - self._at
                 seen = min(passed, LONGEST) / self._slowness  # what `now` may have said

@@ -1,4 +1,5 @@
 """An environment of a stage: its port in the service, the proxy before it, and the process that is tested."""
+import tempfile
 import time
 from typing import TYPE_CHECKING, Any, Callable, List, Optional
 
@@ -23,6 +24,8 @@ class Environment:
     def __init__(self, stage: "Stage", number: int, port: int) -> None:
         self.stage, self.number, self.service_port = stage, number, port
         self.proxy = Proxy(port)
+        # (for temporary files, as in Lambda, below the service's, which is removed in any case)
+        self.folder = tempfile.mkdtemp(dir=stage.service.folder)
         self._process: Optional[Process] = None
 
     @property
@@ -40,7 +43,7 @@ class Environment:
         """Starts the command anew, as Lambda starts an environment."""
         stage = self.stage
         variables = variables_of(stage.service.configuration, stage.function, self.proxy.port, self.number,
-                                 stage.variables)
+                                 {"TMPDIR": self.folder, **stage.variables})
         self._process = stage.tools.processes.start(stage.tools.command, variables)
         return self._process
 

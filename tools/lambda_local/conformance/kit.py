@@ -12,7 +12,6 @@ OpenStage = Callable[["Scenario", "Jury"], Any]
 
 PASS, FAIL, SHOULD, NOTE = "PASS", "FAIL", "SHOULD", "NOTE"
 GRAVITY = (PASS, NOTE, SHOULD, FAIL)  # of several outcomes of one check the last of these counts
-ALONE = 2  # times that a scenario passes by itself which has failed beside others
 
 
 class Check(NamedTuple):
@@ -129,20 +128,6 @@ def run(scenario: Scenario, open_stage: OpenStage) -> List[Verdict]:
 
 def has_failed(verdicts: List[Verdict]) -> bool:
     return any(verdict.outcome == FAIL for verdict in verdicts)
-
-
-def run_alone(scenario: Scenario, open_stage: OpenStage, before: List[Verdict]) -> List[Verdict]:
-    """Plays a scenario once more that has failed beside others: in Lambda each environment is alone, and what its
-    processes share on one machine, such as a port or the name of a file, is none of their mistakes. What passes twice
-    by itself is a NOTE."""
-    verdicts: List[Verdict] = []
-    for _ in range(ALONE):
-        verdicts = run(scenario, open_stage)
-        if has_failed(verdicts):
-            return verdicts
-    return [later._replace(outcome=NOTE, came=f"by itself it passes; beside other scenarios: {earlier.came}")
-            if earlier.outcome == FAIL and later.outcome == PASS else later
-            for earlier, later in zip(before, verdicts)]
 
 
 def run_all(scenarios: List[Scenario], open_stage: OpenStage,

@@ -133,7 +133,7 @@ class Files:
         self._looks: List[Tuple[int, int, int]] = []  # requests, and entries and bytes of its own folder
 
     def look(self, done: int) -> None:
-        sizes = [size_of(entry) for entry in below(self._stage.variables["TMPDIR"])]
+        sizes = [size_of(entry) for entry in below(self._stage.environment.folder)]
         self._looks.append((done, len(sizes), sum(sizes)))
 
     def judge(self, name: str) -> None:
@@ -164,7 +164,7 @@ class Files:
         return sizes
 
     def _folders(self) -> List[str]:
-        own = self._stage.variables["TMPDIR"]
+        own = self._stage.environment.folder
         named = {tempfile.gettempdir(), "/tmp", "/var/tmp", "/dev/shm", os.getcwd()}
         return sorted(folder for folder in named if folder != own and os.path.isdir(folder))
 

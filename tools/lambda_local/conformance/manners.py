@@ -19,6 +19,7 @@ class Manner(NamedTuple):
     more: Tuple[Tuple[str, str], ...] = ()  # headers that are added
     chunk: int = 0  # bytes of each chunk, if the body is sent in chunks
     spaces: str = " "  # between a header's colon and its value
+    reason: Optional[str] = None  # the words behind the status, in place of the reply's
     interim: bytes = b""  # what comes before the reply
     part: int = 0  # bytes that are sent at once
     pause: float = 0  # seconds between two of these
@@ -52,7 +53,8 @@ class Manner(NamedTuple):
                  if name.lower() not in (*KEPT, *self.without)]
         pairs += [*self.more, length, *([("Connection", "close")] if self.close else [])]
         ordered = pairs[::-1] if self.backwards else pairs
-        written = [lines[0], *(f"{self.named(name)}:{self.spaces}{value}" for name, value in ordered)]
+        status = lines[0] if self.reason is None else " ".join((*lines[0].split(" ")[:2], self.reason))
+        written = [status, *(f"{self.named(name)}:{self.spaces}{value}" for name, value in ordered)]
         return ("\r\n".join(written) + "\r\n\r\n").encode("latin-1")
 
     def _body(self, reply: Message) -> bytes:

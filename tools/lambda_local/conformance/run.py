@@ -12,6 +12,7 @@ from .clock import CLOCK
 from .kit import FAIL, Jury, OpenStage, Scenario, Verdict
 from .process import Processes, program_of
 from .report import Report
+from .sometimes import run_alone
 from .stage import Stage, Tools, patient
 from .watch import OLDER
 from ..guard import GUARD
@@ -149,7 +150,7 @@ def judge_others(scenarios: List[Scenario], open_stage: OpenStage, report: Repor
     confirmed = 0
     for scenario, verdicts in sorted(failed, key=lambda one: fails_later(one[1])):  # (the cause comes first)
         if confirmed < ENOUGH and report.tells(verdicts):
-            verdicts = kit.run_alone(scenario, open_stage, verdicts)
+            verdicts = run_alone(scenario, open_stage, verdicts)
             confirmed += kit.has_failed(verdicts)
         report.add_all(verdicts, only)
 

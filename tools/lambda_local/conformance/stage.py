@@ -7,11 +7,10 @@ import itertools
 import json
 import math
 import os
-import tempfile
 import time
 from typing import Any, Callable, Dict, Iterator, List, NamedTuple, Optional, Sequence, Union
 
-from ..history import parked
+from ..history import Parked
 from ..service import Fault, Service, ask
 from .clock import CLOCK
 from .environment import LOOK, Environment
@@ -89,7 +88,7 @@ class Stage:
     def __init__(self, tools: Tools, scenario: Scenario, jury: Jury, environments: int = 1, timeout: int = 30,
                  handler: str = KITS_HANDLER, start: bool = True, extensions: Sequence[str] = (), lasts: int = 0,
                  drawn: bool = True, first: bool = False, variables: Optional[Dict[str, str]] = None,
-                 own_folder: bool = False, judged: str = FAIL) -> None:
+                 judged: str = FAIL) -> None:
         self.tools, self.scenario, self.jury, self.variables = tools, scenario, jury, dict(variables or {})
         # (the service's clock is the real one: on a busy machine a function has more of it)
         self.is_long, self.is_first = timeout > SILENT, first  # (no handler takes as long)
@@ -101,8 +100,7 @@ class Stage:
         configuration = {"account": ACCOUNT, "region": REGION, "salt": salt(), "functions": [function]}
         with tools.processes.opening():
             self.service = Service(configuration, tools.program)
-        if own_folder:  # for temporary files, below the service's, which is removed in any case
-            self.variables["TMPDIR"] = tempfile.mkdtemp(dir=self.service.folder)
+        self.parked = Parked(self.service.port)
         self.function = self.service.configuration["functions"][0]
         self.arn = f"arn:aws:lambda:{REGION}:{ACCOUNT}:function:{self.name}"
         self.environments = [Environment(self, number, port) for number, port in enumerate(self.function["ports"], 1)]
@@ -141,6 +139,7 @@ class Stage:
         for environment in self.environments:
             environment.kill()
         self.service.kill()
+        self.parked.close()
         for environment in self.environments:
             environment.proxy.close()
         self._callers.shutdown()
@@ -247,7 +246,7 @@ class Stage:
     def idle(self) -> None:
         """Waits until each environment's runtime waits for an invocation."""
         own = OwnTime(self.environment.process.number)
-        while len(parked(self.service.history())[0]) < len(self.environments):
+        while len(self.parked.read()[0]) < len(self.environments):
             refused = [one for one in self.environment.proxy.of("next") if one.refused and one.status not in (403, 500)]
             if (own.look() > SILENT or len(refused) > REFUSED
                     or any(environment.is_started and environment.process.ended for environment in self.environments)):

@@ -24,7 +24,7 @@ CHECKS = {"memory": "memory", "descriptors": "descriptors", "threads": "threads"
     ("children", pages.REUSE, "nor processes that run"),
     ("zombies", pages.REUSE, "nor ended ones that are not waited for"),
     ("files", pages.REUSE, "nor large files; a small one for each event is a SHOULD"),
-    lasts=10, drawn=False, own_folder=True)
+    lasts=10, drawn=False)
 def many_events(stage: ExtensionStage) -> None:
     stage.begin()
     stage.idle()

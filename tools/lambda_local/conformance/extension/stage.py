@@ -5,7 +5,6 @@ import threading
 import time
 from typing import Any, Dict, List, Optional, Tuple
 
-from ...history import parked
 from ...service import EXTENSION, RUNTIME, ask
 from ..clock import CLOCK
 from ..kit import Jury, Missing, Scenario
@@ -217,7 +216,7 @@ class ExtensionStage(Stage):
         """Waits until the runtime and the extension wait."""
         own = OwnTime(self.environment.process.number)
         while True:
-            runtimes, extensions = parked(self.service.history())
+            runtimes, extensions = self.parked.read()
             if runtimes and extensions.get(1, 0) >= (2 if self.companion else 1):
                 return
             polls = self.environment.proxy.of("event")

@@ -53,6 +53,8 @@ WAYS = (
     Way("header_spaces", pages.FIELD_LINES,
         "there may be no space, or several, between a header's colon and its value; Lambda writes one: a SHOULD",
         (Manner(spaces=""), Manner(spaces="  \t")), SHOULD),
+    Way("reason_phrase", pages.STATUS_LINE, "the words behind the status of an answer may be others, or none: a SHOULD",
+        (Manner(reason=""), Manner(reason="As You Like")), SHOULD),
     Way("empty_answers", pages.RESPONSE, "the body of the answer to a response, which no page describes, may be empty",
         (Manner(kinds=("response", "error"), body=b""),)),
     Way("more_headers", pages.NEXT, "headers that it does not know do no harm", (Manner(more=MANY),)),

@@ -4,7 +4,7 @@ from typing import List
 
 from .. import leaks, pages
 from ..again import MESSAGE, TYPE, usable
-from ..kit import NOTE, SHOULD, Missing, Scenario, scenarios_of
+from ..kit import NOTE, Missing, Scenario, scenarios_of
 from ..stage import Stage, compact, shown
 
 SCENARIOS: List[Scenario] = []
@@ -33,7 +33,7 @@ CHECKS = {"memory": "memory", "descriptors": "descriptors", "threads": "threads"
     ("children", pages.REUSE, "nor processes that run"),
     ("zombies", pages.REUSE, "nor ended ones that are not waited for"),
     ("files", pages.REUSE, "nor payloads in files; a small file for each invocation is a SHOULD"),
-    lasts=20, drawn=False, own_folder=True)
+    lasts=20, drawn=False)
 def a_thousand(stage: Stage) -> None:
     given = stage.tools.options.invocations
     wanted, mark = given or INVOCATIONS, uuid.uuid4().hex
@@ -73,12 +73,12 @@ def goes_on_after_errors(stage: Stage) -> bool:
 @scenario(
     ("environments_apart", pages.REUSE,
      "several environments of a function, each a process, do not meet: each caller has its own output; Lambda keeps "
-     "their ports and files apart, and a local one may not: a SHOULD"),
-    environments=ENVIRONMENTS, judged=SHOULD)
+     "their ports and files apart, and a machine of one's own does not: a NOTE"),
+    environments=ENVIRONMENTS, judged=NOTE)
 def several_at_once(stage: Stage) -> None:
     stage.idle()
     waiting = [stage.later(stage.output, {"do": "sleep", "value": 300 + number}) for number in range(ENVIRONMENTS)]
     came = [each.result() for each in waiting]
     if came != [300 + number for number in range(ENVIRONMENTS)]:
-        return stage.should("environments_apart", shown(came))
+        return stage.note("environments_apart", shown(came))
     return stage.check("environments_apart", True, "")

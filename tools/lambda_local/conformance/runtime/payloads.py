@@ -49,6 +49,8 @@ KINDS: Dict[str, Any] = {
     "same": {"same": {"same": [{"same": 1}, {"same": 2}]}}, "equal": [{"a": ["b", {}]}, {"a": ["b", {}]}],
     "mixed": [1, "1", True, "true", None, "null", 1.5, "1.5"],
 }
+# Texts that are outputs by themselves, and look like JSON, or like nothing.
+ALONE = ('{"a":[1,null]}', "[1, 2]", "null", "true", "17", '"quoted"', "2024-01-15T10:30:00Z", " both ", "one\ntwo", "{")
 
 
 def received(stage: Stage, name: str, event: Event, expected: Any) -> None:
@@ -119,7 +121,7 @@ def kinds_of_members(stage: Stage) -> None:
     received(stage, "kinds", {"do": "echo", "value": KINDS}, KINDS)
     received(stage, "kinds", KINDS, KINDS)
     for value in ([KINDS, [], {}, [[]], None, "", [None]], list(range(MANY)),
-                  {f"member {number}": number for number in range(MANY)}):
+                  {f"member {number}": number for number in range(MANY)}, *ALONE):
         received(stage, "kinds", {"do": "echo", "value": value}, value)
 
 
