@@ -90,7 +90,7 @@ class Life:
             headers["Lambda_Runtime_Trace_Id"] = headers["Lambda_Runtime_Trace_Id"].split(";")[0]
         if "drops-deadline" in self.faults:
             del headers["Lambda_Runtime_Deadline_Ms"]
-        event = self._written(invocation.payload, "reencodes-events")
+        event = self._written(invocation.payload, "reencodes-events", "minifies-events")
         self._answer_poll(Reply(200, event[:PART] if "cuts-events" in self.faults else event, **headers))
         for one in self.extensions.values():
             if "INVOKE" in one.events and one.poll and "tells-no-invoke" not in self.faults:
@@ -103,12 +103,14 @@ class Life:
     def _later(self, fault):
         return LATER[fault] if fault in self.faults else 0
 
-    def _written(self, body, fault):
-        """A body, written anew if this fault is planted."""
-        if fault not in self.faults:
+    def _written(self, body, *faults):
+        """A body, written anew if one of these faults is planted."""
+        planted = [fault for fault in faults if fault in self.faults]
+        if not planted:
             return body
+        form = {"separators": (",", ":")} if planted[0].startswith("minifies") else {"indent": 1}
         try:
-            return json.dumps(json.loads(body), indent=1).encode()
+            return json.dumps(json.loads(body), **form).encode()
         except ValueError:
             return body
 
@@ -129,8 +131,11 @@ class Life:
         self.invocation = None
 
     def _tell_caller(self, body, failed):
-        body = self._written(body, "reencodes-reports" if failed else "reencodes-outputs")
+        body = self._written(body, *(["reencodes-reports"] if failed else ["reencodes-outputs", "minifies-outputs"]))
         body = body[:PART] if "cuts-outputs" in self.faults else body
+        if failed and "loses-the-cause" in self.faults:
+            body = json.dumps({name: value for name, value in json.loads(body).items() if name != "cause"},
+                              separators=(",", ":")).encode()
         if failed and "loses-error-type" in self.faults:
             body = json.dumps({name: value for name, value in json.loads(body).items() if name != "errorType"}).encode()
         headers = {"X_Amz_Executed_Version": "$LATEST", "x_amzn_RequestId": self.invocation.id}

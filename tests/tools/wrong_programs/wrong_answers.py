@@ -243,6 +243,15 @@ class RepeatsWhatIsTooLarge(Runtime):
         super().sent(answer, request, output)
 
 
+class RepeatsOnceWhatIsLate(Runtime):
+    check = "late_response"
+
+    def sent(self, answer, request, output):
+        if answer.status == 403:
+            self.ask("POST", f"invocation/{request}/response", self.dump(output))
+        super().sent(answer, request, output)
+
+
 class RepeatsWhatIsLate(Runtime):
     check = "late_response"
 

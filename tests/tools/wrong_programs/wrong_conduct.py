@@ -108,6 +108,14 @@ class AsksBeforeItResponds(Runtime):
         return super().call(event, headers)
 
 
+class AsksWhileALargeEventIsHandled(AsksBeforeItResponds):
+    check = "output_limit"
+
+    def call(self, event, headers):
+        is_large = isinstance(event, dict) and len(str(event.get("value"))) > 1_000_000
+        return super().call(event, headers) if is_large else Runtime.call(self, event, headers)
+
+
 class RespondsTwice(Runtime):
     check = "responds_once"
 

@@ -44,7 +44,7 @@ def fault_after(stage: Stage, word: str = "again", process: Optional[Process] = 
                 usable(stage)
     except Missing as missing:
         return f"a later invocation: {missing}"
-    return answered_twice(stage)
+    return answered_twice(stage) or asked_early(stage)
 
 
 def answered_twice(stage: Stage) -> Optional[str]:
@@ -55,6 +55,17 @@ def answered_twice(stage: Stage) -> Optional[str]:
             return f"an invocation is answered twice: {exchange}"
         if exchange.status == ACCEPTED and not exchange.by_rule:
             accepted.add(exchange.request_id)
+    return None
+
+
+def asked_early(stage: Stage) -> Optional[str]:
+    """A Next that was asked for after a delivery and before the response to it, in words."""
+    proxy = stage.environment.proxy
+    polls, sent = proxy.of("next"), proxy.of("response", "error")
+    for poll in polls:
+        own = next((one.begun for one in sent if one.request_id == poll.delivered), None)
+        if poll.delivered and own and not poll.by_rule and any(poll.end <= other.begun < own for other in polls):
+            return f"it asks for the next invocation before it responds to {poll.delivered}"
     return None
 
 

@@ -39,6 +39,7 @@ TOLD: Dict[Pattern[str], Tuple[str, ...]] = {
     re.compile(r"sees the request identifier"): ("request_id",),
     re.compile(r"sees the trace"): ("trace_id", "trace_renewed"),
     re.compile(r"the remaining milliseconds are"): ("deadline",),
+    re.compile(r"asks for the next invocation before"): ("next_after_response", "one_next"),
     re.compile(r"in place of the error"): ("error_reported", "error_message", "error_texts")}
 
 

@@ -1,5 +1,5 @@
 """Answers that are refused: what the runtime does then, and that it is of use afterwards."""
-from typing import List
+from typing import List, Optional
 
 from .. import pages
 from ..again import fault_after
@@ -29,9 +29,19 @@ def goes_on(stage: Stage, name: str, exchange: Exchange) -> None:
     if asked:  # (on a connection of which it has not read the refusal to its end it does not come further)
         process.wait(0.1)
     fault = fault_after(stage, f"after {refused}", process if asked else None)
+    fault = fault or sent_again(stage, exchange)
     if fault or asked:
         return stage.check(name, not fault, fault)
     return stage.note(name, f"after {refused} {process.how_it_ended()}, which no document forbids")
+
+
+def sent_again(stage: Stage, exchange: Exchange) -> Optional[str]:
+    """A refused response that is sent once more, in words. (One whose refusal came before it was whole may have lost
+    that with its connection.)"""
+    if exchange.asked is None or exchange.asked > exchange.end:
+        return None
+    times = sum(one.request_id == exchange.request_id for one in stage.environment.proxy.of("response"))
+    return f"after {exchange.status} it sends the same response again: {times} times in all" if times > 1 else None
 
 
 @scenario(

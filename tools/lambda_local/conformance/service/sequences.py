@@ -30,6 +30,16 @@ an error
   invoke a ={"n":1}
   failure a REPORT
   next
+bodies as they are written
+  register x =probe -
+  ext-next x
+  next
+  invoke a ={%20"b":%201.50,%0A"a":%20[1e3,%20"\\u00e9"]%20}
+  response a =[%202.0%20,{"z":1,"a":null}%20]
+  next
+  invoke b =1
+  failure b ={"errorType":"A.Type","errorMessage":"two%20%20spaces","stackTrace":[],"cause":{"errorMessage":"why"}}
+  next
 an invocation that waits for the runtime
   register x =probe -
   ext-next x
