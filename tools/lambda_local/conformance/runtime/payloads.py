@@ -50,7 +50,8 @@ KINDS: Dict[str, Any] = {
     "mixed": [1, "1", True, "true", None, "null", 1.5, "1.5"],
 }
 # Texts that are outputs by themselves, and look like JSON, or like nothing.
-ALONE = ('{"a":[1,null]}', "[1, 2]", "null", "true", "17", '"quoted"', "2024-01-15T10:30:00Z", " both ", "one\ntwo", "{")
+ALONE = ('{"a":[1,null]}', "[1, 2]", "null", "true", "17", '"quoted"', "2024-01-15T10:30:00Z", " both ", "one\ntwo",
+         "{")
 
 
 def received(stage: Stage, name: str, event: Event, expected: Any) -> None:
