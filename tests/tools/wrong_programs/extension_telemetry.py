@@ -86,6 +86,17 @@ class LooksForARequestInEachPlatformEvent(Extension):
         return super().taken(batch)
 
 
+class LooksForARequestInAnyPlatformEvent(Extension):
+    """In those that it does not know, too."""
+    check, also = "takes_telemetry", {"takes_dropped"}
+
+    def taken(self, batch):
+        for event in batch:
+            if event["type"].startswith("platform."):
+                event["record"]["requestId"]
+        return super().taken(batch)
+
+
 class EndsWhenEventsWereDropped(Extension):
     check = "takes_dropped"
 

@@ -30,6 +30,7 @@ FOLLOWS: Dict[str, Tuple[str, ...]] = {
     "ends_at_spindown": ("asks_after_invoke",), "many_events": ("asks_after_invoke",),
     "ends_at_timeout": ("asks_after_invoke", "ends_at_spindown"), "ends_at_failure": ("ends_at_spindown",),
     "crash_noticed": ("ends_at_spindown",), "telemetry": ("asks_after_invoke",), "exit_error": ("init_error",),
+    "takes_dropped": ("takes_telemetry",), "takes_logs": ("takes_telemetry",),
     "ends_at_500": ("init_error_ends", "ends_at_spindown", "crash_noticed"),
     "ends_at_500_register": ("crash_noticed", "ends_at_500"), "refused_registration": ("ends_at_500_register",),
     "refused_next": ("ends_at_spindown", "crash_noticed", "ends_at_500"),
@@ -39,6 +40,7 @@ TOLD: Dict[Pattern[str], Tuple[str, ...]] = {
     re.compile(r"sees the request identifier"): ("request_id",),
     re.compile(r"sees the trace"): ("trace_id", "trace_renewed"),
     re.compile(r"the remaining milliseconds are"): ("deadline",),
+    re.compile(r"an invocation is answered twice"): ("responds_once",),
     re.compile(r"asks for the next invocation before"): ("next_after_response", "one_next"),
     re.compile(r"in place of the error"): ("error_reported", "error_message", "error_texts")}
 
