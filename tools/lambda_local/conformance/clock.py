@@ -4,7 +4,7 @@ import threading
 import time
 from typing import Any, Callable, Optional
 
-PAUSE = 0.15  # seconds between two looks
+PAUSE, FIRST_PAUSE = 0.15, 0.02  # seconds between two looks, and before the first one
 SHARE = 10  # of the time that a look takes, it pauses at least: it is not to take what little there is
 LONGEST_PAUSE = 3.0  # seconds
 WORK = 0.003  # seconds of a processor for each look
@@ -22,6 +22,7 @@ class Clock:
 
     def start(self) -> None:
         self._begun = self._at = time.monotonic()
+        self._look(FIRST_PAUSE)  # (before anything has a limit)
         threading.Thread(target=self._run, daemon=True).start()
 
     def now(self) -> float:
@@ -57,19 +58,24 @@ class Clock:
     def _run(self) -> None:
         pause = PAUSE
         while True:
-            begun = time.monotonic()
-            time.sleep(pause)
-            worked = time.thread_time()
-            while time.thread_time() - worked < WORK:
-                pass
-            took = time.monotonic() - begun - pause
-            pause = min(LONGEST_PAUSE, max(PAUSE, SHARE * took))
-            with self._lock:
-                passed = time.monotonic() - self._at
-                seen = min(passed, LONGEST) / self._slowness  # what `now` may have said
-                self._slowness = min(SLOWEST, max(1.0, took / WORK))
-                self._counted += max(seen, passed / self._slowness)
-                self._at += passed
+            pause = min(LONGEST_PAUSE, max(PAUSE, SHARE * self._look(pause)))
+
+    def _look(self, pause: float) -> float:
+        """Counts the time since the last look, by how long it takes after a pause to be woken and to work a little: the
+        seconds that this took."""
+        begun = time.monotonic()
+        time.sleep(pause)
+        worked = time.thread_time()
+        while time.thread_time() - worked < WORK:
+            pass
+        took = time.monotonic() - begun - pause
+        with self._lock:
+            passed = time.monotonic() - self._at
+            seen = min(passed, LONGEST) / self._slowness  # what `now` may have said
+            self._slowness = min(SLOWEST, max(1.0, took / WORK))
+            self._counted += max(seen, passed / self._slowness)
+            self._at += passed
+        return took
 
 
 CLOCK = Clock()

@@ -20,6 +20,7 @@ from ..service import Fault, NoProgram
 from ..usage import parser_of as parser_of_tool
 
 
+BUSY = 2  # times as long as usual a little work takes, from which on what is late may be late for that reason
 ENOUGH = 5  # scenarios that have failed by themselves, after which what has failed beside others is believed
 
 
@@ -113,6 +114,8 @@ def play(name: str, registry: List[Scenario], options: argparse.Namespace, comma
         def open_stage(scenario: Scenario, jury: Jury) -> Stage:
             return stage(tools, scenario, jury, **scenario.settings)
         first = kit.run(registry[0], open_stage)
+        if any(verdict.stops for verdict in first) and CLOCK.slowness() > BUSY:  # (nothing else would be judged)
+            first = kit.run(registry[0], open_stage)
         if any(verdict.stops for verdict in first):
             report.write("it does not come so far that the other checks can judge it:")
             chosen, only = [], []
