@@ -158,10 +158,12 @@ class Deno(Runtime):
 
 
 class Php(Runtime):
-    """A language with one type for lists and objects: of an object without members it makes an empty list."""
+    """A language with one type for lists and objects: of an object without members it makes an empty list. Its numbers
+    have 14 digits by default."""
 
     def read(self, payload):
-        return json.loads(payload, object_hook=lambda value: value or [])
+        return json.loads(payload, object_hook=lambda value: value or [],
+                          parse_float=lambda text: float(f"{float(text):.14g}"))
 
 
 class CompiledIn(Runtime):

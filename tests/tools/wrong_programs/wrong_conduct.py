@@ -116,6 +116,14 @@ class AsksWhileALargeEventIsHandled(AsksBeforeItResponds):
         return super().call(event, headers) if is_large else Runtime.call(self, event, headers)
 
 
+class LosesItsOutputs(Runtime):
+    """As one that does not wait for what the handler promises."""
+    check = "first_echo"
+
+    def respond(self, request, output):
+        return super().respond(request, {})
+
+
 class RespondsTwice(Runtime):
     check = "responds_once"
 

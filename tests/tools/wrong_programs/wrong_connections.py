@@ -207,6 +207,22 @@ class NeverConnectsAgain(Runtime):
     connected = Once
 
 
+class ReadsSizesInDecimal(Runtime):
+    """Of chunks."""
+    check = "chunked_answers"
+
+    class InDecimal(Connection):
+        def _chunks(self):
+            parts = []
+            while size := int(self._until(b"\r\n"), 10):
+                parts.append(self._take(size))
+                self._until(b"\r\n")
+            self._until(b"\r\n")
+            return b"".join(parts)
+
+    connected = InDecimal
+
+
 class KnowsStatusLines(Runtime):
     """Compares the whole line with those that the service writes if all is well."""
     check, outcome = "reason_phrase", "SHOULD"

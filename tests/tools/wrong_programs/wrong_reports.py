@@ -300,6 +300,16 @@ class LoadsItsHandlerLate(Runtime):
         return super().call(event, headers)
 
 
+class TakesAMissingFunctionForAnEcho(Runtime):
+    check = "missing_function"
+
+    def load(self):
+        try:
+            super().load()
+        except AttributeError:
+            self.handler = lambda event, context: event
+
+
 class TakesAMissingHandlerForAnEcho(Runtime):
     check = "missing_handler"
 

@@ -24,7 +24,8 @@ FOLLOWS: Dict[str, Tuple[str, ...]] = {
     "closing_answers": ("connection_end", "header_names"), "slow_answers": ("long_text",),
     "cut_event": ("slow_answers", "long_text", "connection_end"), "lost_poll": ("connection_end",),
     "connection_end": ("asks_after_invoke",),
-    "missing_handler": ("init_error",), "broken_handler": ("init_error",), "responds_once": ("error_reported",),
+    "missing_handler": ("init_error",), "missing_function": ("init_error", "missing_handler"),
+    "broken_handler": ("init_error",), "responds_once": ("error_reported",),
     "long_handler": ("late_response",),
     # of extensions
     "ends_at_spindown": ("asks_after_invoke",), "many_events": ("asks_after_invoke",),

@@ -16,7 +16,7 @@ EACH = 0.02  # of one thing, that is left behind for a request at least
 LEAKED = 12  # of one thing, that are left behind at least
 LARGEST = 4  # times as often as is asked for it is repeated, for as long as memory grows
 STEP = 200_000  # bytes by which memory grows in each part, at least, if it does not stop
-GROWN = 4_000_000  # and in all
+GROWN, SUSPECT = 4_000_000, 2_500_000  # and in all; and as much that it is worth to go on
 EVEN = 0.5  # of the growth before, that there is still at the end
 READ = 200_000  # bytes of a file that are searched
 FILE = 1000  # bytes of a file that may be one for each request; a larger one is a payload
@@ -56,8 +56,9 @@ class Looks:
             return (FAIL if more >= LEAKED else NOTE), f"{last} invocations are too few to tell: {words}"
         return (FAIL if more >= max(LEAKED, EACH * (last - first)) else PASS), words
 
-    def grows(self) -> int:
-        """Whether memory has grown in each of the last parts, and evenly: the bytes for each request; 0 if not."""
+    def grows(self, least: int = GROWN) -> int:
+        """Whether memory has grown in each of the last parts, evenly, and by as many bytes at least: those for each
+        request; 0 if not."""
         values = self._values("memory")
         if len(values) < LEAST_PARTS + 2:
             return 0
@@ -69,7 +70,7 @@ class Looks:
         steps = sum(after - before > STEP for before, after in zip(lowest, lowest[1:]))
         even = last - middle >= EVEN * (middle - first)
         grown = last - first
-        if grown < GROWN or not even or steps < (len(tail) - 1) * 0.6:
+        if grown < least or not even or steps < (len(tail) - 1) * 0.6:
             return 0
         return int(grown // max(1, self.done - self._looks[len(values) // 4].done))
 
@@ -92,7 +93,7 @@ def repeat(process: Process, files: "Files", once: Callable[[int], None], count:
         looks.look(done)
         files.look(done)
     end = CLOCK.now() + patience
-    while looks.grows() and CLOCK.now() < end and done < LARGEST * count:
+    while looks.grows(SUSPECT) and CLOCK.now() < end and done < LARGEST * count:
         for _ in range(part):
             once(done)
             done += 1

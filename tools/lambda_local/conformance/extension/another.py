@@ -20,7 +20,7 @@ WAYS = (
         "names of headers are read in any case, as on the page, in upper case, and in any order",
         (Manner(named=titled), Manner(named=str.upper, backwards=True))),
     Way("chunked_answers", pages.CHUNKED, "an answer that comes in chunks is read as one that does not",
-        (Manner(chunk=5),)),
+        (Manner(chunk=5), Manner(chunk=27))),
     Way("more_headers", pages.EXTENSION_NEXT, "headers that it does not know do no harm", (Manner(more=MANY),)),
     Way("slow_answers", pages.FRAMING,
         "an answer that comes in parts, with pauses between them, is read to its end, and so is one of single bytes",

@@ -110,6 +110,8 @@ def ends_at(stage: ExtensionStage, name: str, reason: str) -> None:
     asked = "it asked for other events, and " if len(stage.polls_after(exchange)) > 1 else ""
     stage.in_time(name, ended, own, SHUTDOWN_SECONDS + SPARE,
                   f"{asked}it still ran {SHUTDOWN_SECONDS:g} s after its SHUTDOWN, and was killed")
+    if ended and stage.environment.process.status:
+        stage.note(name, f"at its SHUTDOWN {stage.said()}")
 
 
 def without_shutdown(stage: ExtensionStage) -> bool:

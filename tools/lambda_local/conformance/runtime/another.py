@@ -49,7 +49,7 @@ WAYS = (
         "names of headers are read in any case, as on the page, in upper case, and in any order",
         (Manner(named=titled), Manner(named=str.upper, backwards=True))),
     Way("chunked_answers", pages.CHUNKED, "an event that comes in chunks is read as one that does not, and so is each "
-                                          "other answer", (Manner(kinds=("next",), chunk=7), Manner(chunk=5))),
+                                          "other answer", (Manner(kinds=("next",), chunk=7), Manner(chunk=27))),
     Way("header_spaces", pages.FIELD_LINES,
         "there may be no space, or several, between a header's colon and its value; Lambda writes one: a SHOULD",
         (Manner(spaces=""), Manner(spaces="  \t")), SHOULD),

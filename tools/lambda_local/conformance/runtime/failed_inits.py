@@ -4,7 +4,7 @@ from typing import List, Optional
 from .. import pages
 from ..clock import CLOCK
 from ..exchanges import Exchange
-from ..kit import Scenario, scenarios_of
+from ..kit import FAIL, SHOULD, Scenario, scenarios_of
 from ..stage import Stage, shown
 
 SCENARIOS: List[Scenario] = []
@@ -14,9 +14,9 @@ ENDS = 3  # seconds in which a process that has to end promptly has ended
 REPORTED = 5  # seconds beyond an Init's limit
 
 
-def init_fails(stage: Stage, report_check: str) -> Optional[Exchange]:
-    """An Init that cannot succeed is reported: that report's exchange; None, with the check judged, if there is
-    none."""
+def init_fails(stage: Stage, report_check: str, late: str = FAIL) -> Optional[Exchange]:
+    """An Init that cannot succeed is reported: that report's exchange; None, with the check judged, if there is none.
+    `late` is what it is if each invocation fails instead."""
     environment = stage.environment
     process, proxy = environment.process, environment.proxy
     end = CLOCK.now() + stage.tools.options.init_seconds + REPORTED
@@ -33,8 +33,8 @@ def init_fails(stage: Stage, report_check: str) -> Optional[Exchange]:
     if proxy.of("next"):
         answer = stage.invoke({"do": "echo", "value": 1})
         if answer.failed:
-            stage.check(report_check, False,
-                        f"it asked for an invocation, and only that one failed: {shown(answer.body)}")
+            stage.jury.judge(report_check, late,
+                             f"it asked for an invocation, and only that one failed: {shown(answer.body)}")
         elif answer.body.strip() != b"1":
             stage.check(report_check, False, f"no Init fails, and for the value 1 the caller received "
                                              f"{shown(answer.body)}")
@@ -68,6 +68,14 @@ def failing_init(stage: Stage) -> None:
     handler="missing.handler")
 def handler_that_is_missing(stage: Stage) -> None:
     init_fails(stage, "missing_handler")
+
+
+@scenario(
+    ("missing_function", pages.INIT_ERROR,
+     "so is one whose file is there, and has no such function; that each invocation fails instead is a SHOULD"),
+    handler="conformance.missing")
+def function_that_is_missing(stage: Stage) -> None:
+    init_fails(stage, "missing_function", SHOULD)
 
 
 @scenario(

@@ -15,6 +15,7 @@ scenario = scenarios_of(SCENARIOS)
 ACCEPTED = 202
 SECONDS = 10  # for the first answer
 HANDLER = "docs/conformance.md has the handler that is expected, and examples/conformance has it for some languages"
+NOTHING = (b"", b"null", b"{}", b"undefined")  # what stands for no result
 # Events that the handler answers otherwise than any other handler would, with what it gives.
 PROBES: Tuple[Tuple[Dict[str, Any], Any], ...] = (
     ({"do": "echo", "value": 17}, 17), ({"do": "large", "value": 3}, "xxx"), ({"do": "bytes", "value": "a"}, [97]))
@@ -50,7 +51,8 @@ def first_echo(stage: Stage) -> None:
 def is_wrong(stage: Stage, event: Event, answer: Answer) -> None:
     """The one FAIL of a runtime of which nothing else can be judged."""
     stage.jury.stops = True
-    stage.check("first_echo", False, f"for {shown(compact(event))} the caller received {shown(answer.body)}")
+    why = f": is what the handler returns awaited, and passed on? Else {HANDLER}" if gives_nothing([answer]) else ""
+    stage.check("first_echo", False, f"for {shown(compact(event))} the caller received {shown(answer.body)}{why}")
 
 
 def first_answer(stage: Stage, event: Event) -> Answer:
@@ -70,8 +72,11 @@ def first_answer(stage: Stage, event: Event) -> Answer:
 
 
 def refuse_another_handler(answers: List[Answer]) -> None:
-    """A handler that gives the same for different events, or each event back, is not the kit's."""
+    """A handler that gives the same for different events, or each event back, is not the kit's. (If it gives nothing,
+    its runtime may have lost that.)"""
     bodies = [answer.body for answer in answers]
+    if gives_nothing(answers):
+        return
     came = f"for {shown(compact(PROBES[0][0]))} the caller received {shown(bodies[0])}"
     if len({(answer.failed, reported(answer)) for answer in answers}) == 1:
         raise Fault(2, f"{came}, and the same for other events: {HANDLER}")
@@ -79,6 +84,10 @@ def refuse_another_handler(answers: List[Answer]) -> None:
             "".join(compact(event).decode().split()) in "".join(body.decode(errors="replace").replace("\\", "").split())
             for (event, _), body in zip(PROBES, bodies)):
         raise Fault(2, f"{came}, which has the event in it: {HANDLER}")
+
+
+def gives_nothing(answers: List[Answer]) -> bool:
+    return not any(answer.failed or answer.body.strip() not in NOTHING for answer in answers)
 
 
 def reported(answer: Answer) -> Any:

@@ -1,4 +1,5 @@
 """Payloads: what the handler receives, and what its caller receives."""
+import decimal
 import json
 from typing import Any, Dict, List
 
@@ -18,6 +19,7 @@ ESCAPES = r'"\"\\\/\b\f\n\r\t\u0000\u00e9\u4e16\ud83d\ude80\u2028"'
 SPACED = (b' {"a": 1}\n', b'{\r\n\t"a": [\n1,\n2\n],\n\n"b" : null\n}\n', b'\n[ 1\n, "two" ]', b" 17 ")
 NUMBERS = ["0", "-1", "1.50", "1e3", "0.1", "9007199254740993", "12345678901234567890", "-1.7976931348623157e308",
            "5e-324"]
+PRECISION = decimal.Decimal("1e-13")  # to which some languages write numbers by default (RFC 8259 lets them)
 DEPTH = 100
 STREAMS = (["the first of the parts, ", "the second one, " * 20, "the third"],
            ["Gr\u00fc\u00dfe, ", "\u4e16\u754c, ", "", "and behind a part that is empty " * 300, "\U0001f680"])
@@ -150,7 +152,8 @@ def nested(stage: Stage) -> None:
 
 @scenario(
     ("numbers", pages.JSON_NUMBERS,
-     "numbers are returned as they were written, or at least with the same value as binary64 (a NOTE)"))
+     "numbers are returned as they were written, or at least with the same value as binary64, or to 13 digits of it (a "
+     "NOTE)"))
 def numbers(stage: Stage) -> None:
     sent = "[" + ",".join(NUMBERS) + "]"
     body = stage.invoke(b'{"do":"echo","value":' + sent.encode() + b"}").body.decode(errors="replace")
@@ -164,7 +167,15 @@ def numbers(stage: Stage) -> None:
     changed = [f"{before} came as {after}" for before, after in pairs if before != after]
     if all(float(before) == float(after) for before, after in pairs):
         return stage.note("numbers", "the same as binary64, written otherwise: " + ", ".join(changed))
+    if all(is_near(before, after) for before, after in pairs):
+        return stage.note("numbers", "the same to 13 digits, as its writer may limit precision: " + ", ".join(changed))
     return stage.check("numbers", False, ", ".join(changed))
+
+
+def is_near(before: str, after: str) -> bool:
+    """Whether a number is the same to a few digits. (The greatest one is beyond binary64, if its last digits are.)"""
+    wanted = decimal.Decimal(before)
+    return float(before) == float(after) or abs(decimal.Decimal(after) - wanted) <= PRECISION * abs(wanted)
 
 
 class Written(str):

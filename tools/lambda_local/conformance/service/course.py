@@ -133,6 +133,7 @@ class Course:
         """The first difference of a step that is not accepted (a call's place, its label, the aspect), and whether the
         two have parted with one that is."""
         here = {given.call: given for given in plan.steps[step]}
+        judge.since = exchanges[step].sent if step in exchanges and plan.sequence.calls[step].kind != "wait" else None
         before = [given for earlier in plan.steps[:step] for given in earlier]
         answered_before = (open_invocation(plan, step) is None
                            and any(given.answer.kind == "deliver" for given in before))

@@ -1,6 +1,6 @@
 """Compares a reply with the definitions' answer, up to identifiers, times and texts that are a service's own."""
 import json
-from typing import Any, Dict, Iterator, List, NamedTuple, Tuple
+from typing import Any, Dict, Iterator, List, NamedTuple, Optional, Tuple
 
 from ..clock import CLOCK
 from ..pages import (EXTENSION_EXIT_ERROR, EXTENSION_INIT_ERROR, EXTENSION_NEXT, INIT_ERROR, INIT_PHASE, INVOKE_ERROR,
@@ -65,6 +65,7 @@ class Judge:
         self.plan = plan
         self.ids: Ids = {}
         self.deadlines: Dict[str, int] = {}  # by the labels of invocations, what Lambda-Runtime-Deadline-Ms said
+        self.since: Optional[float] = None  # when the call was sent that gave the answers of this step
 
     def aspects(self, given: Given, label: str, exchange: Exchange) -> List[Aspect]:
         """The respects in which a reply is another than the answer that is given."""
@@ -196,12 +197,14 @@ class Judge:
         flag = header(exchange, "x-amz-function-error")
         return "function-error", flag, "Unhandled"
 
-    @staticmethod
-    def _deadline(value: Any, given: Given, exchange: Exchange) -> Pair:
-        """A deadline in Unix milliseconds, by the service's clock, which is this one's up to a little."""
+    def _deadline(self, value: Any, given: Given, exchange: Exchange) -> Pair:
+        """A deadline in Unix milliseconds, by the service's clock, which is this one's up to a little. It was told
+        between the call that led to it and its arrival here, which is late on a busy machine."""
         number = int(value) if str(value).isdigit() else None
         ours = exchange.wall + given.remaining
-        fits = number is not None and abs(number - ours) <= tolerance()
+        before = tolerance() if self.since is None or exchange.answered is None else (
+            TOLERANCE + 1000 * (exchange.answered - self.since))
+        fits = number is not None and -before <= number - ours <= TOLERANCE
         return "deadline", value, value if fits else f"about {ours:.0f}"
 
     def _deadline_of_event(self, value: Any, given: Given, exchange: Exchange) -> Pair:
