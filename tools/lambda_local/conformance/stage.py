@@ -208,6 +208,8 @@ class Stage:
             if all(environment.is_started and environment.process.ended for environment in self.environments):
                 concurrent.futures.wait([waiting], 0.5)
                 break
+            if own and self.waits():
+                own = OwnTime(self.environment.process.number)
             if self.is_long and own and own.look() > SILENT:
                 raise Missing(f"the caller received no answer within {SILENT} s: {self.said()}")
         if not waiting.done():
@@ -216,6 +218,11 @@ class Stage:
             return Answer(*waiting.result())
         except (OSError, http.client.HTTPException) as fault:
             raise Missing(f"the caller received no answer: {fault}") from None
+
+    def waits(self) -> bool:
+        """Whether each tested process waits for what it has asked for: until that comes it is not late."""
+        polls = [environment.proxy.of(self.poll_kind)[-1:] for environment in self.environments]
+        return all(last and not last[0].ended for last in polls)
 
     def said(self) -> str:
         """How the tested process ended, and its last line."""

@@ -66,6 +66,8 @@ def first_answer(stage: Stage, event: Event) -> Answer:
         refused = next((one for one in sent if one.refused and one.request_id not in accepted), None)
         if refused and not waiting.done():
             raise Missing(f"its answer is refused: {refused}")
+        if stage.waits():
+            own = OwnTime(environment.process.number)
         if own.look() > SECONDS and not waiting.done():
             raise Missing(f"the caller has no answer after {SECONDS} s: {stage.said()}")
     return cast(Answer, waiting.result())
