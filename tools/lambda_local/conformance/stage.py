@@ -252,8 +252,10 @@ class Stage:
 
     def idle(self) -> None:
         """Waits until each environment's runtime waits for an invocation."""
-        own = OwnTime(self.environment.process.number)
+        own, end = OwnTime(self.environment.process.number), CLOCK.now() + SILENT
         while len(self.parked.read()[0]) < len(self.environments):
+            if self.waits() and CLOCK.now() < end:  # (the service does not know of it yet)
+                own = OwnTime(self.environment.process.number)
             refused = [one for one in self.environment.proxy.of("next") if one.refused and one.status not in (403, 500)]
             if (own.look() > SILENT or len(refused) > REFUSED
                     or any(environment.is_started and environment.process.ended for environment in self.environments)):

@@ -214,7 +214,7 @@ class ExtensionStage(Stage):
 
     def idle(self) -> None:
         """Waits until the runtime and the extension wait."""
-        own = OwnTime(self.environment.process.number)
+        own, end = OwnTime(self.environment.process.number), CLOCK.now() + SILENT
         while True:
             runtimes, extensions = self.parked.read()
             if runtimes and extensions.get(1, 0) >= (2 if self.companion else 1):
@@ -222,6 +222,8 @@ class ExtensionStage(Stage):
             polls = self.environment.proxy.of("event")
             if polls and polls[-1].refused and own.real > SETTLES:
                 raise Missing(f"its Next is refused: {polls[-1]}")
+            if self.waits() and CLOCK.now() < end:  # (the service does not know of it yet, or the runtime is late)
+                own = OwnTime(self.environment.process.number)
             if own.look() > SILENT or self.environment.process.ended:
                 raise Missing(f"it does not wait for an event: {self.said()}")
             time.sleep(0.02)
