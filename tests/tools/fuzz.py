@@ -14,18 +14,21 @@ import re
 import tempfile
 import time
 
-from lambda_local import from_template, history, outgoing
+from lambda_local import from_template, outgoing, reasons, reports
 from lambda_local.configuration import explained, mistakes
 from lambda_local.from_template import command as template_command
 from lambda_local.from_template.telling import Fault as TemplateFault
 from lambda_local.front.events import in_json
 from lambda_local.front.payload import Unmappable, reply_of
+from lambda_local.history import comparison, followed, reader, script, text as history
+from lambda_local.history.entries import Answer
+from lambda_local.history.opening import Configuration
+from lambda_local.history.shapes import NotTrace
 from lambda_local.json_reader import NotJson, read_json
 from lambda_local.life import Life
-from lambda_local.rerun import record
 from lambda_local.service import Fault
-from lambda_local.timeline import read as timeline_read
-from lambda_local.up import members, output, reports
+from lambda_local.timeline.refused import with_refusals
+from lambda_local.up import members, output
 from tests import ROOT
 from tests.library import http_fuzz
 from tests.library.cases import Case
@@ -48,6 +51,10 @@ HISTORY = (b'form 2\n{"account":"123456789012","accountLimit":1000,"functions":[
            b'# 0 0 registered 00000000-0000-8000-a001-000000000001\n2 next 1\n3 invoke f - =Root=1 ={}\n'
            b'# 2 1 deliver ' + REQUEST.encode() + b' 4000 ={}\n9 response 1 1 =1\n# 3 2 output =1\n# 3 3 accepted\n'
            b'## 4000 expire 1\n4001 stop\n# 5 5 accepted\n')
+TRACE = (b'{"answers":[{"answer":"deliver","body":"{}","deadline":4000,"invoke":1,"request":"' + REQUEST.encode()
+         + b'","ticket":0}],"call":{"bodyBase64":"e30=","function":"f","kind":"invoke","qualified":false,"trace":'
+         b'"Root=1"},"charged":1,"moment":1000,"phases":[{"deadline":4000,"environment":1,"invoke":1,"phase":"busy"}],'
+         b'"place":1,"released":[],"request":"' + REQUEST.encode() + b'","ticket":0}')
 UP = (b'{"functions":[{"name":"f","command":["true"],"environments":2,"timeout":5,"variables":{"A":"b"},"extensions":'
       b'{"x":"true"},"url":{"cors":{"allowOrigins":["*"]}}}],"routes":{"GET /a/{id}":"f"},"asynchronous":'
       b'{"retries":1,"onFailure":"f"},"account":"123456789012","salt":7}')
@@ -88,21 +95,27 @@ def of_reports(data):
 
 
 def of_histories(data):
-    """By the timeline, by recorded calls, and by what follows a service."""
+    """As a file, and by what follows a service."""
+    given = script.Script("a history", data)
     with contextlib.suppress(Fault):
-        lines = timeline_read.Lines(io.BytesIO(data))
-        configuration, form_2 = timeline_read.read_configuration(lines)
-        with contextlib.redirect_stderr(io.StringIO()):
-            for _ in timeline_read.history_entries(lines, configuration, form_2):
-                pass
-    with contextlib.suppress(Fault), contextlib.redirect_stderr(io.StringIO()):
-        record.parsed(data, "a history")
+        given.leave_out_cut_line()
+        list(comparison.answers_of(given))
+        is_a_line(reasons.sentence("script: line 3", given.line))
+        list(with_refusals(given, ()))
+    given.close()
     with contextlib.suppress(history.NotHistory, NotJson):
         configuration, entries = history.opened(data.decode("latin-1"))
-        life = Life(json.loads(HISTORY.split(b"\n")[1]))
+        members = json.loads(HISTORY.split(b"\n")[1])
+        life, follows = Life(members), followed.Followed(Configuration(members))
         for entry in entries:
-            for event in life.take(entry):
+            for event in life.take(follows.take(entry)):
                 str(event)
+
+
+def of_traces(data):
+    with contextlib.suppress(NotTrace):
+        for entry in reader.entries_of(data.split(b"\n"), 2):
+            assert isinstance(entry.own, (Answer, type(None)))
 
 
 def of_templates(data):
@@ -220,7 +233,8 @@ def inputs_of(original):
 # Each part's reader, what it reads that is right, and what it is given.
 PARTS = {name: (reader, original, inputs_of(original)) for name, reader, original in (
     ("up", of_up, UP), ("reports", of_reports, REPORT), ("histories", of_histories, HISTORY),
-    ("templates", of_templates, TEMPLATE), ("results", of_results, RESULT), ("output", of_output, b"a\r\n\x1b[1mb"))}
+    ("traces", of_traces, TRACE), ("templates", of_templates, TEMPLATE), ("results", of_results, RESULT),
+    ("output", of_output, b"a\r\n\x1b[1mb"))}
 PARTS.update(http_fuzz.parts(some, mutated))
 
 
@@ -300,6 +314,9 @@ class Fuzz(Case):
 
     def test_histories(self):
         self.fuzz("histories")
+
+    def test_traces(self):
+        self.fuzz("traces")
 
     def test_templates(self):
         self.fuzz("templates")

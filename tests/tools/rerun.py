@@ -8,6 +8,7 @@ import time
 from lambda_local.rerun import compare, play, record, report
 from tests.library.cases import Case
 from tests.library.rerun_kit import fault_of
+from tests.library.timelines import PROGRAM
 
 WHOLE = ('form 2\n{"account":"123456789012","accountLimit":1000,'
          '"functions":[{"extensions":[],"handler":"index.handler","name":"f","ports":[9001,9002],"timeout":3}],'
@@ -23,7 +24,7 @@ HISTORY = WHOLE + f"""0 next 1
 25 invoke f - - =3
 # 4 4 throttled LocalEnvironmentLimitExceeded
 30 response 1 1 =%22one%22
-# 5 2 output =%22one%22
+# 5 2 output ="one"
 # 5 5 accepted
 40 next 1
 50 failure 2 2 ={{"errorType":"E"}}
@@ -80,7 +81,7 @@ def made(ticket, payload, end, **more):
 
 class Rerun(Case):
     def test_records(self):
-        recording = record.parsed(HISTORY.encode(), "h")
+        recording = record.parsed(HISTORY, "h", PROGRAM)
         seen = [(each.ticket, each.function, each.place, each.qualifier, each.trace, each.payload, each.kind, each.body,
                  each.end)
                 for each in recording.invocations]
@@ -99,14 +100,14 @@ class Rerun(Case):
             ("a script", 'form 2\n{"account":"123456789012","region":"us-east-2","functions":[]}\n',
              "2: h: this is a script or another file, and no history"),
             ("a line that is none", HISTORY + "70 jump\n",
-             "2: h: script: line 20: this is not a call of a script: '70 jump'"),
+             "2: h: line 20 is not a call: `70 jump`"),
             ("one that is cut", HISTORY[:-1], "2: h: line 19 has no end: the history is cut off"),
             ("one with a gap", HISTORY.replace("# 5 2 output", "# 6 2 output"),
-             "2: h: line 12: an answer of entry 6 follows entry 5"),
+             '2: h: line 12: the history has `6 2 output ="one"`, and the replay answers `5 2 output ="one"`'),
         ):
-            said = fault_of(record.parsed, text.encode(), "h")
+            said = fault_of(record.parsed, text, "h", PROGRAM)
             self.check(f"no history: {name}", said if words not in said else words, words)
-        self.check("no file", fault_of(record.read, "/nowhere/h"),
+        self.check("no file", fault_of(record.read, "/nowhere/h", PROGRAM),
                    "2: /nowhere/h: No such file or directory: name a file with a history")
 
     def test_compares(self):
@@ -161,7 +162,7 @@ class Rerun(Case):
                    ['/errorMessage: "m" -> "n"'])
 
     def test_reports(self):
-        recording = record.parsed(HISTORY.encode(), "h")
+        recording = record.parsed(HISTORY, "h", PROGRAM)
         good, bad = recording.invocations[:2]
         results = [report.judged(good, "output", b'"one"', 0.1, []), report.judged(good, "output", b'"two"', 0.1, []),
                    report.judged(good, "timeout", None, 0.1, []), report.judged(bad, "output", b"5", 0.1, []),

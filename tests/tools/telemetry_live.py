@@ -7,13 +7,13 @@ import os
 import re
 import time
 
-from lambda_local.history import entries_of
 from lambda_local.life import Ended, Life
 from tests import ROOT
 from tests.library.cases import Case
 from tests.library.telemetry_kit import (APP, LOGS, PROBE, TELEMETRY, events, function, noted, probe, subscription,
                            types)
 from tests.library.up_kit import Up, until
+from tests.library.traces import entries_in
 
 MADE_IN_INIT = 5  # initStart, telemetrySubscription, initRuntimeDone, extension, initReport
 MADE_BY_INVOCATION = 3  # start, runtimeDone, report
@@ -26,9 +26,9 @@ def platform(found):
 
 def endings(up):
     """The identifiers and the ends of the invocations in the history, in order."""
-    lines = up.history().splitlines()
-    life = Life(json.loads(lines[1]))
-    found = [event for entry in entries_of(lines[2:]) for event in life.take(entry)]
+    history = up.history()
+    life = Life(json.loads(history.splitlines()[1]))
+    found = [event for entry in entries_in(history) for event in life.take(entry)]
     return [(event.invocation.identifier, event.kind) for event in found if isinstance(event, Ended)]
 
 

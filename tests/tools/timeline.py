@@ -10,7 +10,8 @@ import tempfile
 
 from tests import ROOT
 
-from tests.library.timelines import TimelineCase, ENVIRONMENT, NOWHERE, ONE, TOOL, WHOLE, calls_of, events, phases, run
+from tests.library.timelines import (
+    ENVIRONMENT, NOWHERE, ONE, PROGRAM, TOOL, WHOLE, TimelineCase, calls_of, events, phases, run)
 
 # Worked scripts: a name, the configuration, the calls, and what environment 1 goes through.
 ROWS = (
@@ -138,6 +139,16 @@ def history_lines(count):
         yield "".join(out)
 
 
+def saved(folder, count):
+    """A history of this many lines and its trace in files: the words that have the tool draw them without a program."""
+    path = os.path.join(folder, f"{count}.txt")
+    with open(path, "w") as file:
+        file.writelines(history_lines(count))
+    with open(path) as file, open(path + ".jsonl", "w") as trace:
+        subprocess.run([PROGRAM, "trace"], stdin=file, stdout=trace, check=True)
+    return "--answers", path + ".jsonl", path
+
+
 def measured(arguments, pieces, environment=ENVIRONMENT):
     """Runs the tool over what is piped into it: its status, its greatest memory in MB, and the seconds of the
     processor."""
@@ -154,13 +165,15 @@ class LongOnes(TimelineCase):
     """(What a child is said to have taken is never less than what this process had: these come before the others.)"""
 
     def test_long_ones(self):
-        for form in ("text", "trace", "html"):
-            small = measured((f"--{form}", "-o", "/dev/null"), history_lines(50_000), NOWHERE)
-            large = measured((f"--{form}", "-o", "/dev/null"), history_lines(1_000_000), NOWHERE)
-            print(f"{form}: 50,000 lines {small[1]:.0f} MB, 1,000,000 lines {large[1]:.0f} MB in {large[2]:.0f} s of "
-                  f"the processor")
-            self.check(f"a million lines as {form}", small[0] == large[0] == 0 and large[1] < 64
-                       and large[1] < small[1] + 4, shown=f"{small[1]:.0f} and {large[1]:.0f} MB")
+        with tempfile.TemporaryDirectory() as folder:
+            small_one, large_one = saved(folder, 50_000), saved(folder, 1_000_000)
+            for form in ("text", "trace", "html"):
+                small = measured((f"--{form}", "-o", "/dev/null", *small_one), (), NOWHERE)
+                large = measured((f"--{form}", "-o", "/dev/null", *large_one), (), NOWHERE)
+                print(f"{form}: 50,000 lines {small[1]:.0f} MB, 1,000,000 lines {large[1]:.0f} MB in {large[2]:.0f} s "
+                      f"of the processor")
+                self.check(f"a million lines as {form}", small[0] == large[0] == 0 and large[1] < 64
+                           and large[1] < small[1] + 4, shown=f"{small[1]:.0f} and {large[1]:.0f} MB")
         calls = [ONE.replace('"region"', '"maxEntries":4000000000,"region"') + "\n"]
         calls += [f"{9 * i} next 1\n{9 * i + 1} invoke f - - ={i}\n{9 * i + 2} response 1 {i} =ok\n"
                   for i in range(1, 5001)]
@@ -194,23 +207,18 @@ class Timeline(TimelineCase):
                        resets == [phase for phase in wanted if phase.startswith("Closing")], shown=str(resets))
 
     def test_worked(self):
-        """Returns the cases of worked examples that are scripts, with the answers that their tables expect."""
+        """Draws the cases of worked examples that are scripts without a fault."""
         drawn = 0
-        with tempfile.TemporaryDirectory() as folder:
-            wanted = os.path.join(folder, "answers")
-            for path in sorted(glob.glob(os.path.join(ROOT, "tables", "checks", "data", "scripts", "*.txt"))):
-                for case in re.split(r"^== ", open(path).read(), flags=re.M)[1:]:
-                    name, *rest = re.split(r"^-- (.*)\n", case, flags=re.M)
-                    *parts, (_, answers) = zip(rest[::2], rest[1::2])
-                    script = written(parts)
-                    answers = answers.removesuffix("\n\n") + "\n" if answers.endswith("\n\n") else answers
-                    if (script and len(script) < 100_000
-                            and re.fullmatch(r"(\d+ \d+ [a-z-]+.*\n|refused JournalFull\n)*", answers)):
-                        drawn += 1
-                        with open(wanted, "w") as file:
-                            file.write(answers)
-                        self.draw(f"{os.path.basename(path)}, {name.strip()}", script, "--answers", wanted, "--limit",
-                                  "100000")
+        for path in sorted(glob.glob(os.path.join(ROOT, "tables", "checks", "data", "scripts", "*.txt"))):
+            for case in re.split(r"^== ", open(path).read(), flags=re.M)[1:]:
+                name, *rest = re.split(r"^-- (.*)\n", case, flags=re.M)
+                *parts, (_, answers) = zip(rest[::2], rest[1::2])
+                script = written(parts)
+                answers = answers.removesuffix("\n\n") + "\n" if answers.endswith("\n\n") else answers
+                if (script and len(script) < 100_000
+                        and re.fullmatch(r"(\d+ \d+ [a-z-]+.*\n|refused JournalFull\n)*", answers)):
+                    drawn += 1
+                    self.draw(f"{os.path.basename(path)}, {name.strip()}", script, "--limit", "100000")
         self.check("worked examples are drawn", drawn > 20, shown=str(drawn))
 
     def test_random_scripts(self):

@@ -28,24 +28,23 @@ FAULTS = (
     ("form 2 alone", (), "form 2\n", 2, "configuration: NotJson"),
     ("no functions", (), "{}\n", 2, "configuration: BadShape"),
     ("a list", (), "[]\n", 2, "configuration: BadShape"),
-    ("no call", (), ONE + "\n0 next 1\n0 jump\n", 2, "script: line 3: this is not a call of a script: '0 jump'"),
+    ("no call", (), ONE + "\n0 next 1\n0 jump\n", 2, "-: line 3 is not a call: `0 jump`: after its moment it"),
     ("no environment", (), ONE + "\n\n0 next 2\n", 2, "script: line 3"),
     ("no function", (), ONE + "\n0 invoke g - - =\n", 2, "script: line 2"),
     ("a leading zero", (), ONE + "\n00 next 1\n", 2, "script: line 2"),
     ("two spaces", (), ONE + "\n0  next 1\n", 2, "script: line 2"),
     ("a moment that is too large", (), ONE + "\n9007199254740992 tick\n", 2, "script: line 2"),
-    ("an escape that is none", (), ONE + "\n0 invoke f - - =%zz\n", 2, "script: line 2"),
     ("a count that is too large", (), ONE + "\n0 response 1 281474976710656 =x\n", 2, "script: line 2"),
-    ("a reservation in form 1", (), ONE + "\n0 reserve f 1\n", 2, "only form 2 has 'reserve'"),
+    ("a reservation in form 1", (), ONE + "\n0 reserve f 1\n", 2, "only form 2 has reserve"),
     ("a configuration that the program refuses", (), ONE.replace("us-east-2", "US") + "\n0 tick\n", 2,
-     "configuration: BadRegion"),
+     "-: line 1, the configuration: region"),
     ("no file", ("/nowhere/script.txt",), None, 2, "/nowhere/script.txt: No such file or directory"),
     ("no program", ("--program", "/nowhere/program"), ONE + "\n0 tick\n", 4,
      "name one by --program or LAMBDA_LOCAL_PROGRAM"),
     ("a program that says nothing", ("--program", "/bin/true"), ONE + "\n0 tick\n", 3,
-     "the call of line 2 (entry 0) has no answer"),
+     "the trace has no entry for the call of line 2"),
     ("a program that fails", ("--program", "/bin/false"), ONE + "\n0 tick\n", 4,
-     "the program /bin/false ended with status 1"),
+     "/bin/false trace ended with status 1: nothing was said"),
     ("no place to write to", ("-o", "/nowhere/page.html"), ONE + "\n0 tick\n", 4, "/nowhere/page.html"),
     ("a device that is full", ("-o", "/dev/full"), ONE + "\n0 tick\n", 4, "No space left on device"),
     ("no answers", ("--answers", "/nowhere/answers"), ONE + "\n0 tick\n", 2, "/nowhere/answers"),
@@ -58,16 +57,10 @@ FAULTS = (
     ("a moment in words", ("--to", "yesterday"), ONE + "\n", 2, "'yesterday' is not a moment"),
     ("a folder", ("/",), None, 2, "/: Is a directory"),
     ("a script that looks like a history", (), f"form 2\n{WHOLE % 100}\n0 tick\n0 tick\n", 2, "add --script"),
-    ("a history with a gap", (), f"form 2\n{WHOLE % 100}\n0 next 1\n0 tick\n# 5 5 done\n", 3,
-     "an answer of entry 5 follows entry 1"),
-    ("a history of another configuration", (), f"form 2\n{WHOLE % 100}\n## 5 expire 3\n", 2,
-     "there is no environment 3"),
-    ("a history whose clock goes back", (), f"form 2\n{WHOLE % 100}\n5 next 1\n4 next 1\n# 1 0 refused Replaced\n", 3,
-     "is before"),
-    ("an answer that is none", (), f"form 2\n{WHOLE % 100}\n0 tick\n# 0 0 dined\n", 3,
-     "an answer that docs/formats.md doesn't have"),
-    ("an answer without its words", (), f"form 2\n{WHOLE % 100}\n0 next 1\n# 0 0 deliver\n", 3,
-     "doesn't have: 'deliver'"),
+    ("no program, and a history", ("--program", "/nowhere/program"), HISTORY, 4,
+     "name one by --program or LAMBDA_LOCAL_PROGRAM"),
+    ("a history that the program refuses", (), HISTORY.replace("us-east-2", "US"), 2,
+     "-: line 2, the configuration: region"),
 )
 
 
@@ -78,35 +71,35 @@ class TimelineHistory(TimelineCase):
                     "5001 invoke f - - =2\n5002 response 1 2 =3\n")
         text = HISTORY
         for form in ("text", "trace", "svg"):
-            ours, theirs = run(f"--{form}", script=text, environment=NOWHERE), run(f"--{form}", script=replayed)
+            ours, theirs = run(f"--{form}", script=text), run(f"--{form}", script=replayed)
             self.check(f"a history as its replay: {form}", ours == theirs and ours[0] == 0, shown=ours[2] + theirs[2])
         for cut in range(text.index("\n0 next") + 1, len(text)):
-            status, trace, said = run("--trace", script=text[:cut], environment=NOWHERE) if cut % 7 == 0 else (0, "{}",
-                                                                                                               "")
+            status, _, said = run("--trace", script=text[:cut]) if cut % 7 == 0 else (0, "{}", "")
             if status:
                 self.check(f"a history that is cut after {cut} bytes", False, shown=said)
                 break
         else:
             self.check("a history that is cut anywhere", True)
-        answers = subprocess.run([PROGRAM, "replay"], input=replayed.encode(), capture_output=True).stdout
+        answers = subprocess.run([PROGRAM, "trace"], input=replayed.encode(), capture_output=True).stdout
         with tempfile.TemporaryDirectory() as folder:
-            path = os.path.join(folder, "answers")
+            path = os.path.join(folder, "trace.jsonl")
             open(path, "wb").write(answers)
-            self.check("answers from a file",
+            self.check("a trace from a file",
                        run("--answers", path, script=replayed, environment=NOWHERE) == run(script=replayed))
-            open(path, "wb").write(answers.replace(b"2 1 timeout\n", b"2 9 timeout\n"))
-            status, _, said = run("--answers", path, script=replayed)
-            self.check("answers of another script", status == 3 and "answers call 9, which is not open" in said,
-                       shown=said)
-            open(path, "wb").write(answers[: answers.index(b"3 3")])
-            status, _, said = run("--answers", path, script=replayed)
-            self.check("answers that are not whole", status == 3 and "has no answer there" in said, shown=said)
-            open(path, "wb").write(answers + b"9 9 done\n")
-            status, _, said = run("--answers", path, script=replayed)
-            self.check("answers that go on", status == 3 and "is the answer of no call" in said, shown=said)
-            open(path, "wb").write(b"hello\n")
-            status, _, said = run("--answers", path, script=replayed)
-            self.check("answers that are none", status == 2 and "this is not an answer: 'hello'" in said, shown=said)
+            lines = answers.splitlines(True)
+            for name, wrong, words in (
+                ("that answers what is not open",
+                 answers.replace(b'"answer":"timeout","ticket":1', b'"answer":"timeout","ticket":9'),
+                 "entry 2 answers call 9, which is not open"),
+                ("that is not whole", b"".join(lines[:-1]), "the trace has no entry for the call of line 7"),
+                ("with a gap", b"".join(lines[:2] + lines[3:]), "entry 2 of the trace: its ticket is 3, and not 2"),
+                ("that goes on", answers + lines[-1].replace(b'"ticket":6}', b'"ticket":7}'),
+                 "entry 7 of the trace is of no call: it is of another script"),
+                ("that is none", b"hello\n", "entry 0 of the trace: it is not JSON"),
+            ):
+                open(path, "wb").write(wrong)
+                status, _, said = run("--answers", path, script=replayed)
+                self.check(f"a trace {name}", status == 3 and words in said, shown=said)
 
     def test_service(self):
         """A running service's history: two functions, a timeout, a failure, a throttle; open at its end."""
@@ -131,7 +124,7 @@ class TimelineHistory(TimelineCase):
             text = made.history()
         finally:
             made.stop()
-        status, trace, said = run("--trace", script=text, environment=NOWHERE)
+        status, trace, said = run("--trace", script=text)
         self.check("a service's history", status == 0, shown=said)
         self.check("a service's history: a span a call", len(events(trace, "call")) == calls_of(text))
         names = [event["name"] for event in events(trace, "call") if event["name"].startswith("invoke")]
@@ -171,15 +164,18 @@ class TimelineHistory(TimelineCase):
             path = os.path.join(folder, "history.txt")
             for name, text, words in (
                 ("an answer", HISTORY.replace("# 6 5 output =3", "# 6 5 output =4"),
-                 "line 14: the history has '6 5 output =4', and the replay answers '6 5 output =3'"),
+                 "line 14: the history has `6 5 output =4`, and the replay answers `6 5 output =3`"),
                 ("a call", HISTORY.replace("5002 response 1 2 =3", "5002 response 1 2 =4"),
-                 "line 14: the history has '6 5 output =3', and the replay answers '6 5 output =4'"),
+                 "line 14: the history has `6 5 output =3`, and the replay answers `6 5 output =4`"),
                 ("an expiry that is left out", without_expiry,
-                 "line 7: the history has '2 2 done', and the replay answers '2 1 timeout'"),
+                 "line 7: the history has `2 2 done`, and the replay answers `2 1 timeout`"),
                 ("a configuration", HISTORY.replace('"timeout":3', '"timeout":4'),
-                 "and the replay answers '1 0 deliver"),
-                ("one that the program refuses", HISTORY.replace("us-east-2", "US"),
-                 "ended with status 2: configuration: BadRegion"),
+                 "and the replay answers `1 0 deliver"),
+                ("an answer that is none", HISTORY.replace("# 3 3 done", "# 3 3 dined"),
+                 "line 9: the history has `3 3 dined`, and the replay answers `3 3 done`"),
+                ("a gap", HISTORY.replace("# 3 3 done", "# 5 5 done"), "line 9: the history has `5 5 done`"),
+                ("answers that are left out", HISTORY[:HISTORY.index("5002 response")] + "5002 response 1 2 =3\n",
+                 "line 13: the history ends, and the replay answers `6 5 output =3`"),
             ):
                 open(path, "w").write(text)
                 for given in ((path,), ()):
@@ -200,13 +196,9 @@ class TimelineHistory(TimelineCase):
         self.check("a history as it is",
                    "Its replay gives the same answers." in page[1] and "differs" not in text[1]
                    and page[2] == text[2] == "")
-        page = run("--html", script=HISTORY, environment=NOWHERE)[1]
-        self.check("no program to replay with", "Not compared with its replay, since no program is here." in page)
         page, said = run("--html", script=HISTORY[:-1])[1:]
-        self.check("a history that is cut is not compared",
-                   "since its last line is cut off" in page and "line 15 has no end" in said
-                   and "differs from" not in page,
-                   shown=said)
+        self.check("a line that is cut off is left out", "line 15 has no end, so it may be cut off" in said
+                   and "line 14: the history ends, and the replay answers `6 6 accepted`" in page, shown=said)
 
     def test_hidden(self):
         """What lambda_local up does itself is shown on request alone."""

@@ -1,13 +1,17 @@
 """Checks the trace of random scripts (`./lambda_local trace`), of all kinds of calls: the script and the answers of its
 replay can be written again from the trace, so nothing is lost; what is charged is released once, later; without bodies
-all else is the same; and the phases are those that `./lambda_local timeline` finds from the replay's answers. TRACES=N
-in the environment takes N random scripts (default: 40)."""
+all else is the same; the phases are those that `./lambda_local timeline` draws; and what follows a service by the text
+of its history finds each entry as it is. TRACES=N in the environment takes N random scripts (default: 40)."""
 import base64
 import json
 import os
 import subprocess
 
+from lambda_local.history.followed import Followed
+from lambda_local.history.opening import Configuration
+from lambda_local.history.text import entries_of
 from tests.library.timelines import ONE, PROGRAM, TimelineCase, events, phases, run
+from tests.library.traces import entries_in
 from tests.tools.timeline import random_script
 
 # What the words of a line of a script are for, by kind: members of the call's object.
@@ -96,6 +100,7 @@ class Traces(TimelineCase):
             self.nothing_lost(seed, script, trace)
             self.in_flight(seed, trace)
             self.same_phases(seed, script, trace)
+            self.followed(seed, script, trace)
             self.without_bodies(seed, script, trace)
 
     def test_bodies(self):
@@ -151,6 +156,19 @@ class Traces(TimelineCase):
                                    if phase["environment"] == environment]
             self.check(f"{seed}: the phases of environment {environment}", once(seen), once(wanted))
         self.check(f"{seed}: a span a call", len(events(drawn, "call")) <= len(trace) + script.count("\n"))
+
+    def followed(self, seed, script, trace):
+        """What a text of the history's form leads to, entry by entry."""
+        lines = []
+        for entry in trace:
+            lines += line_again(entry) or [f"## {entry['moment']} expire {entry['expires']}"]
+            lines += [f"# {line}" for line in answers_again(entry)]
+        follows = Followed(Configuration(json.loads(script.splitlines()[1])))
+        for given, wanted in zip(entries_of(lines), entries_in(script)):
+            seen = follows.take(given)
+            if seen != wanted:
+                return self.check(f"{seed}, ticket {wanted.ticket}: as the trace has it", seen, wanted)
+        self.check(f"{seed}: as the trace has it", True)
 
     def without_bodies(self, seed, script, trace):
         for entry in trace:

@@ -9,11 +9,11 @@ import sys
 import threading
 import time
 
-from lambda_local.history import opened
 from lambda_local.reports import Report
 from lambda_local.up.restarts import Restarts
 from tests.library.cases import Case
 from tests.library.up_kit import LAUNCHER, RUNTIME, Up, until
+from tests.library.traces import entries_in
 
 REQUEST = "[0-9a-f]{8}-[0-9a-f]{4}-8[0-9a-f]{3}-8[0-9a-f]{3}-[0-9a-f]{12}"
 # Reports a failed Init as Lambda's runtime clients do, and exits.
@@ -197,10 +197,10 @@ class UpFailures(Case):
         self.check("two timeouts are each followed by a new process",
                    (seen[::2], [type(answer) for answer in seen[1::2]]),
                    (2 * ["Function.Timeout"], 2 * [int]))
-        entries = list(opened(up.history())[1])
-        ends = [number for number, entry in enumerate(entries) if any(answer.kind == "timeout"
+        entries = entries_in(up.history())
+        ends = [number for number, entry in enumerate(entries) if any(answer.word == "timeout"
                                                                       for answer in entry.answers)]
-        resets = [entries[end:next(entry.number for entry in entries[end:] if entry.kind == "register") + 1]
+        resets = [entries[end:next(entry.ticket for entry in entries[end:] if entry.call.kind == "register") + 1]
                   for end in ends]
         begun = time.monotonic()
         up.process.terminate()
@@ -213,11 +213,11 @@ class UpFailures(Case):
         _, _, plain, plain_stop = self.reset_and_stop()
         entries, resets, took, stop = self.reset_and_stop(extensions={"exiting": ["./exiting"]})
         self.check("the extension is told each end",
-                   [answer.kind for reset in resets for answer in reset[0].answers].count("shutdown"), 2 * 2)
+                   [answer.word for reset in resets for answer in reset[0].answers].count("shutdown"), 2 * 2)
         self.check("no registration is refused",
-                   [entry.own.kind for entry in entries if entry.kind == "register"].count("refused"), 0)
+                   [entry.own.word for entry in entries if entry.call.kind == "register"].count("refused"), 0)
         self.check("no reset lasts until its deadline",
-                   [entry.kind for reset in resets for entry in reset[1:]].count("expire"),
+                   [entry.call.kind for reset in resets for entry in reset[1:]].count("expire"),
                    0)
         # (A machine that does much else is slow without an extension as well.)
         self.check("resets with an extension that exits take under 0.4 s", max(took) < max(400, 8 * max(plain)),

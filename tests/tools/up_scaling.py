@@ -5,11 +5,11 @@ import json
 import os
 import threading
 
-from lambda_local.history import opened
 from lambda_local.life import Life
 from tests import ROOT
 from tests.library.cases import Case
 from tests.library.up_kit import Up, lives, until
+from tests.library.traces import entries_in
 
 RUNTIME = os.path.join(ROOT, "examples", "runtime.sh")  # (which starts soon, also on a busy machine)
 # The event is how long it takes, and how often it calls itself; the output names the processes.
@@ -79,8 +79,8 @@ class UpScaling(Case):
         seen = at_once(up, 6, sleep=8)
         self.check("more than there can be are throttled", sorted(answer for answer in seen if isinstance(answer, str)),
                    ["status 429", "status 429"])
-        entries = list(opened(up.history())[1])
-        self.check("no Init has expired", [entry.kind for entry in entries if entry.kind == "expire"], [])
+        entries = entries_in(up.history())
+        self.check("no Init has expired", [entry.call.kind for entry in entries if entry.call.kind == "expire"], [])
         self.check("idle ones end",
                    until(lambda: up.count(r"\[f/[234]\] -- ends, since it had no work for 4 s") >= 3, 40))
         self.check("but for the least number", up.count(r"\[f/1\] -- ends"), 0)
@@ -117,7 +117,7 @@ class UpScaling(Case):
     def test_placement(self):
         life = Life(CONFIGURATION)
         seen = []
-        for entry in opened("form 2\n{}\n" + HISTORY)[1]:
+        for entry in entries_in(f"form 2\n{json.dumps(CONFIGURATION)}\n{HISTORY}"):
             list(life.take(entry))
             seen.append([number for number, environment in life.environments.items() if environment.is_bound])
         self.check("where invocations are bound", seen, [[1], [1, 4], [1, 2, 4], [1, 2, 3, 4], [1, 2, 3, 4], [1, 3, 4],

@@ -7,25 +7,28 @@ from .json_reader import NotJson, read_json
 
 SCRIPT = re.compile(r"script: line ([1-9][0-9]{0,9})")
 CONFIGURATION = re.compile(r"configuration: (\w+)")
+FORM_2 = b"form 2"
 SHOWN = 80  # characters of a line
 CALLS = ("invoke", "next", "response", "failure", "response-too-large", "init-failure", "register", "ext-next",
          "ext-init-failure", "ext-exit-failure", "tick", "withdraw", "spindown", "stop", "reserve")
 
 
-def shown(line: bytes) -> str:
+def shown(line: bytes, most: int = SHOWN) -> str:
     """A line of bytes for a person, cut short: what cannot be printed is a question mark."""
-    text = line[:4 * SHOWN].decode(errors="replace")
+    text = line[:4 * most].decode(errors="replace")
     text = "".join(letter if letter.isprintable() else "?" for letter in text)
-    return f"`{text if len(text) <= SHOWN else text[:SHOWN] + '..'}`"
+    return f"`{text if len(text) <= most else text[:most] + '..'}`"
 
 
-def of_line(line: bytes) -> str:
+def of_line(line: bytes, form_2: bool) -> str:
     """What may be wrong with a line of a script."""
     words = line.decode(errors="replace").split(" ")
     if not re.fullmatch(r"0|[1-9][0-9]{0,15}", words[0]):
         return "it must begin with its moment, a whole number of milliseconds"
     if len(words) == 1 or words[1] not in CALLS:
         return f"after its moment it must have one of {', '.join(CALLS)}"
+    if words[1] == "reserve" and not form_2:
+        return "only form 2 has reserve: its first line is `form 2`"
     return f"docs/formats.md has the fields of {words[1]}"
 
 
@@ -42,9 +45,10 @@ def sentence(said: str, line_of: LineOf) -> str:
     found = SCRIPT.fullmatch(said)
     line = line_of(int(found[1])) if found else None
     if found and line is not None:
-        return f"line {found[1]} is not a call: {shown(line)}: {of_line(line)} (the program says {said})"
+        return (f"line {found[1]} is not a call: {shown(line)}: {of_line(line, line_of(1) == FORM_2)} "
+                f"(the program says {said})")
     found = CONFIGURATION.fullmatch(said)
-    at = 2 if line_of(1) == b"form 2" else 1
+    at = 2 if line_of(1) == FORM_2 else 1
     line = line_of(at) if found else None
     if found and line is not None:
         try:

@@ -59,7 +59,7 @@ def again(item: Any, history: str, ignore: Sequence[str] = (), one_by_one: bool 
         pytest.fail(f"{NAME}: start the functions in the test, by its fixture lambda_local or lambda_local_session",
                     pytrace=False)
     try:
-        recording = read(path_of(item, history))
+        recording = read(path_of(item, history), service.program)
         results, _ = rerun(service, recording, [pointer_of(text) for text in ignore], one_by_one, exact=exact)
         words = [] if all(result.verdict == EQUAL for result in results) else [history, *text_of(results, recording)]
     except Fault as fault:

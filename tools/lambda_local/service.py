@@ -4,7 +4,6 @@ The program is the one given, else LAMBDA_LOCAL_PROGRAM, else the one that was i
 that the repository's ./lambda_local finds: none is proved or built for a tool. Free ports are the system's or, if
 LAMBDA_LOCAL_PORTS=FIRST-LAST is set, of that range."""
 import contextlib
-import functools
 import http.client
 import json
 import os
@@ -14,7 +13,6 @@ import shutil
 import signal
 import socket
 import subprocess
-import sys
 import tempfile
 import threading
 import time
@@ -22,7 +20,10 @@ from typing import Callable, Collection, Dict, Iterator, List, Mapping, Optional
 
 from .configuration import Members, explained
 from .guard import GUARD
-from .paths import LAUNCHER, LIMITS, own_program
+from .history.comparison import compared
+from .history.script import Script
+from .paths import LIMITS
+from .program import Fault as Fault, program_path as program_path
 
 RUNTIME = "/2018-06-01/runtime/"
 EXTENSION = "/2020-01-01/extension/"
@@ -30,54 +31,6 @@ TAKEN_SECONDS = 5.0  # for the status of a process that has ended
 NO_NETWORK = "network: failed"  # the program's line if it cannot listen on a port
 # Before the program's words: what a service begins with.
 BEGUN = ("/bin/sh", "-c", '. "$0" && begin "$@"', LIMITS)
-
-
-class Fault(Exception):
-    """What ends a tool: a status, and a line that says what to do."""
-
-    def __init__(self, status: int, message: str) -> None:
-        super().__init__(message)
-        self.status = status
-
-
-class NoProgram(Fault):
-    """There is no program to start: status 4 in every tool."""
-
-    def __init__(self, message: str) -> None:
-        super().__init__(4, message)
-
-
-def program_path(given: Optional[str] = None) -> str:
-    """The program that a tool starts."""
-    program = given or os.environ.get("LAMBDA_LOCAL_PROGRAM") or own_program()
-    path = shutil.which(program)
-    if not path:
-        raise NoProgram(f"{program} is not a program: name one by --program or LAMBDA_LOCAL_PROGRAM")
-    if os.path.realpath(path) == LAUNCHER:
-        program = launched(path)
-    if program.endswith(".unproved"):
-        tell_unproved(program)
-    return program
-
-
-@functools.lru_cache(maxsize=None)
-def launched(launcher: str) -> str:
-    """The program that the launcher finds: it is asked once a process. What it says beside that is passed on."""
-    variables = {name: value for name, value in os.environ.items() if name != "LAMBDA_LOCAL_PROGRAM"}
-    done = subprocess.run([launcher, "path"], stdin=subprocess.DEVNULL, capture_output=True, text=True,
-                          errors="replace", env=variables)
-    said = [line.replace("lambda_local: ", "", 1) for line in done.stderr.splitlines()]
-    if done.returncode:
-        raise NoProgram(said[-1] if said else f"{launcher} path ended with status {done.returncode}")
-    for line in said:
-        print(f"lambda_local: {line}", file=sys.stderr)
-    return done.stdout.rstrip("\n")
-
-
-@functools.lru_cache(maxsize=None)
-def tell_unproved(program: str) -> None:
-    print(f"lambda_local: {program} is not proved: './lambda_local build' proves and builds the program",
-          file=sys.stderr)
 
 
 def ask(port: int, method: str, path: str, body: Union[None, str, bytes] = None, headers: Mapping[str, str] = {},
@@ -328,6 +281,10 @@ class Service:
 
     def replays(self, history: str) -> bool:
         """Whether the history's replay gives its own answers."""
-        done = subprocess.run([self.program, "replay"], input=history, capture_output=True, text=True)
-        return done.returncode == 0 and done.stdout.splitlines() == [
-            line[2:] for line in history.splitlines() if line.startswith("# ")]
+        script = Script("the history", history.encode())
+        try:
+            return compared(script, self.program).difference is None
+        except Fault:
+            return False
+        finally:
+            script.close()

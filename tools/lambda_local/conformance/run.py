@@ -16,7 +16,7 @@ from .sometimes import run_alone
 from .stage import Stage, Tools, patient
 from .watch import OLDER
 from ..guard import GUARD
-from ..service import Fault, NoProgram
+from ..program import Fault, NoProgram
 from ..usage import parser_of as parser_of_tool
 
 

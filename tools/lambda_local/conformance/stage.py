@@ -10,7 +10,8 @@ import os
 import time
 from typing import Any, Callable, Dict, Iterator, List, NamedTuple, Optional, Sequence, Union
 
-from ..history import Parked
+from ..history.opening import Configuration
+from ..history.running import Parked
 from ..service import Fault, Service, ask
 from .clock import CLOCK
 from .environment import LOOK, Environment
@@ -100,7 +101,7 @@ class Stage:
         configuration = {"account": ACCOUNT, "region": REGION, "salt": salt(), "functions": [function]}
         with tools.processes.opening():
             self.service = Service(configuration, tools.program)
-        self.parked = Parked(self.service.port)
+        self.parked = Parked(self.service.port, Configuration(self.service.configuration))
         self.function = self.service.configuration["functions"][0]
         self.arn = f"arn:aws:lambda:{REGION}:{ACCOUNT}:function:{self.name}"
         self.environments = [Environment(self, number, port) for number, port in enumerate(self.function["ports"], 1)]

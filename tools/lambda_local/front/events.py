@@ -8,7 +8,7 @@ from typing import Dict, Optional
 from urllib.parse import unquote
 
 from ..configuration import Members
-from ..history import request_identifier
+from ..history.entries import request_identifier
 from ..http1 import Headers
 
 NAMED = re.compile(r"(?:.*:)?function:([^:]+)(?::[^:]+)?|([^:]+)(?::[^:]+)?")

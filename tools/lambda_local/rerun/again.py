@@ -21,7 +21,7 @@ def rerun(service: Service, recording: Recording, pointers: Sequence[Pointer] = 
         history = service.history()
     except (OSError, http.client.HTTPException) as fault:
         raise Fault(2, f"the service has ended before its history could be read: {fault}") from None
-    now = parsed(history.encode(), "the new history").invocations
+    now = parsed(history, "the new history", service.program).invocations
     results = []
     for then, made in zip(served, sent):
         answer = find(now, then.function, made.identifier) if made.identifier else None

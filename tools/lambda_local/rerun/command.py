@@ -20,7 +20,7 @@ import stat
 import sys
 import tempfile
 
-from ..service import Fault, NoProgram
+from ..program import Fault, NoProgram
 from ..usage import parser_of
 from .again import rerun
 from .compare import pointer_of
@@ -68,7 +68,7 @@ def write(path: str, text: str) -> None:
 
 def run(options: argparse.Namespace) -> int:
     pointers = [pointer_of(text) for text in options.ignore]
-    recording = read(options.history)
+    recording = read(options.history, options.program)
     functions = Functions(options.up, recording, options.program, options.ready, options.verbose)
     results, history = functions.used(
         lambda: rerun(functions.service, recording, pointers, options.one_by_one, functions.happened.is_set,

@@ -1,21 +1,22 @@
 """The invocations of a history, each with its answer."""
-import io
 import re
 from collections import Counter
-from typing import Counter as Counts, Dict, Iterator, List, NamedTuple, Optional, Sequence, Tuple
+from typing import Counter as Counts, Dict, Iterable, List, NamedTuple, Optional, Sequence
 
-from ..history import Answer, Entry, NotHistory, count_in, decoded, entries_of
-from ..service import Fault
-from ..timeline.read import Lines, history_entries, read_configuration
+from ..history.comparison import compared
+from ..history.entries import Entry, count_in
+from ..history.replay import entries_of_script
+from ..history.script import Script
+from ..history.words import INVOKE, SERVED
+from ..program import Fault, program_path
 
 # The value of a header (RFC 9110, section 5.5), of letters, marks and spaces.
 TRACE = re.compile(r"(?:[!-~\x80-\xff](?:[\t -~\x80-\xff]*[!-~\x80-\xff])?)?")
-NOT_ANSWERED = (None, None)
-ANSWERED = ("output", "error", "timeout", "init-timeout", "too-large-output")  # by a function, or in its place
+OPEN = "open"
 
 
 class Invocation(NamedTuple):
-    """An Invoke of a history. Its answer's `kind` is "open" if it has none."""
+    """An Invoke of a history. `kind` is the word of its answer, or "open" if it has none."""
     ticket: int
     function: str
     place: int  # among the Invokes of its function, from 1: the count of its request identifier
@@ -28,7 +29,7 @@ class Invocation(NamedTuple):
 
     @property
     def was_served(self) -> bool:
-        return self.kind in ANSWERED
+        return self.kind in SERVED
 
 
 class Recording(NamedTuple):
@@ -37,63 +38,57 @@ class Recording(NamedTuple):
     invocations: List[Invocation]
 
 
-def read(path: str) -> Recording:
+def read(path: str, program: Optional[str] = None) -> Recording:
     """The recording in a file."""
+    return recorded(Script(path, of="a history"), program_path(program))
+
+
+def parsed(text: str, name: str, program: str) -> Recording:
+    """The recording in a history's text."""
+    return recorded(Script(name, text.encode()), program)
+
+
+def recorded(script: Script, program: str) -> Recording:
+    """The recording in a history, as the program traces it. Its own answers are those of its replay, or it is refused:
+    what is compared with today's answers is what was recorded."""
     try:
-        with open(path, "rb") as file:
-            text = file.read()
-    except OSError as fault:
-        raise Fault(2, f"{path}: {fault.strerror}: name a file with a history") from None
-    return parsed(text, path)
+        try:
+            configuration = script.configuration
+            if not configuration.is_of_a_history:
+                raise Fault(2, "this is a script or another file, and no history: save what GET /_local/history "
+                               "answers")
+            if cut := script.leave_out_cut_line():
+                raise Fault(2, f"line {cut} has no end: the history is cut off")
+        except Fault as fault:
+            raise Fault(2, f"{script.name}: {fault}") from None
+        invocations = invocations_of(entries_of_script(script, program), script.name)
+        if difference := compared(script, program).difference:
+            raise Fault(2, f"{script.name}: {difference}: the history was edited, or is of another version of "
+                           "lambda_local")
+    finally:
+        script.close()
+    timeouts = {name: timeout // 1000 for name, timeout in zip(configuration.names, configuration.timeouts)}
+    return Recording(configuration.salt, timeouts, invocations)
 
 
-def parsed(text: bytes, path: str) -> Recording:
-    """The recording in a history's text, whose lines are looked at first."""
-    try:
-        lines = Lines(io.BytesIO(text))
-        configuration, form_2 = read_configuration(lines)
-        if not configuration.is_of_a_history:
-            raise Fault(2, "this is a script or another file, and no history: save what GET /_local/history answers")
-        if not text.endswith(b"\n"):
-            number = text.count(b"\n") + 1
-            raise Fault(2, f"line {number} has no end: the history is cut off")
-        for _ in history_entries(lines, configuration, form_2):
-            pass
-    except Fault as fault:
-        raise Fault(2, f"{path}: {fault}") from None
-    try:
-        entries = list(entries_of(text.decode("ascii", "surrogateescape").replace("\r\n", "\n").split("\n")[2:]))
-    except NotHistory as fault:
-        raise Fault(2, f"{path}: {fault}") from None
-    names = configuration.names
-    timeouts = {name: timeout // 1000 for name, timeout in zip(names, configuration.timeouts)}
-    return Recording(configuration.salt, timeouts, list(invocations_of(entries, path)))
-
-
-def trace_of(field: str, number: int, path: str) -> Optional[str]:
-    """The trace of an Invoke, which is sent again as a header: what no header has is refused."""
-    if field == "-":
-        return None
-    trace = decoded(field).decode("latin-1")
-    if not TRACE.fullmatch(trace):
-        raise Fault(2, f"{path}: entry {number}: {trace[:60]!r} is not a trace: no header has it")
-    return trace
-
-
-def invocations_of(entries: Sequence[Entry], path: str) -> Iterator[Invocation]:
-    answers: Dict[int, Tuple[Optional[int], Optional[Answer]]] = {
-        answer.ticket: (entry.number, answer) for entry in entries for answer in entry.answers}
+def invocations_of(entries: Iterable[Entry], path: str) -> List[Invocation]:
+    """The Invokes among some entries, with their answers."""
+    found: Dict[int, Invocation] = {}
     counts: Counts[str] = Counter()
     for entry in entries:
-        if entry.kind != "invoke":
-            continue
-        function = str(entry.function)
-        counts[function] += 1
-        end, answer = answers.get(entry.number, NOT_ANSWERED)
-        _, qualifier, trace, _ = entry.fields
-        yield Invocation(entry.number, function, counts[function], qualifier == "q",
-                         trace_of(trace, entry.number, path), entry.body or b"",
-                         answer.kind if answer else "open", answer.body if answer else None, end)
+        call = entry.call
+        if call.kind == INVOKE:
+            function = str(call.function)
+            counts[function] += 1
+            if call.trace is not None and not TRACE.fullmatch(call.trace):
+                raise Fault(2, f"{path}: entry {entry.ticket}: {call.trace[:60]!r} is not a trace: no header has it")
+            found[entry.ticket] = Invocation(entry.ticket, function, counts[function], call.qualified, call.trace,
+                                             call.body or b"", OPEN, None, None)
+        for answer in entry.answers:
+            if answer.ticket in found:
+                found[answer.ticket] = found[answer.ticket]._replace(kind=str(answer.word), body=answer.body,
+                                                                     end=entry.ticket)
+    return list(found.values())
 
 
 def find(invocations: Sequence[Invocation], function: str, identifier: str) -> Optional[Invocation]:

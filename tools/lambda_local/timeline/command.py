@@ -4,34 +4,38 @@
   lambda_local timeline examples/timeout.txt                 one line an event
   lambda_local timeline --trace -o trace.json history.txt    for https://ui.perfetto.dev or chrome://tracing
   lambda_local timeline --svg -o picture.svg script.txt      the drawing alone
+  lambda_local timeline --otlp -o spans.json history.txt     for a collector of OpenTelemetry
   lambda_local timeline --from +1.5 --to +2 history.txt      half a second of it
   lambda_local timeline --live http://127.0.0.1:9000         a page that shows a running service, until Ctrl-C
 
-A history (what GET /_local/history gives) has its answers in it. A script has none: it is replayed by the program,
-or its answers are read from a file (--answers). If a history's replay answers otherwise, as after an edit, the page and
-the text say so. docs/formats.md has both formats, docs/timeline.md shows pictures.
+What is shown is the program's trace of the calls (docs/trace.md), or one that was saved (--answers). A history (what
+GET /_local/history gives) has its answers in it: if its replay answers otherwise, as after an edit, the page and the
+text say so. docs/formats.md has both formats, docs/timeline.md shows pictures.
 
 A MOMENT is one of the history, in milliseconds (1795556558434), or +SECONDS from its first entry (+1.5).
 
-Exit statuses: 0; 2 for a fault in the arguments or in the input; 3 if the answers are not those of the calls;
-4 if the program could not be run or the output not be written.
+Exit statuses: 0; 2 for a fault in the arguments or in the input; 3 if a trace is none, or not of the
+calls; 4 if the program could not be run or the output not be written.
 """
 import argparse
-import io
 import os
 import re
-import shutil
 import sys
 import time
-from typing import BinaryIO, Callable, Iterable, Iterator, List, Optional, Sequence, Tuple
+from typing import Callable, Iterable, Iterator, List, Optional, Sequence, Tuple
 
-from ..service import Fault, program_path
+from ..history.comparison import answers_of, compared
+from ..history.entries import Entry
+from ..history.replay import Traced
+from ..history.script import Script, opened
+from ..history.words import WAITING
+from ..program import Fault, program_path
 from ..usage import parser_of
 from .drawing import Drawing, svg
 from .live import serve
+from .otlp import Otlp
 from .page import html
-from .read import Answers, Entry, Lines, Readable, history_entries, read_configuration, script_entries
-from .replay import Replay, Spooled, difference, ready_program
+from .refused import Refused, with_refusals
 from .sink import Sink
 from .text import Text
 from .trace import Trace
@@ -59,16 +63,18 @@ def arguments() -> argparse.Namespace:
     form = parser.add_mutually_exclusive_group()
     for name, words in (("text", "one line an event (the default)"),
                         ("trace", "trace-event JSON for Perfetto and chrome://tracing"),
-                        ("html", "one self-contained page"), ("svg", "the drawing alone")):
+                        ("html", "one self-contained page"), ("svg", "the drawing alone"),
+                        ("otlp", "OpenTelemetry's traces as OTLP/JSON: a span for each invocation, Init and "
+                                 "shutdown")):
         form.add_argument(f"--{name}", dest="form", action="store_const", const=name, help=words)
     parser.add_argument("-o", metavar="FILE", dest="output", help="write there; .html, .json and .svg choose the form")
     given = parser.add_mutually_exclusive_group()
     given.add_argument("--program", metavar="P",
-                       help="replay the calls with this program (else LAMBDA_LOCAL_PROGRAM, else the one that comes "
+                       help="have the calls traced by this program (else LAMBDA_LOCAL_PROGRAM, else the one that comes "
                             "with the tools)")
-    given.add_argument("--answers", metavar="FILE", help="take the answers from what a replay wrote")
+    given.add_argument("--answers", metavar="FILE", help="take what happened from a trace that was saved")
     parser.add_argument("--script", action="store_true",
-                        help="read the input as a script, though it looks like a history")
+                        help="read the input as a script, though it looks like a history: its answers are not compared")
     parser.add_argument("--limit", metavar="N", type=int,
                         help=f"show at most this many calls (a drawing: {MOST_DRAWN:,}; else all)")
     parser.add_argument("--from", metavar="MOMENT", type=moment, dest="begin",
@@ -103,16 +109,6 @@ def refuse_beside_live(parser: argparse.ArgumentParser, chosen: argparse.Namespa
             parser.error(f"--live shows what goes on: leave out {name}")
 
 
-def open_input(name: str) -> BinaryIO:
-    try:
-        stream = sys.stdin.buffer if name == "-" else open(name, "rb")
-        if isinstance(stream, io.BufferedReader):
-            stream.peek(1)  # (a folder is found to be none)
-        return stream
-    except OSError as fault:
-        raise Fault(2, f"{name}: {fault.strerror}: name a file with a history or a script") from None
-
-
 def watched(entries: Iterable[Entry]) -> Iterator[Entry]:
     """The entries; on a terminal, how many have been read where that takes longer than a second."""
     last, shows = time.monotonic(), sys.stderr.isatty()
@@ -123,90 +119,60 @@ def watched(entries: Iterable[Entry]) -> Iterator[Entry]:
         yield entry
 
 
-class Input:
-    """What is read: its lines after the configuration, and a file with all of it if a replay needs one."""
-
-    def __init__(self, name: str) -> None:
-        self.name = name
-        self.stream = open_input(name)
-        self.spooled = Spooled(self.stream) if name == "-" or not os.path.isfile(name) else None
-        readable: Readable = self.spooled or self.stream
-        self.lines = Lines(readable)
-        self.configuration, self.form_2 = read_configuration(self.lines)
-
-    def path(self) -> str:
-        """A file with all that was read so far."""
-        return self.spooled.path() if self.spooled else self.name
-
-    def read_from_a_file(self) -> None:
-        """Takes all that comes into a file, and reads from there on."""
-        if self.spooled:
-            shutil.copyfileobj(self.spooled.stream, self.spooled.file)
-            self.lines = Lines(open(self.path(), "rb"))
-            read_configuration(self.lines)
-
-    def close(self) -> None:
-        if self.spooled:
-            self.spooled.file.close()
-        if self.name != "-":
-            self.stream.close()
+def opened_script(chosen: argparse.Namespace, closing: Closing) -> Tuple[Script, bool]:
+    """What is read, and whether it is a history: then a line that is cut off is left out."""
+    script = Script(chosen.input)
+    closing.append(script.close)
+    is_history = script.configuration.is_of_a_history and not (chosen.answers or chosen.script)
+    if is_history and (cut := script.leave_out_cut_line()):
+        print(f"timeline: line {cut} has no end, so it may be cut off; it is left out", file=sys.stderr)
+    return script, is_history
 
 
-def scripted(chosen: argparse.Namespace, given: Input, world: World,
-             closing: Closing) -> Tuple[Iterator[Entry], Callable[[], None]]:
-    """Returns the entries of a script, with the answers of the program or of a file; and what follows the last one."""
+def traced(chosen: argparse.Namespace, script: Script, closing: Closing) -> Traced:
+    """The entries, as the program traces them, or as a file has them."""
     if chosen.answers:
-        answers = Answers(open_input(chosen.answers), chosen.answers)
-        finish: Callable[[], None] = lambda: None
-    else:
-        given.read_from_a_file()
-        replay = Replay(program_path(chosen.program), given.path())
-        closing.append(replay.kill)
-        answers, finish = Answers(replay.output, "the replay"), replay.finish
-    return script_entries(given.lines, given.configuration, given.form_2, answers, world, finish), finish
+        file = opened(chosen.answers, "a trace")
+        closing.append(file.close)
+        return Traced(script, trace=file)
+    made = Traced(script, program_path(chosen.program))
+    closing.append(made.close)
+    return made
 
 
-def compared(given: Input, closing: Closing) -> Tuple[str, str]:
-    """A class and a text: what a comparison of the history with its replay says."""
-    if not given.lines.whole:
-        return "", "Not compared with its replay, since its last line is cut off."
-    program = ready_program()
-    if program is None:
-        return "", "Not compared with its replay, since no program is here."
-    try:
-        replay = Replay(program, given.path())
-    except Fault:
-        return "", f"Not compared with its replay, since {program} could not be run."
-    closing.append(replay.kill)
-    words = difference(given.path(), replay)
-    if words is None:
-        return "", "Its replay gives the same answers."
-    return DIFFERS, (f"This history differs from its replay: {words}. "
-                     "Its own answers are shown; --script shows those of the replay.")
-
-
-def follow(chosen: argparse.Namespace, given: Input, sink: Window,
+def follow(chosen: argparse.Namespace, script: Script, is_history: bool, sink: Window,
            closing: Closing) -> Tuple[World, List[Tuple[str, str]]]:
     """Follows the input to its end. Gives the world, and what is to be said of it: pairs of a class and a text."""
-    world = World(given.configuration, sink)
-    is_history = given.configuration.is_of_a_history and not (chosen.program or chosen.answers or chosen.script)
+    world, entries = World(script.configuration, sink), watched(traced(chosen, script, closing))
     if is_history:
-        entries = history_entries(given.lines, given.configuration, given.form_2)
-        finish: Callable[[], None] = lambda: None
+        has_answers = next(answers_of(script), None) is not None
+        for entry in entries:
+            if not has_answers and entry.own and entry.call.kind not in WAITING:
+                raise Fault(2, f"{chosen.input} begins as a history, and has no answers; if it is a script, add "
+                               "--script")
+            world.take(entry)
     else:
-        entries, finish = scripted(chosen, given, world, closing)
-    for call, moment, e, answers in watched(entries):
-        world.take(call, moment, e, answers)
-    finish()
+        for one in with_refusals(script, entries):
+            if isinstance(one, Refused):
+                world.full(one.moment, one.words)
+            else:
+                world.take(one)
     world.finish(sink)
-    notes = [compared(given, closing)] if is_history else []
+    notes = [differences(script, program_path(chosen.program))] if is_history else []
     return world, notes + [("note", words) for words in [sink.left_out()] if words]
 
 
+def differences(script: Script, program: str) -> Tuple[str, str]:
+    """A class and a text: what a comparison of the history with its replay says."""
+    words = compared(script, program).difference
+    if words is None:
+        return "", "Its replay gives the same answers."
+    return DIFFERS, f"This history differs from its replay: {words}. What is shown is the replay."
+
+
 def run(chosen: argparse.Namespace, write: Callable[[str], object], closing: Closing) -> None:
-    given = Input(chosen.input)
-    closing.append(given.close)
-    configuration, limit = given.configuration, chosen.limit
+    script, is_history = opened_script(chosen, closing)
+    configuration, limit = script.configuration, chosen.limit
     log: List[str] = []
 
     def window(events: Sequence[Sink] = (), spans: Sequence[Sink] = ()) -> Window:
@@ -215,12 +181,14 @@ def run(chosen: argparse.Namespace, write: Callable[[str], object], closing: Clo
         sink = window(events=[Text(configuration, write)])
     elif chosen.form == "trace":
         sink = window(spans=[Trace(configuration, write)])
+    elif chosen.form == "otlp":
+        sink = window(spans=[Otlp(configuration, write)])
     else:
         drawing = Drawing(configuration, chosen.scale)
         drawing.name = "Timeline" if chosen.input == "-" else f"Timeline of {os.path.basename(chosen.input)}"
         limit = limit or MOST_DRAWN
         sink = window(events=[Text(configuration, log.append)] if chosen.form == "html" else [], spans=[drawing])
-    world, notes = follow(chosen, given, sink, closing)
+    world, notes = follow(chosen, script, is_history, sink, closing)
     if chosen.form == "svg":
         write(svg(drawing))
     elif chosen.form == "html":

@@ -3,11 +3,12 @@ import bisect
 from typing import Dict, List, Optional, Tuple
 from xml.sax.saxutils import escape, quoteattr
 
+from ..history.words import POLLS, Word
+from .call import FAILED, Call, Lane, outcome
 from .kept import Band, Kept, Step
-from .read import POLLS, Call, Lane
 from .style import COLOURS, DRAWING, LABELS, LANE, LETTER, width_of
 from .words import WALL_CLOCK, extension_words, length_words, payload_words, since_words, what, who
-from .world import FAILED, Work, outcome
+from .world import Work
 
 
 class Drawing(Kept):
@@ -214,7 +215,7 @@ class Drawing(Kept):
             label = short.get(call.kind, words if call.kind in ("reserve", "invoke") else call.kind)
             labels = [label]
             if call.answer and kind in ("refused", "throttled", "ended"):
-                why = call.answer[1] if call.answer[0] == "refused" else call.answer[0]
+                why = str(call.answer.reason if call.answer.word is Word.REFUSED else call.answer.word)
                 labels = [f"{label}: {why}", why]
             text = self.beside(call.lane, left, *labels)
             if kind == "refused":
@@ -226,7 +227,7 @@ class Drawing(Kept):
             shape = f'<rect class="{kind}" x="{left:.1f}" y="{top + 8}" width="{right - left:.1f}" height="6" rx="3"/>'
             self.put(f"call {kind}", title, shape, name=name)
         else:
-            answer = "is answered later" if is_cut else call.answer[0] if call.answer else "no answer yet"
+            answer = "is answered later" if is_cut else str(call.answer.word) if call.answer else "no answer yet"
             text = ""
             for label in (f"{words}: {answer}", answer, words):
                 if width_of(label) + 2 <= right - left:

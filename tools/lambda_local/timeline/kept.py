@@ -2,9 +2,9 @@
 import bisect
 from typing import List, NamedTuple, Optional, TypeVar
 
-from .read import Call, Configuration
+from ..history.opening import Configuration
+from .call import Call
 from .sink import Sink
-from .words import what
 from .world import Environment, Work, World
 
 Other = TypeVar("Other", bound="Kept")
@@ -85,8 +85,8 @@ class Kept(Sink):
     def begin(self, moment: int) -> None:
         self.zero = moment
 
-    def full(self, moment: int, call: Call) -> None:
-        self.refused.append(Refusal(moment, what(self.configuration, call)))
+    def full(self, moment: int, words: str) -> None:
+        self.refused.append(Refusal(moment, words))
 
     def answered(self, call: Call) -> None:
         self.calls.append(call)

@@ -8,10 +8,11 @@ from datetime import datetime, timezone
 from typing import Optional, Tuple
 from urllib.parse import urlsplit
 
-from ..history import OPENING, Follower
-from ..service import Fault
+from ..history.opening import Configuration, read_configuration
+from ..history.running import Running
+from ..history.script import FORM_2
+from ..program import Fault
 from .live_page import fragment
-from .read import Configuration
 from .recent import Recent
 from .served import Server
 
@@ -38,11 +39,11 @@ def configuration_of(port: int) -> Configuration:
     try:
         connection.request("GET", "/_local/history")
         answer = connection.getresponse()
-        opening = answer.readline(len(OPENING) + 1) if answer.status == 200 else b""
-        if opening != OPENING:
+        opening = answer.readline(len(FORM_2) + 2) if answer.status == 200 else b""
+        if opening != FORM_2 + b"\n":
             raise Fault(
                 2, f"GET /_local/history gives no history there (status {answer.status}): this is not lambda_local")
-        return Configuration(answer.readline().rstrip(b"\n"), True)
+        return read_configuration(answer.readline().rstrip(b"\n"), True)
     finally:
         connection.close()
 
@@ -66,7 +67,7 @@ class Live:
     def begin(self) -> None:
         """Begins anew with the service that answers now."""
         configuration = configuration_of(self.port)
-        self.follower = Follower(self.port, timeout=SILENCE)
+        self.follower = Running(self.port, configuration, timeout=SILENCE)
         with self.lock:
             self.recent = Recent(configuration, self.limit, self.shows_all)
             self.gone, self.version = None, self.version + 1

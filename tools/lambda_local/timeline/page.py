@@ -3,10 +3,11 @@ from typing import List, Tuple
 from xml.sax.saxutils import escape
 
 from ..outgoing import several
+from .call import FAILED, outcome
 from .drawing import Drawing
 from .style import COLOURS, DRAWING, LABELS
 from .words import axis_words, length_words, moment_words, what
-from .world import FAILED, World, outcome
+from .world import World
 
 LEGEND = (
     ("good", "answered: output, accepted, done"), ("error", "the function failed"), ("timeout", "timed out"),

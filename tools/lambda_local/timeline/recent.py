@@ -2,10 +2,9 @@
 from collections import deque
 from typing import Deque, List
 
-from ..history import EXPIRE, Entry
-from ..service import Fault
+from ..history.entries import Entry
+from ..history.opening import Configuration
 from .drawing import Drawing
-from .read import Configuration, read_call
 from .window import Window
 from .world import World
 
@@ -29,16 +28,8 @@ class Recent:
         self.forget()
 
     def take_one(self, entry: Entry) -> None:
-        answers = [(answer.ticket, " ".join([answer.kind, *answer.fields]).encode()) for answer in entry.answers]
-        if entry.kind == EXPIRE:
-            self.world.take(None, entry.moment, entry.environment, answers)
-            return
-        line = " ".join([str(entry.moment), entry.kind, *entry.fields])
-        call = read_call(line.encode(), self.configuration, True)
-        if call is None:
-            raise Fault(3, f"entry {entry.number} of the service is not a call that docs/formats.md has: {line[:60]!r}")
-        self.world.take(call, call.moment, call.environment, answers)
-        if not call.hidden:
+        call = self.world.take(entry)
+        if call is not None and not call.hidden:
             self.tickets.append(call.ticket)
 
     def forget(self) -> None:

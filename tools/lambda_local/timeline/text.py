@@ -1,7 +1,9 @@
 """The log: one line an event."""
-from typing import Callable, List, Optional
+from typing import Callable, Optional
 
-from .read import Call, Configuration
+from ..history.entries import Answer
+from ..history.opening import Configuration
+from .call import Call
 from .sink import Sink
 from .words import length_words, moment_words, payload_words, what, who
 from .world import Environment
@@ -23,16 +25,16 @@ class Text(Sink):
     def begin(self, moment: int) -> None:
         self.now = moment
 
-    def full(self, moment: int, call: Call) -> None:
+    def full(self, moment: int, words: str) -> None:
         self.now = moment
-        self.line(f"account: {what(self.configuration, call)}: refused JournalFull, so it has no number")
+        self.line(f"account: {words}: refused JournalFull, so it has no number")
 
     def expired(self, moment: int, entry: int, environment: Environment) -> None:
         self.now = moment
         self.line(f"{self.configuration.place(environment.number)}: the deadline of {environment.phase} has come "
                   f"(entry {entry})")
 
-    def taken(self, call: Call, own: Optional[List[str]]) -> None:
+    def taken(self, call: Call, own: Optional[Answer]) -> None:
         self.now = call.moment
         if own is None:
             payload = payload_words(call)

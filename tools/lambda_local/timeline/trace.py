@@ -2,10 +2,11 @@
 import json
 from typing import Callable, Dict, Optional, Tuple
 
-from .read import Call, Configuration, Lane
+from ..history.opening import Configuration
+from .call import Call, Lane, outcome
 from .sink import Sink
 from .words import extension_words, payload_words, what
-from .world import Environment, Work, World, outcome
+from .world import Environment, Work, World
 
 
 class Trace(Sink):
@@ -62,8 +63,8 @@ class Trace(Sink):
         for e in range(1, len(self.configuration.owners) + 1):
             self.place(("environment", e))
 
-    def full(self, moment: int, call: Call) -> None:
-        self.mark(("account",), "full", f"{what(self.configuration, call)}: JournalFull", moment, {})
+    def full(self, moment: int, words: str) -> None:
+        self.mark(("account",), "full", f"{words}: JournalFull", moment, {})
 
     def expired(self, moment: int, entry: int, environment: Environment) -> None:
         self.mark(("environment", environment.number), "expiry", f"the deadline of {environment.phase} has come",
@@ -76,7 +77,7 @@ class Trace(Sink):
         words = what(self.configuration, call)
         process, thread = self.place(call.lane)
         self.event(ph="X", cat="call", pid=process, tid=thread,
-                   name=f"{words}: {call.answer[0] if call.answer else 'open'}",
+                   name=f"{words}: {call.answer.word if call.answer else 'open'}",
                    ts=1000 * call.moment, dur=1000 * (end - call.moment), cname=colour, args=args)
 
     # the names of colours that chrome://tracing has; Perfetto chooses by the event's name, which has the outcome in it

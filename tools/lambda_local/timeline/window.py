@@ -1,12 +1,13 @@
 """What is shown of a history: the calls of a window of time, up to a limit, and what goes on around them."""
-from typing import Dict, List, Optional, Sequence
+from typing import Dict, Optional, Sequence
 
+from ..history.entries import Answer
 from ..outgoing import several
-from ..service import Fault
-from .read import Call, Lane
-from .sink import Sink
+from ..program import Fault
+from .call import FAILED, Call, Lane, outcome
+from .sink import Lasting, Sink
 from .words import since_words
-from .world import FAILED, Environment, Work, World, outcome
+from .world import Environment, Work, World
 
 OF_UP = "lambda_local.up"  # the extension as which lambda_local up registers in each environment
 
@@ -72,17 +73,17 @@ class Window(Sink):
             if shown or (sink.draws_the_past and not self.is_past(moment)):
                 sink.reservation(moment, entry, f, count)
 
-    def full(self, moment: int, call: Call) -> None:
+    def full(self, moment: int, words: str) -> None:
         if self.shows(moment):
             for sink in (*self.events, *self.spans):
-                sink.full(moment, call)
+                sink.full(moment, words)
 
     def expired(self, moment: int, entry: int, environment: Environment) -> None:
         if self.shows(moment):
             for sink in (*self.events, *self.spans):
                 sink.expired(moment, entry, environment)
 
-    def taken(self, call: Call, own: Optional[List[str]]) -> None:
+    def taken(self, call: Call, own: Optional[Answer]) -> None:
         call.hidden = self.is_hidden(call.lane)
         if call.hidden:
             self.hidden += 1
@@ -99,6 +100,8 @@ class Window(Sink):
             call.drawn = True
         if own is None and not self.is_past(call.moment):
             self.waiting[call.ticket] = call
+        for sink in self.spans:
+            sink.taken(call, own)
         if self.shows(call.moment):
             for sink in self.events:
                 sink.taken(call, own)
@@ -142,6 +145,11 @@ class Window(Sink):
         if moment >= self.start and not self.is_past(environment.since or 0):
             for sink in self.spans:
                 sink.phase(environment, moment, entry)
+
+    def lasted(self, lasting: Lasting) -> None:
+        if lasting.end >= self.start and not self.is_past(lasting.begin):
+            for sink in self.spans:
+                sink.lasted(lasting)
 
     def worked(self, work: Work, moment: int, entry: Optional[int]) -> None:
         if moment >= self.start and not self.is_past(work.moment) and not self.is_hidden(work.lane):

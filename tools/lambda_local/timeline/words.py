@@ -3,7 +3,9 @@ import functools
 from datetime import datetime, timezone
 from typing import Optional
 
-from .read import Call, Configuration
+from ..history.opening import Configuration
+from ..history.words import FAILURE, REGISTER, RESERVE, RESPONSE, RESPONSE_TOO_LARGE, WITHDRAW
+from .call import Call
 
 # moments of the clock, to the year 9999; others are a script's
 WALL_CLOCK = range(100_000_000_000, 253_402_300_800_000)
@@ -49,18 +51,23 @@ def extension_words(name: Optional[str]) -> str:
 
 def what(configuration: Configuration, call: Call) -> str:
     """A call's name with what it names."""
-    words = [call.kind]
-    if call.function is not None:
-        words.append(configuration.names[call.function])
-    if call.kind == "reserve":
-        words.append("-" if call.count is None else str(call.count))
-    elif call.kind in ("response", "failure", "response-too-large"):
-        words.append(f"to request {call.count}")
-    elif call.kind == "withdraw":
-        words.append(f"call {call.count}")
-    elif call.kind == "register":
-        events = [word for letter, word in (("i", "INVOKE"), ("s", "SHUTDOWN")) if letter in call.events]
-        words.append(f"for {' and '.join(events) or 'no event'}")
+    function = None if call.function is None else configuration.names[call.function]
+    return call_words(call.kind, function, call.count, call.events)
+
+
+def call_words(kind: str, function: Optional[str], count: Optional[int], events: str) -> str:
+    words = [kind]
+    if function is not None:
+        words.append(function)
+    if kind == RESERVE:
+        words.append("-" if count is None else str(count))
+    elif kind in (RESPONSE, FAILURE, RESPONSE_TOO_LARGE):
+        words.append(f"to request {count}")
+    elif kind == WITHDRAW:
+        words.append(f"call {count}")
+    elif kind == REGISTER:
+        named = [word for letter, word in (("i", "INVOKE"), ("s", "SHUTDOWN")) if letter in events]
+        words.append(f"for {' and '.join(named) or 'no event'}")
     return " ".join(words)
 
 
@@ -69,6 +76,6 @@ def length_words(milliseconds: int) -> str:
 
 
 def payload_words(call: Call) -> str:
-    if call.text is None or call.kind == "register":
+    if call.body is None:
         return ""
-    return f"{call.size:,} byte{'' if call.size == 1 else 's'}: {call.text}" if call.size else "0 bytes"
+    return f"{call.size:,} byte{'' if call.size == 1 else 's'}: {call.body}" if call.size else "0 bytes"

@@ -1,93 +1,36 @@
-"""Follows the entries of a history by the life cycle, and notifies a sink of each thing that begins or ends."""
+"""Follows the entries of a history, and notifies a sink of each thing that begins or ends."""
 import heapq
-from typing import Dict, List, Optional, Sequence, Tuple, Union
+from collections import Counter
+from typing import Counter as Counts, Dict, Iterator, List, Optional, Tuple
 
-from .. import phases
-from ..history import EXPIRE, count_in
-from ..phases import reason_to_end
-from ..service import Fault
-from .read import OF_EXTENSIONS, POLLS, Call, Configuration, Given, Lane, shown, shown_report
-from .sink import Sink
-
-# the outcome of a call, by the first word of its answer
-OUTCOMES = {
-    "output": "good", "accepted": "good", "done": "good", "registered": "good", "reserved": "good",
-    "unreserved": "good",
-    "deliver": "handed", "tell": "handed", "shutdown": "ending", "error": "error", "too-large-output": "error",
-    "timeout": "timeout", "init-timeout": "timeout", "throttled": "throttled", "stopped": "ended", "withdrawn": "ended",
-    "refused": "refused",
-}
-FAILED = ("error", "timeout", "throttled", "refused")  # the outcomes of a call that failed
+from ..history.entries import Answer, Entry, Phase, count_in
+from ..history.generations import Generation, Generations, Turn
+from ..history.opening import Configuration
+from ..history.words import CLOSING, EXPIRE, EXT_NEXT, INVOKE, OF_EXTENSIONS, OFF, POLLS, REGISTER, RESERVE
+from ..history.words import SPINDOWN, STARTING, WITHDRAW, Word
+from ..program import Fault
+from .call import Call, Lane, outcome
+from .sink import Lasting, Sink
 
 
-def outcome(call: Call) -> str:
-    if call.answer is None:
-        return "open"
-    if call.kind in POLLS and call.answer[0] == "refused" and call.answer[1] in ("Container", "Replaced"):
-        return "ended"
-    return OUTCOMES[call.answer[0]]
+SPUN_DOWN = "SPINDOWN"
 
 
-def number_of(call: Call) -> int:
-    """The number that a call names: of an extension or of a call."""
-    return -1 if call.count is None else call.count
-
-
-def environment_of(call: Call) -> int:
-    """The environment that a call of a runtime or an extension names."""
-    return call.environment or 0
-
-
-def read_answer(words: bytes) -> Tuple[List[str], str]:
-    """An answer: its words, the text cut short, and the same for a person."""
-    if len(words) > 400 or b"=" in words:
-        head, mark, text = words.partition(b" =")
-        answer = head.decode("ascii", "replace").split(" ")
-        said = (shown_report if answer[0] == "error" else shown)(text) if mark else None
-    else:
-        answer, said = words.decode("ascii", "replace").split(" "), None
-    try:
-        if answer[0] not in OUTCOMES:
-            raise ValueError
-        if answer[0] == "deliver":
-            told = f"deliver request {count_in(answer[1])}, until {int(answer[2])}"
-        elif answer[0] == "tell":
-            told = f"tell event {count_in(answer[1])}: request {count_in(answer[2])}, until {int(answer[3])}"
-        elif answer[0] == "shutdown":
-            told = f"shutdown event {count_in(answer[1])}: {answer[2]}, until {int(answer[3])}"
-        elif answer[0] == "registered":
-            told = f"registered as extension {count_in(answer[1])}"
-        else:
-            if answer[0] in ("throttled", "refused", "reserved"):
-                answer[1]
-            told = " ".join(answer)
-    except (ValueError, IndexError):
-        raise Fault(3, f"an answer that docs/formats.md doesn't have: {shown(words)[:80]!r}")
-    return answer, told + (f" {said}" if said else "")
-
-
-class Extension(phases.Extension):
-    __slots__ = ("works", )
-
-    def __init__(self, name: str, events: str) -> None:
-        super().__init__(name, events)
-        self.works: Optional[Work] = None
-
-
-class Environment(phases.Members[Extension]):
-    """An environment's phase, as in docs/semantics.md; the answers say everything that a call itself doesn't."""
+class Environment:
+    """An environment as it is shown: in a phase, since an entry."""
 
     def __init__(self, number: int, function: int) -> None:
-        super().__init__()
         self.number, self.function = number, function
         self.generation = 1
-        self.phase = self.was = "Starting"
+        self.phase = "Starting"
         self.since: Optional[int] = None
         self.since_entry: Optional[int] = None
         self.deadline: Optional[int] = None
-        self.bound: Optional[int] = None
         self.reason: Optional[str] = None
-        self.works: Optional[Work] = None
+
+    @property
+    def runtime(self) -> Lane:
+        return ("runtime", self.number)
 
 
 class Work:
@@ -102,8 +45,7 @@ class Work:
         self.outcome = "open"
 
 
-Actor = Union[Environment, Extension]  # an environment for its runtime
-Handed = Tuple[Environment, Actor, Call, List[str]]
+Handed = List[Tuple[Lane, Answer]]  # the polls that are given work
 
 
 class World:
@@ -112,261 +54,189 @@ class World:
     def __init__(self, configuration: Configuration, sink: Sink) -> None:
         self.configuration, self.sink = configuration, sink
         self.environments = [Environment(e + 1, f) for e, f in enumerate(configuration.owners)]
+        self.generations = Generations(len(self.environments))
+        self.works: Dict[Lane, Work] = {}
         self.open: Dict[int, Call] = {}
-        self.placed: Dict[int, Optional[Environment]] = {}
-        self.stopped, self.entry, self.moment, self.calls, self.refused_full = False, -1, 0, 0, 0
+        self.entry, self.moment, self.calls, self.refused_full = -1, 0, 0, 0
         self.free_callers: List[int] = []
         self.callers = 0
         self.reserved = list(configuration.reserved)
-        self.deadlines: List[Tuple[int, int]] = []
-        self.outcomes: Dict[Tuple[str, str], int] = {}
+        self.outcomes: Counts[Tuple[str, Word]] = Counter()
+        self.inits: Dict[int, int] = {}  # by environments, since when an Init goes on
+        self.initialised: Dict[int, int] = {}  # by environments, the last generation whose Init is over
+        self.closing: Dict[int, Tuple[int, str]] = {}  # by environments, since when it closes, and why
 
-    def full(self, call: Call) -> None:
+    def full(self, moment: int, words: str) -> None:
         """A call that a full journal refused: it has no entry and no ticket."""
         self.refused_full += 1
-        self.sink.full(max(call.moment, self.moment), call)
+        self.sink.full(max(moment, self.moment), words)
 
-    def due(self, now: int) -> List[int]:
-        found: List[Tuple[int, int]] = []
-        while self.deadlines and self.deadlines[0][0] <= now:
-            deadline, e = heapq.heappop(self.deadlines)
-            if self.environments[e - 1].deadline == deadline and (deadline, e) not in found:
-                found.append((deadline, e))
-        return [e for _, e in found]
-
-    def take(self, call: Optional[Call], moment: int, e: Optional[int], answers: Sequence[Given]) -> None:
-        """One entry."""
-        self.entry += 1
-        if moment < self.moment:
-            raise Fault(
-                3, f"entry {self.entry}: its moment {moment} is before {self.moment}, that of the entry before it")
-        if self.entry == 0:
-            self.sink.begin(moment)
-            for f, count in enumerate(self.reserved):
-                if count is not None:
-                    self.sink.reservation(moment, 0, f, count)
-            for environment in self.environments:
-                environment.since, environment.since_entry = moment, 0
-        self.moment = moment
-        read = [(ticket, *read_answer(words)) for ticket, words in answers]
-        own = next((answer for ticket, answer, _ in read if ticket == self.entry), None)
-        concerned = [self.environments[e - 1]] if e else []
-        if call is None:
-            self.sink.expired(moment, self.entry, concerned[0])
+    def take(self, entry: Entry) -> Optional[Call]:
+        """One entry. Returns its call, if it is not an expiry."""
+        moment, own, call = entry.moment, entry.own, None
+        if self.entry < 0:
+            self.begin_at(moment)
+        self.entry, self.moment = entry.ticket, moment
+        if entry.call.kind == EXPIRE:
+            self.sink.expired(moment, self.entry, self.environments[(entry.expires or 1) - 1])
         else:
-            concerned = self.begin(call, own, concerned)
-        for environment in concerned:
-            self.note_call(environment, call, own)
-        handed: List[Handed] = []
-        for ticket, answer, told in read:
-            if ticket == self.entry:
-                self.end(ticket, answer, told, handed)
-        for environment in concerned:
-            self.cell(environment, call, own, moment)
-        for ticket, answer, told in read:
-            if ticket != self.entry:
-                self.end(ticket, answer, told, handed)
-        for environment in concerned:
-            self.settle(environment, call, moment)
-        for environment, actor, poll, answer in handed:
-            actor.poll = None
-            self.works(environment, actor, answer)
-        if call is not None and call.kind == "stop":
-            self.stopped = True
-        if (call is not None and call.kind == "reserve" and call.function is not None
-                and own and own[0] in ("reserved", "unreserved")):
+            call = self.begin(entry, own)
+        turns = self.generations.take(entry)
+        handed: Handed = []
+        if own is not None:
+            self.end(own, handed)
+        for turn in turns:
+            self.turn_at_once(turn, entry)
+        for answer in entry.answers:
+            if answer is not own:
+                self.end(answer, handed)
+        for turn in turns:
+            self.settle(turn)
+            for lasting in self.lasting(turn):
+                self.sink.lasted(lasting)
+        for lane, answer in handed:
+            self.begin_work(lane, answer)
+        if call is not None and call.kind == RESERVE and call.function is not None and (
+                entry.has(Word.RESERVED) or entry.has(Word.UNRESERVED)):
             self.reserved[call.function] = call.count
             self.sink.reservation(moment, self.entry, call.function, call.count)
         self.sink.entered(self.entry, moment)
+        return call
 
-    def begin(self, call: Call, own: Optional[List[str]], concerned: List[Environment]) -> List[Environment]:
-        """A call is taken: it gets its ticket and its lane. Gives the environments that it concerns."""
+    def begin_at(self, moment: int) -> None:
+        """The first entry, before anything else."""
+        self.sink.begin(moment)
+        for f, count in enumerate(self.reserved):
+            if count is not None:
+                self.sink.reservation(moment, 0, f, count)
+        for environment in self.environments:
+            environment.since, environment.since_entry = moment, 0
+
+    def begin(self, entry: Entry, own: Optional[Answer]) -> Call:
+        """A call is taken: it gets its lane."""
         self.calls += 1
-        call.ticket = call.entry = self.entry
-        if call.kind == "invoke":
-            if self.free_callers:
-                lane = heapq.heappop(self.free_callers)
-            else:
-                self.callers += 1
-                lane = self.callers
-            call.lane = ("caller", lane)
-            if own is None:
-                environment = self.place(call.function)
-                self.placed[call.ticket] = environment
-                concerned = [environment] if environment else []
-        elif call.kind in OF_EXTENSIONS:
-            environment = concerned[0]
-            if call.kind == "register":
-                name = call.text
-            else:
-                extension = environment.extensions.get(number_of(call))
-                name = extension.name if extension else None
-            call.lane = ("extension", environment.number, name)
-        elif call.kind == "withdraw":
-            poll = self.open.get(number_of(call))
-            poll = poll if poll and poll.kind in POLLS else None
-            call.lane = poll.lane if poll else ("account",)
-            if poll:
-                concerned = [self.environments[environment_of(poll) - 1]]
-        elif call.kind == "spindown":
-            call.lane = ("environment", concerned[0].number)
-        elif call.environment:
-            call.lane = ("runtime", concerned[0].number)
-        else:
-            call.lane = ("account",)
-            if call.kind == "stop":
-                concerned = self.environments
+        call = Call(entry, self.configuration)
+        call.lane = self.lane_of(call)
         self.open[call.ticket] = call
         self.sink.taken(call, own)
-        return concerned
+        if call.kind == EXT_NEXT and call.lane[2] is not None:
+            self.rests(call.lane)
+        return call
 
-    def place(self, f: Optional[int]) -> Optional[Environment]:
-        """Where an admitted Invoke goes: an Idle environment, else one that starts, else one that closes."""
-        for phase in ("Idle", "Starting", "Closing"):
-            for environment in self.environments:
-                if environment.function == f and environment.phase == phase and environment.bound is None:
-                    return environment
-        return None
+    def lane_of(self, call: Call) -> Lane:
+        if call.kind == INVOKE:
+            if self.free_callers:
+                return ("caller", heapq.heappop(self.free_callers))
+            self.callers += 1
+            return ("caller", self.callers)
+        if call.kind in OF_EXTENSIONS:
+            name = call.name
+            if call.kind != REGISTER:
+                known = self.generations.environments[call.environment or 0].generation.extensions
+                name = known[call.count].name if call.count in known else None
+            return ("extension", call.environment, name)
+        if call.kind == WITHDRAW:
+            poll = self.open.get(-1 if call.count is None else call.count)
+            return poll.lane if poll and poll.kind in POLLS else ("account",)
+        if call.environment:
+            return ("environment" if call.kind == SPINDOWN else "runtime", call.environment)
+        return ("account",)
 
-    def note_call(self, environment: Environment, call: Optional[Call], own: Optional[List[str]]) -> None:
-        """Notes what a call says about who asks for the next event, and who is there."""
-        if call is None:
-            return
-        if call.kind == "ext-next" and call.count in environment.extensions:
-            self.rests(environment, environment.extensions[number_of(call)])
-        registered = Extension(str(call.text), call.events)
-        environment.note(call.kind, call.count, call.ticket, own[0] if own else None,
-                         lambda: (count_in(own[1] if own else ""), registered))
+    def turn_at_once(self, turn: Turn, entry: Entry) -> None:
+        """What the call itself makes of a phase: a generation begins to close, or an idle environment is busy."""
+        environment, now = self.environments[turn.environment.number - 1], turn.now
+        if turn.closes:
+            deadline = now.deadline if now.name == CLOSING else None
+            self.change(environment, now._replace(name=CLOSING, deadline=deadline, reason=turn.closes))
+            self.closing[environment.number] = self.moment, turn.closes
+        elif now.name == turn.was.name and not turn.is_over:
+            environment.deadline = now.deadline
+        elif entry.call.kind == INVOKE:
+            self.change(environment, now)
 
-    def cell(self, environment: Environment, call: Optional[Call], own: Optional[List[str]], moment: int) -> None:
-        """What the call makes of the phase."""
-        phase, kind = environment.phase, call.kind if call else EXPIRE
-        environment.was = phase
-        if kind == "stop" and phase == "Closing":
-            environment.bound = None
-        can_end = phase in ("Starting", "Busy") or phase == "Idle" and call is not None
-        is_begun = can_end and not (kind == "stop" and self.stopped)
-        reason = reason_to_end(kind, own[0] if own else None) if is_begun else None
-        if reason:
-            self.change(environment, "Closing", moment + 2000, reason)
-            environment.bound = None
-        elif call is None:
-            return
-        elif kind == "invoke":
-            environment.bound = call.ticket
-            if phase == "Idle":
-                self.change(environment, "Busy", moment + self.configuration.timeouts[environment.function])
-            elif phase == "Starting":
-                self.start_clock(environment, moment)
-        elif phase == "Starting" and (
-            kind == "next" or (kind == "ext-next" and call.count in environment.extensions)
-            or (kind == "register" and own and own[0] == "registered")
-        ):
-            self.start_clock(environment, moment)
+    def lasting(self, turn: Turn) -> Iterator[Lasting]:
+        """The Init and the shutdown that are over by an entry. An Init lasts from its first contact on: from then on it
+        has a deadline."""
+        number, was, now, generation = turn.environment.number, turn.was, turn.now, turn.generation.number
+        if self.initialised.get(number, 0) < generation and was.name == STARTING and (
+                turn.closes or now.name != STARTING):
+            self.initialised[number] = generation
+            begin = self.inits.pop(number, self.moment)
+            if turn.closes != SPUN_DOWN or was.deadline is not None:
+                failed = turn.closes is not None and turn.closes != SPUN_DOWN
+                yield Lasting("Init", number, generation, begin, self.moment, turn.closes, failed, was.bound)
+        if turn.is_over and number in self.closing:
+            begin, reason = self.closing.pop(number)
+            yield Lasting("Shutdown", number, generation, begin, self.moment, reason, False, None)
+        if now.name == STARTING and now.deadline is not None:
+            self.inits.setdefault(number, self.moment)
 
-    def start_clock(self, environment: Environment, moment: int) -> None:
-        if environment.deadline is None:
-            self.set_deadline(environment, moment + 10_000)
+    def settle(self, turn: Turn) -> None:
+        """What an environment is at the end of an entry: a generation is over, or all have asked for work."""
+        environment, now = self.environments[turn.environment.number - 1], turn.now
+        if turn.is_over:
+            for lane in self.lanes_of(environment, turn.generation):
+                self.rests(lane)
+            self.change(environment, now)
+            environment.generation += now.name != OFF
+        elif now.name.capitalize() != environment.phase:
+            self.change(environment, now)
 
-    def set_deadline(self, environment: Environment, deadline: Optional[int]) -> None:
-        environment.deadline = deadline
-        if deadline is not None:
-            heapq.heappush(self.deadlines, (deadline, environment.number))
-            if len(self.deadlines) > 8 * len(self.environments) + 64:  # most deadlines never come: forget those
-                self.deadlines = [(e.deadline, e.number) for e in self.environments if e.deadline is not None]
-                heapq.heapify(self.deadlines)
+    @staticmethod
+    def lanes_of(environment: Environment, generation: Generation) -> Iterator[Lane]:
+        """The lanes of a runtime and its extensions."""
+        yield environment.runtime
+        for extension in generation.extensions.values():
+            yield ("extension", environment.number, extension.name)
 
-    def settle(self, environment: Environment, call: Optional[Call], moment: int) -> None:
-        """A Closing that waits for no one ends; otherwise an environment becomes ready once all have asked."""
-        if environment.phase == "Closing":
-            if not environment.is_awaited() or (environment.was == "Closing" and call is None):
-                self.rests(environment, environment)
-                for extension in environment.extensions.values():
-                    self.rests(environment, extension)
-                environment.poll, environment.extensions = None, {}
-                bound = environment.bound if environment.bound in self.open else None
-                environment.bound = bound
-                if self.stopped or (call is not None and call.kind == "stop"):
-                    self.change(environment, "Off", None)
-                else:
-                    self.change(environment, "Starting", None if bound is None else moment + 10_000)
-                    environment.generation += 1
-            return
-        ready = environment.all_wait(self.configuration.expected[environment.function])
-        waits = environment.bound is not None and environment.bound in self.open
-        if ready and environment.phase == "Starting":
-            if environment.bound is None:
-                self.change(environment, "Idle", None)
-            else:
-                self.change(environment, "Busy", moment + self.configuration.timeouts[environment.function])
-        elif ready and environment.phase == "Busy" and not waits:
-            environment.bound = None
-            self.change(environment, "Idle", None)
-        elif not ready and environment.phase == "Idle":
-            self.change(environment, "Starting", None)
-
-    def change(self, environment: Environment, phase: str, deadline: Optional[int],
-               reason: Optional[str] = None) -> None:
+    def change(self, environment: Environment, now: Phase) -> None:
+        name = now.name.capitalize()
         self.sink.phase(environment, self.moment, self.entry)
-        self.sink.turned(environment, self.moment, self.entry, phase, deadline, reason)
-        environment.phase, environment.reason = phase, reason
+        self.sink.turned(environment, self.moment, self.entry, name, now.deadline, now.reason)
+        environment.phase, environment.reason, environment.deadline = name, now.reason, now.deadline
         environment.since, environment.since_entry = self.moment, self.entry
-        self.set_deadline(environment, deadline)
 
-    def end(self, ticket: int, answer: List[str], told: str, handed: List[Handed]) -> None:
+    def end(self, answer: Answer, handed: Handed) -> None:
         """A call gets its answer."""
-        call = self.open.pop(ticket, None)
+        call = self.open.pop(answer.ticket, None)
         if call is None:
-            raise Fault(3, f"entry {self.entry} answers call {ticket}, which is not open: these answers are not those "
-                           "of the calls, or the history has gaps")
-        call.end, call.end_entry, call.answer, call.said = self.moment, self.entry, answer, told
-        word = answer[0]
-        if call.kind == "invoke":
+            raise Fault(3, f"entry {self.entry} answers call {answer.ticket}, which is not open")
+        call.end_with(answer, self.moment, self.entry)
+        if call.kind == INVOKE:
             heapq.heappush(self.free_callers, call.lane[1])
-            placed = self.placed.pop(ticket, None)
-            if placed and placed.works and placed.works.request == ticket:
-                placed.works.outcome = outcome(call)
-                self.rests(placed, placed)
-        elif call.kind in POLLS:
-            environment = self.environments[environment_of(call) - 1]
-            actor: Optional[Actor] = environment if call.kind == "next" else (
-                environment.extensions.get(number_of(call)))
-            if word in ("deliver", "tell") and actor:
-                handed.append((environment, actor, call, answer))
-            elif actor:
-                if actor.poll == ticket:
-                    actor.poll = None
-                if word == "shutdown":
-                    if isinstance(actor, Extension):
-                        actor.told = True
-                    self.works(environment, actor, answer)
-        self.outcomes[call.kind, word] = self.outcomes.get((call.kind, word), 0) + 1
+            lane: Lane = ("runtime", call.place)
+            if lane in self.works and self.works[lane].request == call.ticket:
+                self.works[lane].outcome = outcome(call)
+                self.rests(lane)
+        elif answer.word is Word.SHUTDOWN:
+            self.begin_work(call.lane, answer)
+        elif answer.word in (Word.DELIVER, Word.TELL):
+            handed.append((call.lane, answer))
+        self.outcomes[call.kind, answer.word] += 1
         self.sink.answered(call)
 
-    def works(self, environment: Environment, actor: Actor, answer: List[str]) -> None:
-        self.rests(environment, actor)
-        lane: Lane
-        request: Optional[int]
-        if isinstance(actor, Environment):
-            lane, request, until = ("runtime", environment.number), environment.bound, int(answer[2])
-            name = f"request {count_in(answer[1])}"
+    def begin_work(self, lane: Lane, answer: Answer) -> None:
+        self.rests(lane)
+        if answer.word is Word.DELIVER:
+            name = f"request {count_in(answer.request or '')}"
+        elif answer.word is Word.TELL:
+            name = f"event {count_in(answer.event or '')}"
         else:
-            lane, request, until = ("extension", environment.number, actor.name), None, int(answer[3])
-            name = answer[2] if answer[0] == "shutdown" else f"event {count_in(answer[1])}"
-        actor.works = Work(lane, name, self.moment, self.entry, until, request)
+            name = answer.reason or ""
+        request = answer.source if answer.word is Word.DELIVER else None
+        self.works[lane] = Work(lane, name, self.moment, self.entry, answer.deadline or 0, request)
 
-    def rests(self, environment: Environment, actor: Actor) -> None:
-        if actor.works:
-            self.sink.worked(actor.works, self.moment, self.entry)
-            actor.works = None
+    def rests(self, lane: Lane) -> None:
+        if lane in self.works:
+            self.sink.worked(self.works.pop(lane), self.moment, self.entry)
 
     def finish(self, sink: Sink) -> None:
         """After the last entry: what is still open ends with the picture. Changes nothing here: more may follow."""
         for environment in self.environments:
-            actors: List[Actor] = [environment, *environment.extensions.values()]
-            for actor in actors:
-                if actor.works:
-                    sink.worked(actor.works, self.moment, None)
+            generation = self.generations.environments[environment.number].generation
+            for lane in self.lanes_of(environment, generation):
+                if lane in self.works:
+                    sink.worked(self.works[lane], self.moment, None)
             if environment.since is not None:
                 sink.phase(environment, self.moment, None)
         for call in self.open.values():

@@ -7,6 +7,7 @@ from collections import OrderedDict
 from datetime import datetime, timezone
 from typing import Any, Dict, Iterator, List, Mapping, NamedTuple, Optional, Protocol, Sequence
 
+from ..history.words import Word
 from ..life import Ended, Event
 from ..reports import members_of, text_of
 from .invocation_lines import Line, Printed, Settled
@@ -15,6 +16,7 @@ MOST_TAIL = 4096  # bytes
 MOST_REMEMBERED = 1024  # invocations that have ended
 OF_PROCESSES = ("Runtime.ExitError", "Extension.Crash")  # errors that no handler has raised
 MB = 1 << 20
+STATUSES = {Word.OUTPUT: "success", Word.TIMEOUT: "timeout", Word.INIT_TIMEOUT: "timeout"}  # of a report
 
 
 class Function(Protocol):
@@ -121,7 +123,7 @@ class Invocations:
         init = None
         if invocation.generation and start and invocation.generation.asked is not None:
             init = max(0.0, invocation.generation.asked - start.moment)
-        status = {"output": "success", "timeout": "timeout", "init-timeout": "timeout"}.get(event.kind, "error")
+        status = STATUSES.get(event.kind, "error")
         return Figures(invocation.identifier, float(event.moment - begin),
                        self.functions[invocation.function].memory,
                        math.ceil(start.peak / MB) if start and start.peak else None, init, status, error_of(event))
@@ -129,10 +131,10 @@ class Invocations:
     def failure_of(self, event: Ended) -> List[str]:
         """What Lambda itself says of an invocation that its function did not answer."""
         identifier = event.invocation.identifier
-        if event.kind == "timeout":
+        if event.kind is Word.TIMEOUT:
             seconds = self.functions[event.invocation.function].part.get("timeout", 3)
             return [f"{moment_of(event.moment)} {identifier} Task timed out after {seconds:.2f} seconds"]
-        if event.kind == "error" and (kind := error_of(event)):
+        if event.kind is Word.ERROR and (kind := error_of(event)):
             message = text_of((members_of(event.body or b"") or {}).get("errorMessage"))
             return [f"RequestId: {identifier} Error: {message or kind}", kind]
         return []
@@ -140,8 +142,9 @@ class Invocations:
 
 def error_of(event: Ended) -> str:
     """The type of an error that no handler has raised, as the caller gets it; empty if there is none."""
-    if event.kind != "error":
-        return {"init-timeout": "Init.Timeout", "too-large-output": "Function.ResponseSizeTooLarge"}.get(event.kind, "")
+    if event.kind is not Word.ERROR:
+        return {Word.INIT_TIMEOUT: "Init.Timeout",
+                Word.TOO_LARGE_OUTPUT: "Function.ResponseSizeTooLarge"}.get(event.kind, "")
     kind = text_of((members_of(event.body or b"") or {}).get("errorType"))
     return kind if event.invocation.delivered is None or kind in OF_PROCESSES else ""
 

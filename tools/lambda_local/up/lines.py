@@ -3,10 +3,9 @@ import time
 from collections import Counter
 from typing import Counter as Counts, Dict, Iterable, List, Mapping, Optional, Tuple
 
-from ..history import EXPIRE
+from ..history.words import EXPIRE, FAILURES, Word
 from ..life import Closes, Ended, Environment, Event, Generation, Throttled
 from ..outgoing import Log
-from ..phases import FAILURES
 from ..reports import Report, shortened
 from .invocation_lines import Printed
 from .members import NAME, Function
@@ -47,20 +46,21 @@ class Lines:
         members: Dict[str, object] = {
             "function": function.name, "environment": event.environment.place if event.environment else None,
             "request": invocation.identifier, "moment": event.moment, "duration_ms": duration}
-        if event.kind == "output":
+        if event.kind is Word.OUTPUT:
             members["status"] = "ok"
             self.say(where, f"{invocation.identifier} ok {duration} ms", "ok", "invocation", members)
             return
-        if event.kind == "error":
+        if event.kind is Word.ERROR:
             report = Report(event.body or b"", function.directory)
             text = f"error {report}"
             members.update(report.members)
         else:
-            text = {"timeout": f"timeout after {function.part.get('timeout', 3)} s",
-                    "init-timeout": f"Init timed out after {INIT_SECONDS} s",
-                    "too-large-output": "error: its response has more than 6291456 bytes",
-                    "stopped": "ended by the stop"}[event.kind]
-        self.say(where, f"{invocation.identifier} {text}", "error", "invocation", {"status": event.kind, **members})
+            text = {Word.TIMEOUT: f"timeout after {function.part.get('timeout', 3)} s",
+                    Word.INIT_TIMEOUT: f"Init timed out after {INIT_SECONDS} s",
+                    Word.TOO_LARGE_OUTPUT: "error: its response has more than 6291456 bytes",
+                    Word.STOPPED: "ended by the stop"}[event.kind]
+        self.say(where, f"{invocation.identifier} {text}", "error", "invocation",
+                 {"status": str(event.kind), **members})
 
     def _init_failed(self, event: Closes) -> None:
         environment, function = event.environment, self.functions[event.environment.function]

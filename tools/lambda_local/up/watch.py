@@ -7,9 +7,11 @@ import threading
 import time
 from typing import Callable, Iterator, List, Optional, Set
 
-from ..history import Entry, Follower
+from ..history.entries import Entry
+from ..history.opening import Configuration
+from ..history.running import Running
+from ..history.words import FAILURES
 from ..life import Begun, Closes, Ended, Environment, Event, Generation, Life
-from ..phases import FAILURES
 from ..service import Service
 from . import memory
 from .invocation_lines import now
@@ -37,7 +39,8 @@ class Watch(threading.Thread):
         super().__init__(name="watch", daemon=True)
         self.service, self.log, self.stopping = service, log, stopping
         self.lines = Lines(log, ())
-        self.life, self.follower, self.lock = Life(service.configuration), Follower(service.port), threading.RLock()
+        self.life, self.lock = Life(service.configuration), threading.RLock()
+        self.follower = Running(service.port, Configuration(service.configuration))
         self.most = service.configuration.get("maxEntries", 1_000_000)
         self.warnings: Set[str] = set()
         self.hooks: List[Callable[[], None]] = []
@@ -84,6 +87,8 @@ class Watch(threading.Thread):
                 return
             except MemoryError as fault:  # (what has come may be shorter the next time)
                 return self._warn("memory", f"there is no memory for what the history has now: {told(fault)}", "error")
+            except ValueError as fault:
+                return self._warn("read", f"the service's history cannot be read: {told(fault)}", "error")
             for entry in entries:
                 self._take(entry)
             for reader in self.readers:
@@ -97,7 +102,7 @@ class Watch(threading.Thread):
                 if not self._is_muted(event):
                     self._report(event)
         except Exception as fault:
-            self._tell(fault, f"could not follow entry {entry.number} of the history, {entry.kind}")
+            self._tell(fault, f"could not follow entry {entry.ticket} of the history, {entry.call.kind}")
 
     def _report(self, event: Event) -> None:
         for take in (*self.followers, self.lines.take):

@@ -16,7 +16,7 @@
 Texts are percent-decoded, as in a script (docs/formats.md)."""
 from typing import Dict, NamedTuple, Optional, Tuple
 
-from ...history import decoded
+from ...history.script import decoded
 Ids = Dict[Tuple[bool, str], str]  # of labels: of an invocation (False, label), of an extension (True, label)
 Counts = Dict[Tuple[bool, str], int]
 

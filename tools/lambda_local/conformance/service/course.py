@@ -4,6 +4,8 @@ import contextlib
 import time
 from typing import Dict, List, NamedTuple, Optional, Tuple, cast
 
+from ...history.entries import count_in
+from ...history.words import Word
 from .calls import Call, Ids
 from .judge import Aspect, Judge, label_of, shown
 from .known import WAITS, KnownDifferences
@@ -136,13 +138,13 @@ class Course:
         judge.since = exchanges[step].sent if step in exchanges and plan.sequence.calls[step].kind != "wait" else None
         before = [given for earlier in plan.steps[:step] for given in earlier]
         answered_before = (open_invocation(plan, step) is None
-                           and any(given.answer.kind == "deliver" for given in before))
+                           and any(given.answer.word is Word.DELIVER for given in before))
         over = {given.call for given in before}
         parted = False
 
         # (a delivery first, which makes an identifier known, and then the call itself)
         def order(place: int) -> Tuple[bool, bool, int]:
-            return place not in here or here[place].answer.kind != "deliver", place != step, place
+            return place not in here or here[place].answer.word is not Word.DELIVER, place != step, place
         for place in sorted(exchanges, key=order):
             exchange = exchanges[place]
             if place in here:
@@ -258,8 +260,8 @@ def open_invocation(plan: Plan, step: int) -> Optional[int]:
     delivered = None
     for earlier in plan.steps[:step]:
         for given in earlier:
-            if given.answer.kind == "deliver":
-                delivered = int(given.answer.fields[0][-12:], 16)
-            elif given.answer.kind in ("output", "error", "timeout", "too-large-output"):
+            if given.answer.word is Word.DELIVER:
+                delivered = count_in(given.answer.request or "0")
+            elif given.answer.word in (Word.OUTPUT, Word.ERROR, Word.TIMEOUT, Word.TOO_LARGE_OUTPUT):
                 delivered = None
     return delivered

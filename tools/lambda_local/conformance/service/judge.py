@@ -2,6 +2,8 @@
 import json
 from typing import Any, Dict, Iterator, List, NamedTuple, Optional, Tuple
 
+from ...history.entries import count_in
+from ...history.words import Word
 from ..clock import CLOCK
 from ..pages import (EXTENSION_EXIT_ERROR, EXTENSION_INIT_ERROR, EXTENSION_NEXT, INIT_ERROR, INIT_PHASE, INVOKE_ERROR,
                      NEXT, REGISTER, RESPONSE, Page)
@@ -43,15 +45,15 @@ class Missing(str):
 def label_of(given: Given, answered_before: bool) -> str:
     """Returns the word for an answer: its kind, or why it is refused, as `docs/differences.md` distinguishes them."""
     answer = given.answer
-    if answer.kind == "refused":
-        return answer.fields[0]
-    if answer.kind == "error" and given.cause.startswith("ext-"):
+    if answer.word is Word.REFUSED:
+        return answer.reason or ""
+    if answer.word is Word.ERROR and given.cause.startswith("ext-"):
         return "error-of-extension"
-    if answer.kind == "error" and given.cause == "init-failure":
+    if answer.word is Word.ERROR and given.cause == "init-failure":
         return "error-of-init"
-    if answer.kind == "throttled" and answered_before:
+    if answer.word is Word.THROTTLED and answered_before:
         return "throttled-after-answer"
-    return answer.kind
+    return str(answer.word)
 
 
 def status_of(label: str) -> int:
@@ -78,7 +80,7 @@ class Judge:
         content = exchange.headers.get("content-type", "")
         if wanted < 400 and exchange.body and content.split(";")[0].strip().lower() != JSON:
             found.append(Aspect("content-type", repr(content) if content else "no content-type", JSON))
-        judged = getattr(self, "_" + given.answer.kind.replace("-", "_"), None)
+        judged = getattr(self, "_" + str(given.answer.word).replace("-", "_"), None)
         for name, theirs, ours in judged(given, exchange) if judged else ():
             if theirs != ours:
                 found.append(Aspect(name, theirs if isinstance(theirs, Missing) else repr(theirs), str(ours)))
@@ -87,8 +89,7 @@ class Judge:
     # ---- each gives what is compared: a name, what came, and what is expected; the same if all is well ----
 
     def _deliver(self, given: Given, exchange: Exchange) -> Iterator[Pair]:
-        request, _, text = given.answer.fields
-        label = self.plan.label_of(int(request[-12:], 16)) or NEVER_GIVEN
+        label = self.plan.label_of(count_in(given.answer.request or "0")) or NEVER_GIVEN
         invoke = next(call for call in self.plan.sequence.calls if (call.kind, call.label) == ("invoke", label))
         identifier = header(exchange, "lambda-runtime-aws-request-id")
         yield "request-id", identifier, a_text(identifier)
@@ -113,7 +114,7 @@ class Judge:
         yield "event-id", identifier, a_text(identifier)
         event = members(exchange)
         yield "event-type", event.get("eventType", Missing("no eventType")), "INVOKE"
-        label = self.plan.label_of(int(given.answer.fields[1][-12:], 16)) or NEVER_GIVEN
+        label = self.plan.label_of(count_in(given.answer.request or "0")) or NEVER_GIVEN
         known = self.ids.get((False, label))
         request = event.get("requestId", Missing("no requestId"))
         yield "request-id", request, known or a_text(request)
@@ -125,7 +126,7 @@ class Judge:
         event = members(exchange)
         yield "event-type", event.get("eventType", Missing("no eventType")), "SHUTDOWN"
         reason = event.get("shutdownReason", Missing("no shutdownReason"))
-        ours = given.answer.fields[1]
+        ours = given.answer.reason or ""
         yield "reason", reason, reason if str(reason).upper() == ours else ours  # (its case: docs/differences.md)
         deadline = event.get("deadlineMs", Missing("no deadlineMs"))
         yield "deadline", deadline, deadline if isinstance(deadline, int) else "a time in Unix milliseconds"
@@ -169,7 +170,7 @@ class Judge:
     def _timeout(self, given: Given, exchange: Exchange) -> Iterator[Pair]:
         yield self._flag(exchange)
         deadline = self.deadlines.get(self.plan.sequence.calls[given.call].label)
-        if given.answer.kind == "timeout" and deadline:
+        if given.answer.word is Word.TIMEOUT and deadline:
             late = exchange.wall - deadline
             fits = -TOLERANCE <= late <= tolerance() + SLOW_ANSWER  # (a busy machine makes it late, and not early)
             words = f"{abs(late) / 1000:.1f} s {'after' if late > 0 else 'before'} its Lambda-Runtime-Deadline-Ms"
@@ -209,7 +210,7 @@ class Judge:
 
     def _deadline_of_event(self, value: Any, given: Given, exchange: Exchange) -> Pair:
         """That of the invocation, to within a little."""
-        known = self.deadlines.get(self.plan.label_of(int(given.answer.fields[1][-12:], 16)) or NEVER_GIVEN)
+        known = self.deadlines.get(self.plan.label_of(count_in(given.answer.request or "0")) or NEVER_GIVEN)
         if known is None or not str(value).isdigit():
             return self._deadline(value, given, exchange)
         fits = abs(int(value) - known) <= TOLERANCE

@@ -48,7 +48,7 @@ def by_its_moments(oracle: Oracle, difference: Difference) -> bool:
 
 
 def kinds(step: Tuple[Given, ...]) -> List[Tuple[int, str]]:
-    return [(given.call, given.answer.kind) for given in step]
+    return [(given.call, given.answer.word) for given in step]
 
 
 def minimised(course: Course, oracle: Oracle, difference: Difference) -> Difference:

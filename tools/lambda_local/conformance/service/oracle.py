@@ -1,15 +1,16 @@
-"""What the definitions answer: sequences as one script, and `lambda_local replay` of it.
+"""What the definitions answer: sequences as one script, and its trace.
 
 Each sequence of a script has a function and an environment of its own, so that many are replayed at once. Before each
 call there is a `tick`, whose own answer shows the entry of the call, even if environments have expired before it."""
 import collections
 import json
-import subprocess
-from typing import Dict, Iterable, Iterator, List, Mapping, NamedTuple, Optional, Set, Tuple
+from typing import Dict, List, Mapping, NamedTuple, Optional, Set, Tuple
 from typing import Sequence as TypingSequence
 
-from ...history import Answer
-from ...service import Fault
+from ...history.entries import Answer, Entry, count_in
+from ...history.replay import entries_of_script
+from ...history.script import Script
+from ...history.words import TICK, Word
 from .calls import MADE_BY_NONE, OF_EXTENSIONS, OF_INVOCATIONS, Call, Counts, about_extension
 Entries = Mapping[int, int]  # by the places of calls
 
@@ -117,28 +118,25 @@ class Oracle:
         return ["form 2", json.dumps({"account": "123456789012", "region": "us-east-1", "functions": functions},
                                      separators=(",", ":"))]
 
-    def _replay(self, lines: List[str]) -> Iterator[Tuple[int, Answer]]:
+    def _replay(self, lines: List[str]) -> List[Entry]:
         self.replays += 1
-        done = subprocess.run([self.program, "replay"], input="\n".join(lines) + "\n", capture_output=True, text=True)
-        if done.returncode:
-            told = done.stderr.strip().splitlines()
-            raise Fault(2, f"{self.program} replay: {told[-1] if told else f'status {done.returncode}'}")
-        for line in done.stdout.splitlines():
-            entry, ticket, kind, *fields = line.split(" ")
-            yield int(entry), Answer(int(ticket), kind, tuple(fields))
+        script = Script("the kit's script", ("\n".join(lines) + "\n").encode())
+        try:
+            return list(entries_of_script(script, self.program))
+        finally:
+            script.close()
 
     @staticmethod
-    def _steps(answers: Iterable[Tuple[int, Answer]], sequences: TypingSequence[Sequence],
-               marks: List[Tuple[int, int]],
+    def _steps(entries_made: List[Entry], sequences: TypingSequence[Sequence], marks: List[Tuple[int, int]],
                times: List[List[int]]) -> Tuple[List[Steps], List[Dict[int, int]]]:
         steps: List[List[List[Given]]] = [[[] for _ in sequence.calls] for sequence in sequences]
-        answers = list(answers)
-        ticks = iter([entry for entry, answer in answers if answer.kind == "done" and answer.ticket == entry])
+        answers = [(entry.ticket, answer) for entry in entries_made for answer in entry.answers]
+        ticks = iter([entry.ticket for entry in entries_made if entry.call.kind == TICK])
         calls, step_at, causes = {}, {}, {}  # by entries: the call; the step to which an entry belongs; what caused it
         before = -1
         for number, place in marks:
             kind = sequences[number].calls[place].kind
-            tick = next(tick for tick in ticks if tick > before)  # (a withdrawal is `done` as well)
+            tick = next(tick for tick in ticks if tick > before)  # (a `leave` without a Next is one as well)
             last = tick if kind in BY_TICK else tick + 1
             for entry in range(before + 1, last + 1):
                 step_at[entry], causes[entry] = (number, place), "expire"
@@ -148,19 +146,12 @@ class Oracle:
         for entry, answer in answers:
             number, place = step_at[entry]
             if answer.ticket in calls and calls[answer.ticket][0] == number:
-                deadline = deadline_of(answer)
                 steps[number][place].append(Given(calls[answer.ticket][1], answer, causes[entry],
-                                                  deadline and deadline - times[number][place]))
+                                                  (answer.deadline or times[number][place]) - times[number][place]))
         entries: List[Dict[int, int]] = [{} for _ in sequences]
         for entry, (number, place) in calls.items():
             entries[number][place] = entry
         return [tuple(map(tuple, of_one)) for of_one in steps], entries
-
-
-def deadline_of(answer: Answer) -> int:
-    """The moment that an answer names; none, as 0, if it names none."""
-    places = {"deliver": 1, "tell": 2, "shutdown": 2}
-    return int(answer.fields[places[answer.kind]]) if answer.kind in places else 0
 
 
 def left_polls(sequence: Sequence, steps: Steps, entries: Entries) -> Dict[int, int]:
@@ -200,7 +191,7 @@ def counts_at(sequence: Sequence, counts: Counts, environment: int) -> Counts:
 
 
 def taken_registrations(plan: Plan) -> Set[int]:
-    return {given.call for step in plan.steps for given in step if given.answer.kind == "registered"}
+    return {given.call for step in plan.steps for given in step if given.answer.word is Word.REGISTERED}
 
 
 def playable(plan: Plan) -> Sequence:
@@ -212,19 +203,19 @@ def playable(plan: Plan) -> Sequence:
         own = plan.own(place)
         # What no service gave is known to be unknown only while another invocation is open: else the phase is refused
         # first.
-        guessed = call.label == "?" and call.kind in OF_INVOCATIONS and (not own or own.fields[:1] != ("BadId",))
+        guessed = call.label == "?" and call.kind in OF_INVOCATIONS and (not own or own.reason != "BadId")
         if (not refers or (about_extension(call), call.label) in known) and not guessed:
             kept.append(call)
         for given in plan.steps[place]:
-            if given.answer.kind in ("deliver", "registered"):
-                known.add((given.answer.kind == "registered", plan.sequence.calls[labelled(plan, given)].label))
+            if given.answer.word in (Word.DELIVER, Word.REGISTERED):
+                known.add((given.answer.word is Word.REGISTERED, plan.sequence.calls[labelled(plan, given)].label))
     return plan.sequence._replace(calls=tuple(kept))
 
 
 def labelled(plan: Plan, given: Given) -> int:
     """The place of the call whose label a delivery or a registration makes known."""
-    if given.answer.kind == "registered":
+    if given.answer.word is Word.REGISTERED:
         return given.call
-    count = int(given.answer.fields[0][-12:], 16)
+    count = count_in(given.answer.request or "0")
     invokes = [place for place, call in enumerate(plan.sequence.calls) if call.kind == "invoke"]
     return invokes[count - 1]

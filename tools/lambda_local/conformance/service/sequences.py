@@ -2,6 +2,8 @@
 import functools
 from typing import Iterable, List, Tuple
 
+from ...history.entries import count_in
+from ...history.words import Word
 from .calls import NEVER_GIVEN, Call, calls_of
 from .oracle import FRESH, WARM, Oracle, Plan, Sequence, playable, taken_registrations
 
@@ -294,9 +296,9 @@ def with_ending(plan: Plan) -> Sequence:
         ending.append(Call("init-failure", "", (REPORT,)))
     else:
         ending = [Call("next")]
-        delivered = [given for step in plan.steps for given in step if given.answer.kind == "deliver"]
+        delivered = [given for step in plan.steps for given in step if given.answer.word is Word.DELIVER]
         if delivered:
-            last = plan.label_of(int(delivered[-1].answer.fields[0][-12:], 16)) or NEVER_GIVEN
+            last = plan.label_of(count_in(delivered[-1].answer.request or "0")) or NEVER_GIVEN
             ending.insert(0, Call("response", last, ('="the%20last"',)))
     return sequence._replace(calls=sequence.calls + tuple(ending))
 
@@ -306,7 +308,7 @@ def ends_well(plan: Plan) -> bool:
     last, waiting = plan.sequence.calls[-1].kind, plan.waiting()
     if last == "init-failure":
         own = plan.own(len(plan.sequence.calls) - 1)
-        return own is not None and own.kind == "accepted" and not waiting
+        return own is not None and own.word is Word.ACCEPTED and not waiting
     return last == "next" and waiting == [len(plan.sequence.calls) - 1]
 
 

@@ -10,13 +10,11 @@ import http.client
 import io
 import json
 import re
-import threading
-from collections import Counter
-from typing import Any, BinaryIO, Dict, Iterable, Iterator, List, NamedTuple, Optional, Sequence, Set, Tuple
-from urllib.parse import unquote_to_bytes
+from typing import Any, BinaryIO, Iterable, Iterator, List, NamedTuple, Optional, Sequence, Tuple
 
-from .configuration import Members
-from .json_reader import read_json
+from ..configuration import Members
+from ..json_reader import read_json
+from .script import decoded
 
 OPENING = b"form 2\n"
 EXPIRE = "expire"
@@ -102,24 +100,6 @@ def text_of(fields: Sequence[str]) -> Optional[bytes]:
     """The last text field, decoded; none if there is none."""
     field_of_text = next((field for field in reversed(fields) if field.startswith("=")), None)
     return None if field_of_text is None else decoded(field_of_text)
-
-
-def decoded(field: str) -> bytes:
-    """The bytes of a field `=TEXT`; a `%` without two hexadecimal digits is itself, and so is a byte that is not ASCII
-    and was read as half of a surrogate pair (PEP 383)."""
-    return unquote_to_bytes(field[1:].encode("utf-8", "surrogateescape"))
-
-
-def count_in(identifier: str) -> int:
-    """The count of a request, extension or event identifier."""
-    return int(identifier[-12:], 16)
-
-
-def request_identifier(salt: int, function: int, count: int) -> str:
-    """The identifier of the Invoke that is the `count`-th of the function with this number, both from 1."""
-    high = salt & ~0xF000 | 0x8000
-    whole = f"{high:016x}8{function:03x}{count:012x}"
-    return "-".join((whole[:8], whole[8:12], whole[12:16], whole[16:20], whole[20:]))
 
 
 def entries_of(lines: Iterable[str], first: int = 0) -> Iterator[Entry]:
@@ -265,28 +245,3 @@ class Follower:
             raise http.client.HTTPException(
                 f"GET {path}: {answer.status} {answer.read()[:200].decode(errors='replace')}")
         return answer
-
-
-class Parked:
-    """Which polls wait, by the history of the service whose callers' port this is, as it grows. One thread at a time
-    reads it."""
-
-    def __init__(self, port: int) -> None:
-        self._follower, self._lock = Follower(port), threading.Lock()
-        self._waits: Dict[int, Entry] = {}
-
-    def read(self) -> Tuple[Set[int], "Counter[int]"]:
-        """The numbers of the environments whose runtime waits, and for each environment how many extensions wait."""
-        with self._lock:
-            for entry in self._follower.stream():
-                if entry.kind in ("next", "ext-next"):
-                    self._waits[entry.number] = entry
-                for answer in entry.answers:
-                    self._waits.pop(answer.ticket, None)
-            polls = [(entry.kind, entry.environment) for entry in self._waits.values()]
-        extensions = Counter(number for kind, number in polls if kind == "ext-next" and number)
-        return {number for kind, number in polls if kind == "next" and number}, extensions
-
-    def close(self) -> None:
-        with self._lock:
-            self._follower.close()

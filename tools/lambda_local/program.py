@@ -1,0 +1,60 @@
+"""The program that the tools start, and what ends a tool.
+
+The program is the one given, else LAMBDA_LOCAL_PROGRAM, else the one that was installed with the tools, else the one
+that the repository's ./lambda_local finds: none is proved or built for a tool."""
+import functools
+import os
+import shutil
+import subprocess
+import sys
+from typing import Optional
+
+from .paths import LAUNCHER, own_program
+
+
+class Fault(Exception):
+    """What ends a tool: a status, and a line that says what to do."""
+
+    def __init__(self, status: int, message: str) -> None:
+        super().__init__(message)
+        self.status = status
+
+
+class NoProgram(Fault):
+    """There is no program to start: status 4 in every tool."""
+
+    def __init__(self, message: str) -> None:
+        super().__init__(4, message)
+
+
+def program_path(given: Optional[str] = None) -> str:
+    """The program that a tool starts."""
+    program = given or os.environ.get("LAMBDA_LOCAL_PROGRAM") or own_program()
+    path = shutil.which(program)
+    if not path:
+        raise NoProgram(f"{program} is not a program: name one by --program or LAMBDA_LOCAL_PROGRAM")
+    if os.path.realpath(path) == LAUNCHER:
+        program = launched(path)
+    if program.endswith(".unproved"):
+        tell_unproved(program)
+    return program
+
+
+@functools.lru_cache(maxsize=None)
+def launched(launcher: str) -> str:
+    """The program that the launcher finds: it is asked once a process. What it says beside that is passed on."""
+    variables = {name: value for name, value in os.environ.items() if name != "LAMBDA_LOCAL_PROGRAM"}
+    done = subprocess.run([launcher, "path"], stdin=subprocess.DEVNULL, capture_output=True, text=True,
+                          errors="replace", env=variables)
+    said = [line.replace("lambda_local: ", "", 1) for line in done.stderr.splitlines()]
+    if done.returncode:
+        raise NoProgram(said[-1] if said else f"{launcher} path ended with status {done.returncode}")
+    for line in said:
+        print(f"lambda_local: {line}", file=sys.stderr)
+    return done.stdout.rstrip("\n")
+
+
+@functools.lru_cache(maxsize=None)
+def tell_unproved(program: str) -> None:
+    print(f"lambda_local: {program} is not proved: './lambda_local build' proves and builds the program",
+          file=sys.stderr)
