@@ -4,36 +4,30 @@ import json
 from typing import IO, Any, Dict, Iterable, Iterator, NoReturn, Sequence, Tuple
 
 from .entries import Call, Entry
-from .shapes import ANSWERS, CALLS, ENTRIES, MOST, PHASES, NotTrace, Shapes, shown
+from .shapes import ANSWERS, CALLS, ENTRIES, MOST, PHASES, NotTrace, Shape, Shapes, shown
 
 LONGEST_LINE = 256 << 20  # bytes: two bodies of a script's longest line, each byte of them as an escape
 
 
 def made_of(given: object, shapes: Shapes, what: str) -> Any:
     """What an object of these shapes is; NotTrace if it is none."""
-    shape = shapes.get(tuple(given)) if type(given) is dict else None
-    if shape is None or type(given) is not dict:
-        raise NotTrace(f"{shown(given)} is not {what}")
+    if type(given) is dict:
+        shape = shapes.get(tuple(given))
+        if shape is not None:
+            made = shape.make(*given.values())
+            if made is not None:
+                return made
+            raise wrong(what, given, shape)
+    raise NotTrace(f"{shown(given)} is not {what}")
+
+
+def wrong(what: str, given: Dict[str, Any], shape: Shape) -> NotTrace:
+    """What is said of the first member that is not as it has to be."""
     values = list(given.values())
-    if list(map(type, values)) != shape.types:
-        of_its_type = [type(value) is kind for value, kind in zip(values, shape.types)]
-        raise wrong(what, given, of_its_type.index(False))
-    for place in shape.numbers:
-        if not 0 <= values[place] < MOST:
-            raise wrong(what, given, place)
-    for place, check in shape.checks:
-        if not check(values[place]):
-            raise wrong(what, given, place)
-    if shape.reasons and values[1] not in shape.reasons[values[0]]:
-        raise wrong(what, given, 1)
-    for place, change in shape.changes:
-        values[place] = change(values[place])
-    return shape.make(values)
-
-
-def wrong(what: str, given: Dict[str, Any], place: int) -> NotTrace:
-    """What is said of the member at a place."""
-    name, value = list(given.items())[place]
+    places = [place for place, value in enumerate(values) if type(value) is not shape.types[place]]
+    places = places or [place for place in shape.numbers if not 0 <= values[place] < MOST]
+    places = places or [place for place, check in shape.checks if not check(values[place])]
+    name, value = list(given.items())[places[0] if places else 1]  # (the reason)
     return NotTrace(f"the {name} of {what} is {shown(value)}")
 
 

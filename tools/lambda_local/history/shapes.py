@@ -3,7 +3,6 @@ import base64
 import binascii
 import functools
 import itertools
-import operator
 import re
 from typing import (Any, Callable, Dict, FrozenSet, Iterable, Iterator, List, NamedTuple, Optional, Tuple, Type, Union,
                     cast)
@@ -13,7 +12,6 @@ from .words import REFUSALS, SHUTDOWN_REASONS, THROTTLE_REASONS, Word
 
 MOST = 1 << 64
 IDENTIFIER = re.compile(r"[0-9a-f]{8}-[0-9a-f]{4}-[0-9a-f]{4}-[0-9a-f]{4}-[0-9a-f]{12}")
-Values = List[Any]
 Made = Union[Call, Answer, Phase, Entry]
 Check = Callable[[Any], object]
 Change = Callable[[Any], Any]
@@ -31,7 +29,7 @@ class Shape(NamedTuple):
     checks: Tuple[Tuple[int, Check], ...]  # the places of words, names and identifiers
     reasons: Optional[Dict[str, FrozenSet[str]]]  # of each word, if the first two members are a word and a reason
     changes: Tuple[Tuple[int, Change], ...]  # the places of words and bytes
-    make: Callable[[Values], Made]
+    make: Callable[..., Optional[Made]]  # of the values, if they are all right
 
 
 def shown(value: object) -> str:
@@ -91,14 +89,27 @@ ENTRY_TYPES: Dict[str, type] = {
 KNOWN_ENTRIES: Known = (("", "answers call moment phases released ticket", "charged expires place request"),)
 
 
-def making(kind: Type[Any], fields: Dict[str, str], names: Tuple[str, ...]) -> Callable[[Values], Made]:
-    """What makes a tuple of this kind of the values of members: a field has that of a member, or else its default."""
-    given = {fields.get(name, name): place for place, name in enumerate(names)}
-    rest: List[Any] = [kind._field_defaults[field] for field in kind._fields if field not in given]
-    after = iter(range(len(names), len(names) + len(rest)))
-    pick = operator.itemgetter(*(given[field] if field in given else next(after) for field in kind._fields))
-    made = cast(Callable[[Values], Made], functools.partial(tuple.__new__, kind))
-    return lambda values: made(pick(values + rest))
+def with_maker(kind: Type[Any], fields: Dict[str, str], names: Tuple[str, ...], shape: Shape) -> Shape:
+    """The shape with what makes a tuple of this kind of the values of members, if they are all right. It is compiled,
+    as those of named tuples are: it is called for each object of a trace."""
+    known = {"new": functools.partial(tuple.__new__, kind), "MOST": MOST}
+    wanted = [f"type(v{place}) is {a_type.__name__}" for place, a_type in enumerate(shape.types)]
+    wanted += [f"0 <= v{place} < MOST" for place in shape.numbers]
+    for place, check in shape.checks:
+        wanted.append(f"check{place}(v{place})")
+        known[f"check{place}"] = check
+    if shape.reasons:
+        wanted.append("v1 in reasons[v0]")
+        known["reasons"] = shape.reasons
+    values = {fields.get(name, name): f"v{place}" for place, name in enumerate(names)}
+    for place, change in shape.changes:
+        known[f"change{place}"] = change
+        values[fields.get(names[place], names[place])] = f"change{place}(v{place})"
+    made = [values.get(field) or repr(kind._field_defaults[field]) for field in kind._fields]
+    arguments = ", ".join(f"v{place}" for place, _ in enumerate(names))
+    exec(f"def make({arguments}):\n    if {' and '.join(wanted)}:\n        return new(({', '.join(made)}))\n"
+         "    return None\n", known)
+    return shape._replace(make=cast(Callable[..., Optional[Made]], known["make"]))
 
 
 def members_of(known: Known, word: str) -> Dict[Tuple[str, ...], List[str]]:
@@ -123,11 +134,12 @@ def shapes_of(kind: Type[Any], types: Dict[str, type], word: str,
         reasons = REASONS if kind is Answer and names[:2] == ("answer", "reason") else None
         if "reason" in names and reasons is None:
             checks["reason"] = SHUTDOWN_REASONS.__contains__
-        yield names, Shape(
+        shape = Shape(
             [types[name] for name in names], tuple(place for place, name in enumerate(names) if types[name] is int),
             tuple((place, checks[name]) for place, name in enumerate(names) if types[name] is str and name in checks),
             reasons, tuple((place, CHANGES[name]) for place, name in enumerate(names) if name in CHANGES),
-            making(kind, fields, names))
+            lambda *_: None)
+        yield names, with_maker(kind, fields, names, shape)
 
 
 # By the names of the members in their order.
