@@ -13,6 +13,7 @@ import subprocess
 import threading
 import time
 import urllib.parse
+from typing import Dict, List
 
 from tests.library.counted import check
 from tests.library.up_kit import ROOT, RUNTIME, Up, children, command_of, lives, until
@@ -45,22 +46,24 @@ OVER = re.compile(r"ok after|is refused|it is dropped|its record goes to|is lost
 def state_of(pid):
     """How many descriptors a process has, and how many kilobytes of memory."""
     with open(f"/proc/{pid}/status") as file:
-        memory = int(re.search(r"VmRSS:\s+(\d+)", file.read())[1])
+        memory = next(int(line.split()[1]) for line in file if line.startswith("VmRSS:"))
     return len(os.listdir(f"/proc/{pid}/fd")), memory
 
 
 class Chaos:
     def __init__(self, seconds, seed):
         self.random, self.end = random.Random(seed), time.monotonic() + seconds
-        self.taken, self.counts, self.lock = [], collections.Counter(), threading.Lock()
+        self.taken: List[str] = []
+        self.counts: Dict[str, int] = collections.Counter()
+        self.lock = threading.Lock()
         one = {"command": RUNTIME, "timeout": 5, "environments": 2}
         self.up = Up("--ready", "600", "--history", "saved", "--drain", "60", functions=[
             {"name": "f", "url": True, **one}, {"name": "g", **one, "extensions": {"x": ["./extension"]}},
             {"name": "records", **one}], files={"extension": EXTENSION}, app=APP,
             whole={"asynchronous": {"retries": 1, "delays": [0.2], "onFailure": "records"}, "routes": {"GET /a": "g"}})
         assert self.up.until("[up] ready", 600), self.up.lines
-        self.addresses = [re.search(r"http://[0-9.:]+", line)[0] for line in self.up.lines
-                          if "its URL is" in line or "routes:" in line]
+        self.addresses = [address for line in self.up.lines if "its URL is" in line or "routes:" in line
+                          for address in re.findall(r"http://[0-9.:]+", line)[:1]]
 
     def goes_on(self):
         return time.monotonic() < self.end and self.up.process.poll() is None

@@ -1,6 +1,7 @@
 """Must-fail edits: how one is read, and whether it fits its crate. An edit is a file of lines `file: PATH` (below its
 crate), `old: TEXT` and `new: TEXT`, and, if the gate tries it, `gate: FUNCTION`: whose promise it breaks."""
 import re
+from typing import Dict
 
 WORDS = re.compile(r"^(gate|file|old|new):(?: (.*))?$", re.M)
 # The head of a function, and of a block of methods: the type alone, or the trait and the type.
@@ -48,7 +49,8 @@ def _around(text, place):
 def edited(edit, crate):
     """The files of a crate's folder that an edit changes, with their new texts; a ValueError that tells why if the edit
     does not fit: each text that it replaces must occur in its file exactly once."""
-    texts, path, old = {}, "", ""
+    texts: Dict[str, str] = {}
+    path = old = ""
     for key, value in WORDS.findall(read(edit)):
         if key == "file":
             path = value.strip()

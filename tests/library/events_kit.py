@@ -1,6 +1,8 @@
 """Callers of a front that keep their connection, and the service behind the front."""
+import contextlib
 import http.client
 import json
+import os
 import time
 import urllib.parse
 
@@ -26,6 +28,27 @@ def behind(up):
         except (OSError, StopIteration):
             continue
     raise LookupError("there is no service")
+
+
+def json_lines(path):
+    """What a function has written into a file, one JSON a line; nothing if the file is not there yet."""
+    if not os.path.exists(path):
+        return []
+    with open(path) as file:
+        return [json.loads(line) for line in file]
+
+
+@contextlib.contextmanager
+def caller_of(case, up, address=None):
+    """A caller of this `lambda_local up` once it is ready, at its endpoint or the address that this function gives.
+    Checks that it ends in order, if it has not ended yet."""
+    try:
+        case.check("it is ready", up.until("[up] ready", READY_SECONDS))
+        with Caller(address() if address else up.endpoint) as caller:
+            yield caller
+    finally:
+        if up.process.poll() is None:
+            case.check("it ends in order, and leaves nothing", up.end(), (0, []))
 
 
 class Caller:

@@ -18,6 +18,7 @@ import tempfile
 import threading
 import time
 import traceback
+from typing import Any, Set
 
 from lambda_local.conformance import command, extension, process, runtime, service  # noqa: F401 (before the forks)
 from lambda_local.guard import GUARD
@@ -45,7 +46,7 @@ def end_as(run):
         traceback.print_exc()
         code = 1
     with contextlib.suppress(BaseException):
-        threading._shutdown()
+        threading._shutdown()  # type: ignore[attr-defined]
         atexit._run_exitfuncs()
     for stream in (sys.stdout, sys.stderr):
         with contextlib.suppress(OSError, ValueError):
@@ -56,8 +57,8 @@ def end_as(run):
 def begin_in(folder, variables, *outputs):
     """Makes this process, which was forked, what a fresh one is."""
     signal.set_wakeup_fd(-1)
-    for number in (signal.SIGCHLD, signal.SIGTERM):
-        signal.signal(number, signal.SIG_DFL)
+    for ending in (signal.SIGCHLD, signal.SIGTERM):
+        signal.signal(ending, signal.SIG_DFL)
     signal.signal(signal.SIGINT, signal.default_int_handler)
     os.setsid()
     nothing = os.open(os.devnull, os.O_RDONLY)
@@ -141,7 +142,7 @@ def fork_kits(channel, programs):
             number = os.fork()
             if number == 0:
                 channel.close()
-                os._exit(kit(*message, *handles, programs))
+                os._exit(kit(programs, *message, *handles))
             running.append(number)
             for handle in handles:
                 os.close(handle)
@@ -151,7 +152,7 @@ def fork_kits(channel, programs):
     os._exit(0)
 
 
-def kit(words, folder, variables, output, errors, status, programs):
+def kit(programs, words, folder, variables, output, errors, status):
     begin_in(folder, variables, output, errors)
     os.write(status, b"%d " % os.getpid())
     process.begun = Nursery(programs, status).begun
@@ -189,7 +190,8 @@ class Nursery:
                 os.close(descriptor)
             fork_programs(its, programs)
         its.close()
-        self._asking, self._answers, self._running = threading.Lock(), queue.Queue(), {}
+        self._asking, self._running = threading.Lock(), {}
+        self._answers: "queue.Queue[Any]" = queue.Queue()
         threading.Thread(target=self._read, daemon=True).start()
 
     def begun(self, words, variables, output):
@@ -220,10 +222,10 @@ def fork_programs(channel, programs):
     os.set_blocking(woken, False)
     os.set_blocking(wakes, False)
     signal.signal(signal.SIGCHLD, lambda *_: None)
-    for number in (signal.SIGTERM, signal.SIGINT):  # (it ends with its kit)
-        signal.signal(number, signal.SIG_IGN)
+    for ending in (signal.SIGTERM, signal.SIGINT):  # (it ends with its kit)
+        signal.signal(ending, signal.SIG_IGN)
     signal.set_wakeup_fd(wakes, warn_on_full_buffer=False)
-    running = set()
+    running: Set[int] = set()
     while True:
         ready = select.select([channel, woken], [], [])[0]
         if woken in ready:

@@ -54,7 +54,7 @@ def by_h11(h11, data):
                 request = event
             elif isinstance(event, h11.Data):
                 body += bytes(event.data)
-            elif isinstance(event, h11.EndOfMessage):
+            elif isinstance(event, h11.EndOfMessage) and request is not None:
                 return request.method, request.target, body
             else:
                 return None
@@ -67,6 +67,8 @@ def compared(h11, data):
     listed."""
     data = re.sub(rb"^(?:\r\n)+", b"", data)  # (h11 takes no empty line before a request: RFC 9112, section 2.2)
     request, body = next(iter(messages_of(data)), (None, None))
-    own = ((request.method.encode(), request.target.encode("latin-1"), body) if isinstance(body, bytes) else None)
+    own = None
+    if request is not None and isinstance(body, bytes):
+        own = request.method.encode(), request.target.encode("latin-1"), body
     seen = by_h11(h11, data)
     return own, seen, own != seen and next((reason for reason, applies in OF_H11 if applies(data)), None)

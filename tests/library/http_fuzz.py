@@ -3,6 +3,7 @@ pieces, and through `h11` where it is installed; bodies in chunks beside a readi
 other; and heads that are written and read again. Each reader takes bytes; a difference is an AssertionError."""
 import random
 import re
+from typing import List
 
 from tests.library.h11_beside import compared
 from tests.library.http_mutants import HEAD, SEEDS, WORDS, messages_of, mutant
@@ -12,7 +13,7 @@ from lambda_local.http1 import (CLOSED, Data, EndOfMessage, Malformed, Request, 
 try:
     import h11
 except ImportError:
-    h11 = None
+    h11 = None  # type: ignore[assignment]
 RESPONSE = b"HTTP/1.1 200 OK\r\nContent-Length: 2\r\n\r\nhiHTTP/1.1 204 No\r\n\r\nHTTP/1.1 502\r\n\r\nrest"
 CHUNKED = HEAD + b"Transfer-Encoding: chunked\r\n\r\n"
 CHUNKS = CHUNKED + b"1\r\nx\r\n" * 9 + b"5;a=b\r\nhello\r\n0 \r\nA: b\r\n\r\n"
@@ -48,7 +49,8 @@ def of_requests(data):
 
 def responses_of(data, sizes):
     """The responses with their bodies, to a GET and a HEAD in turn; and the fault at which they end."""
-    reader, at, turn, found, body = ResponseReader(), 0, 0, [], b""
+    reader, at, turn, body = ResponseReader(), 0, 0, b""
+    found: List[object] = []
     while True:
         try:
             event = reader.next_event()
@@ -137,9 +139,10 @@ def of_written(data):
         except Malformed as fault:  # (a limit, or what the service takes for no target; it is refused, not misread)
             assert kind is Request or fault.status == 431, fault
             continue
-        assert isinstance(event, kind) and event.headers == plain, (event, head)
+        assert isinstance(event, kind) and isinstance(event, (Request, Response)), (event, head)
+        assert event.headers == plain, (event, head)
         assert isinstance(reader.next_event(), EndOfMessage) and reader.is_silent, head
-        assert kind is Response or (event.method, event.target) == (method, target), event
+        assert isinstance(event, Response) or (event.method, event.target) == (method, target), event
 
 
 # ---- what they are given ---------------------------------------------------------------------------------------------

@@ -3,6 +3,7 @@ import contextlib
 import random
 import re
 import socket
+from typing import List, Optional, Tuple
 
 from lambda_local.front.origins import refusal_of
 from lambda_local.http1 import CLOSED, CutShort, Data, EndOfMessage, Malformed, Request, RequestReader
@@ -122,7 +123,9 @@ def events_of(data, sizes=(1 << 30,)):
 
 def messages_of(data, sizes=(1 << 30,)):
     """The requests with their bodies: (request, body); a fault at which they end is in place of a body, or alone."""
-    found, request, body = [], None, b""
+    request: Optional[Request] = None
+    found: List[Tuple[Optional[Request], object]] = []
+    body = b""
     for event in events_of(data, sizes):
         if isinstance(event, Request):
             request, body = event, b""
@@ -130,7 +133,7 @@ def messages_of(data, sizes=(1 << 30,)):
             body += event.data
         elif isinstance(event, EndOfMessage):
             found.append((request, body))
-            if not request.keeps_alive:
+            if request is None or not request.keeps_alive:
                 return found
             request = None
         else:
@@ -140,7 +143,7 @@ def messages_of(data, sizes=(1 << 30,)):
 
 def own_outcome(data):
     """What a server that follows our reader and the service's rules answers, message by message."""
-    words = []
+    words: List[str] = []
     for request, body in messages_of(data):
         refused = refusal_of(request, ()) if request else None
         if refused:
@@ -151,7 +154,7 @@ def own_outcome(data):
             words.append(TAKEN)
         elif request:
             words.append(BROKEN)
-        elif not isinstance(body, CutShort):
+        elif isinstance(body, Malformed) and not isinstance(body, CutShort):
             words.append(str(body.status))
     return words
 
@@ -174,7 +177,8 @@ def answers_to(port, data):
 
 def outcome_of(answers):
     """The answers that the service's bytes are, in the same words."""
-    words, at = [], 0
+    words: List[str] = []
+    at = 0
     while found := ANSWER.match(answers, at):
         status, head, at = found[1].decode(), found[2].lower(), found.end()
         length = re.search(rb"content-length: ([0-9]+)", head)

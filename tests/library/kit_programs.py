@@ -8,10 +8,10 @@ from tests import ROOT
 PROGRAMS = os.path.join(ROOT, "tests", "tools", "wrong_programs")
 SHAPES = os.path.join(ROOT, "tests", "tools", "sound_programs")
 sys.path[:0] = [PROGRAMS, SHAPES]
-import clients  # noqa: E402, F401
-import extensions  # noqa: E402, F401
-import libraries  # noqa: E402, F401
-import shapes  # noqa: E402, F401
-import subscribers  # noqa: E402, F401
-import wrong_extensions  # noqa: E402, F401
-import wrong_runtimes  # noqa: E402, F401
+import clients  # noqa: F401
+import extensions  # noqa: F401
+import libraries  # noqa: F401
+import shapes  # noqa: F401
+import subscribers  # noqa: F401
+import wrong_extensions  # noqa: F401
+import wrong_runtimes  # noqa: F401

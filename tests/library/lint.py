@@ -7,10 +7,12 @@ import shutil
 import subprocess
 import tempfile
 import zlib
+from typing import Dict, List, Tuple
 
 from tests.library.checkout import files_of
 
 MOST = 120
+Linter = Tuple[str, Tuple[str, ...], List[str], str]  # as LINTERS says
 # They cannot be read, or fail, as the conformance kit needs it.
 LEFT_OUT = re.compile(r"examples/conformance/(broken|failing)\.")
 SUFFIXES = {".py": "python", ".sh": "sh", **dict.fromkeys((".c", ".go", ".js", ".mjs", ".css"), "other")}
@@ -18,7 +20,7 @@ SHEBANGS = ((re.compile(r"#!.*python"), "python"), (re.compile(r"#!.*\b(ba|da)?s
 # Left out: imports below a line that says where modules are, the length of lines (`too_long` has it), and rules of
 # taste (where a continued line begins, spaces in slices, empty lines in functions and at the end, names for a lambda).
 RULES = ["--ignore", "E12,E133,E203,E226,E24,E306,E402,E501,E704,E731,W391,W503,W504"]
-LINTERS = (
+LINTERS: Tuple[Linter, ...] = (
     # what it checks, its commands by name, Debian's package
     ("python", ("pyflakes3", "pyflakes"), [], "pyflakes3"),
     ("python", ("pycodestyle",), RULES, "pycodestyle"),
@@ -40,7 +42,7 @@ def kind_of(path, name):
 
 def programs_of(root):
     """The programs of the repository outside its crates, by their languages."""
-    kinds = {}
+    kinds: Dict[str, List[str]] = {}
     for name in files_of(root):
         kind = kind_of(os.path.join(root, name), name)
         if kind and not name.startswith("crates/") and not LEFT_OUT.match(name):
@@ -91,18 +93,36 @@ def is_left_alone(root, finding):
 
 def checks_of_types(root):
     """Whether tools/ is as `mypy --strict` has it, if it is here (Debian: mypy): its packages, modules and Python
-    programs, which have names without an ending."""
-    mypy = shutil.which("mypy")
-    if not mypy:
-        return
+    programs, which have names without an ending. Of tests/library it looks into definitions without types too."""
     tools = os.path.join(root, "tools")
     names = [name for name in sorted(os.listdir(tools)) if os.path.exists(os.path.join(tools, name, "__init__.py"))
              or os.path.isfile(os.path.join(tools, name)) and kind_of(os.path.join(tools, name), name) == "python"]
     names += [os.path.join("library", name) for name in sorted(os.listdir(os.path.join(tools, "library")))
               if kind_of(os.path.join(tools, "library", name), name) == "python"]
+    yield from types_found(root, "mypy --strict", tools, ["--strict", "--scripts-are-modules"], names)
+    names = [name for name in files_of(root) if re.fullmatch(r"tests/library/[\w/]+\.py", name)]
+    paths = ":".join(os.path.join(root, *parts) for parts in (("tools",), ("tools", "library"),
+                                                              ("tests", "tools", "wrong_programs"),
+                                                              ("tests", "tools", "sound_programs")))
+    yield from types_found(root, "mypy of tests/library", root,
+                           ["--check-untyped-defs", "--ignore-missing-imports", "--namespace-packages",
+                            "--explicit-package-bases"], names, MYPYPATH=paths)
+
+
+def types_found(root, what, folder, options, names, **variables):
+    """What mypy finds in these files, if it is here. If the Python that runs it has no pytest, it cannot judge the
+    modules that import that."""
+    mypy = shutil.which("mypy")
+    if not mypy or not names:
+        return
     # (a cache of this checkout alone: what another one has at the same place is another file)
-    cache = f"lambda_local.mypy.{zlib.crc32(os.path.realpath(root).encode()):08x}"
-    ran = subprocess.run([mypy, "--strict", "--python-version", "3.9", "--follow-imports=silent",
-                          "--scripts-are-modules", "--cache-dir", os.path.join(tempfile.gettempdir(), cache), *names],
-                         cwd=tools, stdout=subprocess.PIPE, stderr=subprocess.STDOUT, text=True)
-    yield "mypy --strict", ran.stdout.splitlines() if ran.returncode else []
+    cache = f"lambda_local.mypy.{zlib.crc32(os.path.realpath(folder).encode()):08x}"
+    ran = subprocess.run([mypy, *options, "--python-version", "3.9", "--follow-imports=silent", "--cache-dir",
+                          os.path.join(tempfile.gettempdir(), cache), *names],
+                         cwd=folder, stdout=subprocess.PIPE, stderr=subprocess.STDOUT, text=True,
+                         env={**os.environ, **variables})
+    found = ran.stdout.splitlines() if ran.returncode else []
+    unjudged = {it.split(":")[0] for it in found if 'module named "pytest"' in it}
+    if unjudged and ran.returncode == 1:  # (2: it could not look at all)
+        found = [it for it in found if ": error: " in it and it.split(":")[0] not in unjudged]
+    yield what, found

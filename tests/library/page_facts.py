@@ -4,6 +4,7 @@ import glob
 import os
 import re
 import subprocess
+from typing import Dict
 
 from crate_list import uses
 from tests.library import drawings, tools_map
@@ -67,16 +68,19 @@ def files(root, page, text):
 def options(root, page, text):
     """Each option of a command of this repository is one that its help names."""
     blocks, spans = code_of(text)
-    told = {}
+    helps: Dict[str, str] = {}
     for line in [*spans, *(line for block in blocks for line in block.splitlines())]:
         found = COMMAND.match(line.split("#")[0])
-        given = found and re.findall(r"(?<=\s)--[a-z][\w-]*", found[2].split(" -- ")[0].split("|")[0])
-        if given and os.access(os.path.join(root, found[1].split()[0]), os.X_OK):
-            if found[1] not in told:
-                told[found[1]] = help_of(root, found[1])
+        if found is None:
+            continue
+        command, words = found[1], found[2].split(" -- ")[0].split("|")[0]
+        given = re.findall(r"(?<=\s)--[a-z][\w-]*", words)
+        if given and os.access(os.path.join(root, command.split()[0]), os.X_OK):
+            if command not in helps:
+                helps[command] = help_of(root, command)
             for option in given:
-                if not re.search(re.escape(option) + r"\b", told[found[1]]):
-                    yield f"{found[1]} --help does not name {option}"
+                if not re.search(re.escape(option) + r"\b", helps[command]):
+                    yield f"{command} --help does not name {option}"
 
 
 def sources_of(root, crate):

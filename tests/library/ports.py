@@ -1,10 +1,7 @@
 """Free ports for tests whose services have them side by side."""
-import os
 import random
-import sys
 
-sys.path.insert(0, os.path.join(os.path.dirname(os.path.dirname(os.path.dirname(os.path.realpath(__file__)))), "tools"))
-from lambda_local.service import is_taken  # noqa: E402
+from lambda_local.service import is_taken
 
 
 def free_range(count):

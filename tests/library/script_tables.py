@@ -1,7 +1,7 @@
 """The cases of a table of scripts, in the form that docs/checks.md describes under "Adding a case", and what a program
 makes of one."""
 import subprocess
-from typing import NamedTuple
+from typing import List, NamedTuple, Tuple
 
 
 class Case(NamedTuple):
@@ -45,7 +45,8 @@ def cases_of(path):
 
 
 def case_of(name, lines):
-    script, parts = b"", []
+    script = b""
+    parts: List[Tuple[str, List[str], List[str]]] = []
     for line in lines:
         if line.startswith("-- "):
             kind, *words = line[3:].split(" ")

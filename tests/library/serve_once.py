@@ -17,7 +17,7 @@ def serve(launcher, folder):
                    "functions": [{"name": "f", "ports": [port]}]}, file)
     child = subprocess.Popen([launcher, "serve", path], stderr=subprocess.PIPE, text=True)
     try:
-        for line in child.stderr:
+        for line in child.stderr or ():
             if line.endswith("listening\n"):
                 ask(invoke, "POST", "/_local/stop")
             else:

@@ -76,6 +76,7 @@ class Handler(http.server.BaseHTTPRequestHandler):
 
     def do_POST(self):
         body = self.rfile.read(int(self.headers.get("Content-Length", 0)))
+        assert isinstance(self.server, OfQueue)
         queue, target = self.server.queue, self.headers.get("X-Amz-Target")
         if queue.wrong is not None:
             return self.answer(*queue.wrong)
@@ -123,13 +124,20 @@ class Handler(http.server.BaseHTTPRequestHandler):
         self.wfile.write(body)
 
 
+class OfQueue(http.server.ThreadingHTTPServer):
+    daemon_threads = True
+
+    def __init__(self, queue):
+        super().__init__(("127.0.0.1", 0), Handler)
+        self.queue = queue
+
+
 class Server:
     """A server with one queue, whose address is `url`."""
 
     def __init__(self, **members):
         self.queue = Queue(**members)
-        self.server = http.server.ThreadingHTTPServer(("127.0.0.1", 0), Handler)
-        self.server.daemon_threads, self.server.queue = True, self.queue
+        self.server = OfQueue(self.queue)
         self.url = f"http://127.0.0.1:{self.server.server_address[1]}{PATH}"
 
     def __enter__(self):

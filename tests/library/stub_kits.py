@@ -30,7 +30,7 @@ class StubKit:
         if identity and "rt alone" not in name:
             write(os.path.join(folder, "KIT-ID"), f"{identity}\n".encode())
         self.path = f"{folder}/bin:/usr/bin:/bin"
-        self.is_of_another_logic = bool(identity) and not identity.endswith(" logic 0")
+        self.is_of_another_logic = bool(identity and not identity.endswith(" logic 0"))
 
     def asked(self):
         """What it was asked for, besides its version."""

@@ -11,6 +11,7 @@ import threading
 import time
 import urllib.error
 import urllib.request
+from typing import List, Union
 
 ROOT = os.path.dirname(os.path.dirname(os.path.dirname(os.path.realpath(__file__))))
 TOOLS, LAUNCHER = os.path.join(ROOT, "tools"), os.path.join(ROOT, "lambda_local")
@@ -84,7 +85,8 @@ class Up:
         prepare(self.at)
         function = {"name": "f", "command": BREAKABLE, "variables": {"GREETING": "hello"}, "timeout": 1, **members}
         self.write("up.json", json.dumps({"functions": functions or [function], **whole}))
-        self.lines, self.endpoint = [], None
+        self.lines: List[str] = []
+        self.endpoint = ""  # until a line has it
         self.process = subprocess.Popen([LAUNCHER, "up", *options, "up.json", *command], cwd=self.at,
                                         env=environ, stdin=subprocess.DEVNULL, stderr=subprocess.PIPE,
                                         stdout=subprocess.PIPE, text=True, start_new_session=True)
@@ -102,6 +104,7 @@ class Up:
             os.chmod(path, 0o755)
 
     def read(self):
+        assert self.process.stderr is not None
         for line in self.process.stderr:
             self.reading.wait()
             self.lines.append(line.rstrip())
@@ -148,6 +151,8 @@ class Up:
         """Its status after this signal, and the processes that it leaves."""
         if number:
             self.process.send_signal(number)
+        assert self.process.stdout is not None and self.process.stderr is not None
+        status: Union[int, str]
         try:
             status = self.process.wait(40)
         except subprocess.TimeoutExpired:

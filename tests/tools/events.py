@@ -15,7 +15,7 @@ from collections import Counter
 
 from tests import ROOT
 from tests.library.cases import Case
-from tests.library.events_kit import READY, READY_SECONDS, Caller, behind, invoke_path
+from tests.library.events_kit import READY, READY_SECONDS, Caller, behind, caller_of, invoke_path, json_lines
 from tests.library.up_kit import Up, until
 
 APP = '''import json, os, time
@@ -43,11 +43,7 @@ def functions(**members):
 
 
 def records(up):
-    path = os.path.join(up.at, "records")
-    if not os.path.exists(path):
-        return []
-    with open(path) as file:
-        return [json.loads(line) for line in file]
+    return json_lines(os.path.join(up.at, "records"))
 
 
 SEEN = "/2019-09-30/functions/f/concurrency"  # of which the answer stays the same
@@ -134,13 +130,8 @@ class Events(Case):
     @contextlib.contextmanager
     def running(self, asynchronous=True, options=(), **members):
         up = Up(*READY, *options, functions=functions(**members), app=APP, whole={"asynchronous": asynchronous})
-        try:
-            up.until("[up] ready", READY_SECONDS)
-            with Caller(up.endpoint) as caller:
-                yield up, caller
-        finally:
-            if up.process.poll() is None:
-                self.check("it ends in order, and leaves nothing", up.end(), (0, []))
+        with caller_of(self, up) as caller:
+            yield up, caller
 
     def test_by_boto3(self):
         up = Up(*READY, command=["--", sys.executable, "calls.py"], functions=functions(), app=APP,

@@ -50,7 +50,7 @@ def run(event, context):
     return os.getpid()
 '''
 FUNCTION = {"name": "f", "runtime": "python", "handler": "app.run", "timeout": 2, "variables": {"OF_ALL": "1"}}
-SERVER = "forking.py"
+SERVER = "forker.py"
 
 
 def up_of(*options, environ=None, files={}, functions=None, **members):
@@ -166,7 +166,7 @@ class Forking(Case):
         for name, text, count in (("that begins with threads", site, 0), ("with the function's own path", "", 2)):
             up = Up(app=APP, functions=[{**FUNCTION, "environments": 2, "variables": {"PYTHONPATH": "site"}}],
                     prepare=lambda at: (os.mkdir(f"{at}/site"), write(f"{at}/site/sitecustomize.py",
-                                                                      text)))  # noqa: B023
+                                                                      text)))
             self.check(f"an interpreter {name}", (up.until("ready"), len(with_its_line(up))), (True, count))
             path = up.invoke(patience=20, do="describe")[0]["path"]
             self.check("its path", f"{up.at}/site" in path)

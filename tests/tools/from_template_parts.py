@@ -10,7 +10,7 @@ import time
 
 from lambda_local.configuration import OF_SERVICE, mistakes
 from lambda_local.from_template.command import up_of
-from lambda_local.from_template.telling import Fault
+from lambda_local.from_template.messages import Fault
 from lambda_local.front import settings
 from lambda_local.up.members import MEMBERS
 from tests import ROOT

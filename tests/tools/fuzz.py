@@ -17,7 +17,7 @@ import time
 from lambda_local import from_template, outgoing, reasons, reports
 from lambda_local.configuration import explained, mistakes
 from lambda_local.from_template import command as template_command
-from lambda_local.from_template.telling import Fault as TemplateFault
+from lambda_local.from_template.messages import Fault as TemplateFault
 from lambda_local.front.events import in_json
 from lambda_local.front.payload import Unmappable, reply_of
 from lambda_local.history import comparison, followed, reader, script, text as history

@@ -15,7 +15,7 @@ import urllib.parse
 
 from tests import ROOT
 from tests.library.cases import Case
-from tests.library.events_kit import READY, READY_SECONDS, Caller
+from tests.library.events_kit import READY, READY_SECONDS, Caller, caller_of
 from tests.library.up_kit import Up, until
 
 # What it returns is in the query; without a query it is the event.
@@ -87,13 +87,8 @@ class HttpEvents(Case):
                                     "url": url,
                                     "timeout": 10},
                            {"name": "g", "runtime": "python", "handler": "app.run"}], app=APP, whole=whole)
-        try:
-            up.until("[up] ready", READY_SECONDS)
-            with Caller(address(up, r"its URL is (\S+)/$")) as caller:
-                yield up, caller
-        finally:
-            if up.process.poll() is None:
-                self.check("it ends in order, and leaves nothing", up.end(), (0, []))
+        with caller_of(self, up, lambda: address(up, r"its URL is (\S+)/$")) as caller:
+            yield up, caller
 
     def test_events(self):
         with self.running() as (_, caller):

@@ -323,7 +323,7 @@ class InvocationLog(Case):
         wrong = []
         for size in range(1, len(printed) + 1):
             seen = []
-            splitter = MarkedSplitter(seen.append, lambda identifier: seen.append((identifier, )), mark)  # noqa: B023
+            splitter = MarkedSplitter(seen.append, lambda identifier: seen.append((identifier, )), mark)
             for place in range(0, len(printed), size):
                 splitter.feed(printed[place:place + size])
             splitter.feed(b"")

@@ -8,7 +8,7 @@ import re
 
 from lambda_local.front.operations import HERE, OPERATIONS
 from tests.library.cases import Case
-from tests.library.events_kit import READY, READY_SECONDS, Caller, behind, invoke_path
+from tests.library.events_kit import READY, Caller, behind, caller_of, invoke_path
 from tests.library.up_kit import Up
 
 APP = "def run(event, context): return 7\n"
@@ -20,13 +20,8 @@ class Management(Case):
     @contextlib.contextmanager
     def running(self, functions):
         up = Up(*READY, functions=functions, app=APP, whole={"region": "eu-west-1"})
-        try:
-            self.check("it is ready", up.until("[up] ready", READY_SECONDS))
-            with Caller(up.endpoint) as caller:
-                yield up, caller
-        finally:
-            if up.process.poll() is None:
-                self.check("it ends in order, and leaves nothing", up.end(), (0, []))
+        with caller_of(self, up) as caller:
+            yield up, caller
 
     def test_shown(self):
         with self.running([{"name": "f", "runtime": "python", "handler": "app.run", "timeout": 9, "memory": 256,

@@ -262,7 +262,7 @@ class Plugin(Case):
 
     def test_launcher(self):
         """The launcher is asked once a process for its program."""
-        from lambda_local import service as service_module
+        from lambda_local import program as program_module
         own = os.path.join(ROOT, "lambda_local")
         if not os.access(own, os.X_OK):
             self.skipTest("there is no launcher here")
@@ -275,7 +275,7 @@ class Plugin(Case):
                 file.write(f'#!/bin/sh\necho "$1" >> "$0.started"\n[ "$1" = path ] && echo {program} && exit\nexec '
                            f'{program} "$@"\n')
             os.chmod(fake, 0o755)
-            before, service_module.LAUNCHER = service_module.LAUNCHER, os.path.realpath(fake)
+            before, program_module.LAUNCHER = program_module.LAUNCHER, os.path.realpath(fake)
             given = os.environ.pop("LAMBDA_LOCAL_PROGRAM", None)
             try:
                 os.environ["LAMBDA_LOCAL_PROGRAM"] = fake
@@ -289,7 +289,7 @@ class Plugin(Case):
                     self.check("the launcher is asked once", file.read().split(), ["path"])
                 print(f"     a service, a call and a stop take {1000 * sorted(times)[2]:.0f} ms (median of five)")
             finally:
-                service_module.LAUNCHER = before
+                program_module.LAUNCHER = before
                 if given:
                     os.environ["LAMBDA_LOCAL_PROGRAM"] = given
                 else:

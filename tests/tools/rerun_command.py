@@ -42,10 +42,14 @@ while True:
 '''
 
 
+SALT = 77
+
+
 def recorded_history():
     """What a service of one function answers whose runtime is this process."""
     service = Service(
-        {"account": "123456789012", "region": "us-east-1", "functions": [{"name": "f", "ports": [0], "timeout": 900}]})
+        {"account": "123456789012", "region": "us-east-1", "salt": SALT,
+         "functions": [{"name": "f", "ports": [0], "timeout": 900}]})
     port = service.configuration["functions"][0]["ports"][0]
     path = "/2018-06-01/runtime/invocation/"
 
@@ -112,6 +116,7 @@ def test_same(lambda_local):
     global MODE
     MODE = "old"
     lambda_local.start(f=handler)
+    assert lambda_local.service.configuration["salt"] == 77
 
 @pytest.mark.lambda_local_rerun("history.txt", ignore=["/parts", "/stackTrace"], one_by_one=True)
 def test_other(lambda_local):

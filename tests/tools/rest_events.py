@@ -10,7 +10,7 @@ import urllib.parse
 
 from lambda_local.front import settings
 from tests.library.cases import Case
-from tests.library.events_kit import READY, READY_SECONDS, Caller
+from tests.library.events_kit import READY, caller_of
 from tests.library.up_kit import Up, until
 
 # What it returns is in the query; without it, it is the event.
@@ -54,14 +54,9 @@ class RestEvents(Case):
         """A caller of a port with these routes of the function `f`."""
         function = {"name": "f", "runtime": "python", "handler": "app.run", "timeout": 10, **members}
         up = Up(*READY, functions=[function], app=APP, whole={"routes": routes, "api": api})
-        try:
-            up.until("[up] ready", READY_SECONDS)
-            address = next(found[1] for line in up.lines for found in [re.search(r"routes: (\S+)$", line)] if found)
-            with Caller(address) as caller:
-                yield up, caller
-        finally:
-            if up.process.poll() is None:
-                self.check("it ends in order, and leaves nothing", up.end(), (0, []))
+        with caller_of(self, up, lambda: next(
+                found[1] for line in up.lines for found in [re.search(r"routes: (\S+)$", line)] if found)) as caller:
+            yield up, caller
 
     def test_rest_event(self):
         api = {"payload": "1.0", "stage": "Prod", "stageVariables": {"table": "orders"}}

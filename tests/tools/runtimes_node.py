@@ -209,7 +209,7 @@ class RuntimesNode(RuntimeCase):
             for level, shown in (("", "DEBUG INFO"), ("INFO", "INFO"), ("WARN", "")):
                 with Running([*NODE, "app.handler"], {kind: app}, AWS_LAMBDA_LOG_LEVEL=level) as running:
                     request = running.invoke({"order": 7})[1]
-                    line = lambda level, text, request=request: (  # noqa: E731
+                    line = lambda level, text, request=request: (
                         rf"{TIME}\.\d\d\dZ\t{request}\t{level}\t{text}\n")
                     wanted = ((line("INFO", "at the load", "undefined") if "INFO" in shown else "")
                               + (line("DEBUG", "debugged") if "DEBUG" in shown else "")

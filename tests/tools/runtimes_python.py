@@ -198,7 +198,7 @@ class RuntimesPython(RuntimeCase):
                                        ("an unknown level", {"AWS_LAMBDA_LOG_LEVEL": "LOUD"}, ())):
             with Running([*PYTHON, "app.handler"], {"app.py": PYTHON_LOG}, **variables) as running:
                 request = running.invoke({"order": 7})[1]
-                begun = lambda level: rf"\[{level}\]\t{TIME}\.\d\d\dZ\t{request}\t"  # noqa: E731
+                begun = lambda level: rf"\[{level}\]\t{TIME}\.\d\d\dZ\t{request}\t"
                 lines = {"DEBUG": begun("DEBUG") + "debugged\n", "INFO": begun("INFO") + "order 7 accepted\n"}
                 wanted = (rf"\[WARNING\]\t{TIME}\.\d\d\dZ\t\tat the import\n"
                           + "".join(lines[level] for level in ("DEBUG", "INFO") if level in shown)

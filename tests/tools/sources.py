@@ -3,7 +3,6 @@ the events of both, batches, messages that fail, and what a wrong queue does. Qu
 LAMBDA_LOCAL_PROGRAM, else ./lambda_local."""
 import contextlib
 import importlib.util
-import json
 import os
 import re
 import time
@@ -14,7 +13,7 @@ from lambda_local.up import sources
 from lambda_local.up.expressions import WrongExpression, cron_of, expression_of, rate_of
 from lambda_local.up.queues import failures_in
 from tests.library.cases import Case
-from tests.library.events_kit import READY, READY_SECONDS
+from tests.library.events_kit import READY, READY_SECONDS, json_lines
 from tests.library.sqs_server import Server
 from tests.library.up_kit import Up, until
 
@@ -73,11 +72,7 @@ WRONG = ("cron(* * * * * *)", "cron(* * ? * ? *)", "cron(0 12 * * ?)", "cron()",
 
 
 def seen_by(up):
-    path = os.path.join(up.at, "seen")
-    if not os.path.exists(path):
-        return []
-    with open(path) as file:
-        return [json.loads(line) for line in file]
+    return json_lines(os.path.join(up.at, "seen"))
 
 
 class Sources(Case):

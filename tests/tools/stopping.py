@@ -8,10 +8,11 @@ import socket
 import statistics
 import subprocess
 import sys
+import tempfile
 import threading
 import time
 
-from lambda_local.service import RUNTIME, Service, ask, wait_for
+from lambda_local.service import RUNTIME, Fault, Service, ask, wait_for
 from tests.library.cases import Case
 
 CONFIGURATION = {"account": "123456789012", "region": "us-east-2", "functions": [{"name": "f", "ports": [0]}]}
@@ -94,6 +95,20 @@ class Stopping(Case):
         status, counts = service.stop()
         self.check("a service that is stopped in order", (status, counts.startswith("admitted")), (0, True))
         print(f"      (it took {1000 * (time.monotonic() - begun):.0f} ms)")
+
+    def test_never_starts(self):
+        """A program that closes its standard error and goes on is no service: it is ended."""
+        with tempfile.TemporaryDirectory() as folder:
+            program = os.path.join(folder, "program")
+            with open(program, "w") as file:
+                file.write(f"#!/bin/sh\necho $$ >{folder}/pid\nexec sleep 1000 2>&-\n")
+            os.chmod(program, 0o755)
+            with self.assertRaises(Fault) as raised:
+                Service(CONFIGURATION, program=program)
+            self.check("it says that it did not start", str(raised.exception).partition(":")[0],
+                       "the service did not start")
+            with open(os.path.join(folder, "pid")) as file:
+                self.check("and leaves nothing", os.path.exists(f"/proc/{file.read().strip()}"), False)
 
     def test_ends_at_once(self):
         """It takes a few milliseconds; the bound is for a busy machine. A service that looks whether it is over takes

@@ -115,7 +115,7 @@ class UpEdge(Case):
         up = self.leaving()
         self.check("after kill -9 of lambda_local up nothing is left", end_by(up, up.process.pid), (-9, []))
         up = self.leaving()
-        guard = next(pid for pid in children(up.process.pid) if "guarding.py" in command_of(pid))
+        guard = next(pid for pid in children(up.process.pid) if "guard_process.py" in command_of(pid))
         self.check("after kill -9 of its guard nothing is left", end_by(up, guard), (70, []))
         self.check("which it tells", up.has("lambda_local up ends, since its guard process has ended"), True)
         up = self.leaving()
@@ -124,7 +124,7 @@ class UpEdge(Case):
         up = self.leaving()
         everyone = children(up.process.pid)
         for pid in everyone:
-            if "guarding.py" not in command_of(pid):
+            if "guard_process.py" not in command_of(pid):
                 kill(pid)
         self.check("after kill -9 of lambda_local up and all but its guard nothing is left", end_by(up, up.process.pid),
                    (-9, []))

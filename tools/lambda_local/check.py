@@ -15,7 +15,7 @@ from .program import Fault, program_path
 from .usage import parser_of
 
 
-def checked(path: str, program: str) -> int:
+def check(path: str, program: str) -> int:
     """Compares a history with its replay, says what came of it, and returns the status."""
     script = Script(path, of="a history")
     try:
@@ -43,7 +43,7 @@ def main() -> int:
                         help="the program (default: LAMBDA_LOCAL_PROGRAM, else the repository's ./lambda_local)")
     options = parser.parse_args()
     try:
-        return checked(options.history, program_path(options.program))
+        return check(options.history, program_path(options.program))
     except Fault as fault:
         print(f"check: {fault}", file=sys.stderr)
         return fault.status

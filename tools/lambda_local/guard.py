@@ -1,7 +1,7 @@
 """Leaves no process behind even if the tool itself is killed: a second process ends what the tool holds.
 
 `hold` and `release` name what is to be ended: a process group (its number) or a single process (`Single`), each with
-all below it; whatever was started with a variable (`Marked`); a folder (a path). They go through a pipe whose writing
+all below it; whatever was started with a variable (`Mark`); a folder (a path). They go through a pipe whose writing
 end only this process has. When that closes, however this process ended, the guard kills what is still held. A process
 must be released before its status is asked for: until then, its number cannot be another's.
 
@@ -17,24 +17,25 @@ import sys
 import threading
 from typing import Callable, Dict, List, Mapping, Optional, Tuple, Union
 
-from . import guarding
-from .guarding import framed, received
+from . import guard_process
+from .guard_process import frame, receive
 
 PATIENCE = 30.0  # seconds for the guard to answer
+END_SECONDS = 60.0  # for it to end all that it holds
 
 
 class Single(int):
     """The number of one process, without its group."""
 
 
-class Marked(str):
+class Mark(str):
     """`NAME=VALUE`: every process that was started with this variable, whatever has become of its parent."""
 
 
 Target = Union[int, str]
 
 
-class Started:
+class Process:
     """A process that the guard has started, in a session of its own: its number is its own until it is killed."""
 
     def __init__(self, guard: "Guard", pid: int):
@@ -60,7 +61,7 @@ class Channel:
         self.asking, self.changed = threading.Lock(), threading.Condition()
         self.answer: Optional[Dict[str, object]] = None
         self.is_lost = False
-        self.started: Dict[int, Started] = {}
+        self.started: Dict[int, Process] = {}
         self.early: Dict[int, int] = {}  # statuses of processes that ended before their start was answered
 
     def follow(self) -> None:
@@ -71,7 +72,7 @@ class Channel:
         with self.asking:
             with self.changed:
                 self.answer = None
-            data = framed(message)
+            data = frame(message)
             sent = socket.send_fds(self.socket, [data], handles) if handles else 0
             self.socket.sendall(data[sent:])
             with self.changed:
@@ -83,11 +84,11 @@ class Channel:
 
     def read(self) -> None:
         try:
-            while (message := received(self.socket)[0]) is not None:
+            while (message := receive(self.socket)[0]) is not None:
                 with self.changed:
                     self.take(message)
                     self.changed.notify_all()
-        except OSError:
+        except (OSError, ValueError):  # (it has gone, or says what it never says)
             pass
         with self.changed:
             self.is_lost = True
@@ -106,11 +107,11 @@ class Channel:
             self.early[pid] = status
 
     @staticmethod
-    def note(started: Started, status: int) -> None:
+    def note(started: Process, status: int) -> None:
         started.returncode = status
         started.has_ended.set()
 
-    def know(self, started: Started) -> None:
+    def know(self, started: Process) -> None:
         with self.changed:
             self.started[started.pid] = started
             if started.pid in self.early:
@@ -146,20 +147,20 @@ class Guard:
         return ["/bin/sh", "-c", '(echo "+ group $$" >&0) 2>/dev/null; exec "$@" </dev/null', "sh", *words], self.pipe
 
     def start(self, words: List[str], directory: str, variables: Mapping[str, str], output: int,
-              forks: bool = False) -> Started:
+              forks: bool = False) -> Process:
         """Starts a process below the guard, whose standard output and error are this descriptor. One that `forks`, a
-        Python program, may be forked by a process that has its imports (`forking`). OSError if it cannot be."""
+        Python program, may be forked by a process that has its imports (`forker`). OSError if it cannot be."""
         channel = self._begin()
         answer = channel.ask({"start": words, "cwd": directory, "env": dict(variables), "forks": forks}, (output,))
         pid, number = answer.get("pid"), answer.get("errno")
         if not isinstance(pid, int):
             number = number if isinstance(number, int) else 0
             raise OSError(number, os.strerror(number) if number else str(answer.get("reason")), words[0])
-        started = Started(self, pid)
+        started = Process(self, pid)
         channel.know(started)
         return started
 
-    def kill(self, started: Started) -> None:
+    def kill(self, started: Process) -> None:
         channel = self.channel
         try:
             if channel is None:
@@ -167,12 +168,12 @@ class Guard:
             channel.ask({"end": started.pid})
             channel.forget(started.pid)
         except OSError:  # (the guard has gone: what it had started is below this process)
-            guarding.kill_tree(started.pid)
+            guard_process.kill_tree(started.pid)
 
     def adopt_orphans(self, when_lost: Callable[[], None]) -> None:
         """For a tool that uses `start`: what is below the guard comes below this process if the guard is killed, which
         `when_lost` is told."""
-        guarding.adopt_orphans()
+        guard_process.adopt_orphans()
         self.when_lost = when_lost
 
     def end(self) -> None:
@@ -181,16 +182,17 @@ class Guard:
             if self.process and self.channel:
                 self.channel = None
                 os.close(self.pipe)
-                self.process.wait()
+                with contextlib.suppress(subprocess.TimeoutExpired):  # (it goes on by itself)
+                    self.process.wait(END_SECONDS)
                 self.process = None
 
-    def _lost(self, channel: Channel) -> None:
+    def _on_lost(self, channel: Channel) -> None:
         if channel is self.channel:
             self.when_lost()
 
     def _say(self, sign: str, target: Target) -> None:
         self._begin()
-        kind = ("marked" if isinstance(target, Marked) else "folder" if isinstance(target, str)
+        kind = ("marked" if isinstance(target, Mark) else "folder" if isinstance(target, str)
                 else "process" if isinstance(target, Single) else "group")
         with contextlib.suppress(OSError):
             os.write(self.pipe, os.fsencode(f"{sign} {kind} {target}\n"))
@@ -204,13 +206,14 @@ class Guard:
             try:
                 # In a session of its own, since a terminal's signals are not for it.
                 self.process = subprocess.Popen(
-                    [sys.executable or "python3", "-I", "-S", os.path.realpath(guarding.__file__), str(its.fileno())],
+                    [sys.executable or "python3", "-I", "-S", os.path.realpath(guard_process.__file__),
+                     str(its.fileno())],
                     stdin=ours, cwd="/", stdout=subprocess.DEVNULL, stderr=subprocess.DEVNULL, start_new_session=True,
                     pass_fds=[its.fileno()])
             finally:
                 os.close(ours)
                 its.close()
-            self.channel = Channel(mine, self._lost)
+            self.channel = Channel(mine, self._on_lost)
             self.channel.follow()
             atexit.register(self.end)
             return self.channel

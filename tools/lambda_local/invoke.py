@@ -55,7 +55,7 @@ def sample(kind: str) -> bytes:
         return file.read()
 
 
-def scheduled(now: datetime.datetime) -> bytes:
+def schedule_event(now: datetime.datetime) -> bytes:
     """The event of a schedule that is due at this moment."""
     event = json.loads(sample("schedule"))
     event["time"] = now.strftime("%Y-%m-%dT%H:%M:%SZ")
@@ -92,7 +92,7 @@ def payload_of(options: argparse.Namespace) -> bytes:
     if options.sample is not None:
         return sample(options.sample)
     if options.now:
-        return scheduled(datetime.datetime.now(datetime.timezone.utc))
+        return schedule_event(datetime.datetime.now(datetime.timezone.utc))
     if options.payload is None:
         return b"{}"
     if options.payload != "-" and is_json(options.payload):
@@ -155,7 +155,7 @@ def ask(options: argparse.Namespace, payload: bytes) -> Answer:
 
 # ---- what comes of it ------------------------------------------------------------------------------------------------
 
-def printed(body: bytes) -> None:
+def print_body(body: bytes) -> None:
     sys.stdout.buffer.write(body if body.endswith(b"\n") else body + b"\n")
     sys.stdout.flush()
 
@@ -201,7 +201,7 @@ def tell(options: argparse.Namespace, answer: Answer) -> int:
     if status != 200:
         say(refusal(options.name, status, headers, body))
         return 3
-    printed(body)
+    print_body(body)
     if headers.get("X-Amz-Function-Error"):
         say(f"{options.name}: the function has failed")
         return 1

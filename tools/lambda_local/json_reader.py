@@ -22,7 +22,7 @@ def is_deeper(value: object, levels: int) -> bool:
     return True
 
 
-def refused(constant: str) -> object:
+def refuse_constant(constant: str) -> object:
     raise ValueError(f"{constant} is not a number of JSON")
 
 
@@ -32,7 +32,7 @@ def read_json(given: Union[str, bytes], deepest: int = DEEPEST, longest: int = L
         raise NotJson(f"it is longer than {longest:,} bytes")
     try:
         text = given if isinstance(given, str) else given.decode()
-        value: object = json.loads(text, parse_constant=refused)
+        value: object = json.loads(text, parse_constant=refuse_constant)
     except (RecursionError, MemoryError):
         raise NotJson("it is nested too deep, or too long") from None
     except ValueError as fault:

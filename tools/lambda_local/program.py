@@ -34,14 +34,14 @@ def program_path(given: Optional[str] = None) -> str:
     if not path:
         raise NoProgram(f"{program} is not a program: name one by --program or LAMBDA_LOCAL_PROGRAM")
     if os.path.realpath(path) == LAUNCHER:
-        program = launched(path)
+        program = ask_launcher(path)
     if program.endswith(".unproved"):
         tell_unproved(program)
     return program
 
 
 @functools.lru_cache(maxsize=None)
-def launched(launcher: str) -> str:
+def ask_launcher(launcher: str) -> str:
     """The program that the launcher finds: it is asked once a process. What it says beside that is passed on."""
     variables = {name: value for name, value in os.environ.items() if name != "LAMBDA_LOCAL_PROGRAM"}
     done = subprocess.run([launcher, "path"], stdin=subprocess.DEVNULL, capture_output=True, text=True,

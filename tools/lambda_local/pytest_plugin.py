@@ -26,7 +26,7 @@ except ImportError:
     pytest = None  # type: ignore[assignment]
 
 if pytest:
-    from .rerun_marker import pytest_configure, pytest_runtest_call  # noqa: F401
+    from .rerun_marker import pytest_configure, pytest_pyfunc_call, pytest_runtest_call  # noqa: F401
 
     SHOWN = 100  # lines of each in a report
     TITLE = "lambda_local history"

@@ -54,7 +54,7 @@ def frames_of(members: Dict[str, object]) -> List[Frame]:
     return []
 
 
-def shortened(text: str) -> str:
+def shorten(text: str) -> str:
     return text if len(text) <= LONGEST_SHOWN else text[:LONGEST_SHOWN] + ".."
 
 
@@ -65,7 +65,7 @@ class Report:
         found = members_of(body)
         self.is_read = found is not None
         members: Dict[str, object] = {"errorMessage": body.decode(errors="replace")} if found is None else found
-        self.kind = shortened(text_of(members.get("errorType")))
+        self.kind = shorten(text_of(members.get("errorType")))
         self.message = text_of(members.get("errorMessage"))[:LONGEST_MEMBER]
         self.frames = frames_of(members)
 
@@ -118,6 +118,6 @@ class Report:
 
     def __str__(self) -> str:
         """For example: KeyError: 'missing' (app.py:12)"""
-        message = shortened(" ".join(self.message.split()))
+        message = shorten(" ".join(self.message.split()))
         said = ": ".join(filter(None, (self.kind, message))) or "no reason was reported"
         return said + (f" ({self.place})" if self.place else "")

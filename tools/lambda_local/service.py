@@ -211,7 +211,9 @@ class Service:
             self.say(f"waits for the service since {time.monotonic() - begun:.0f} s")
         if self.listening_line:
             return True
-        self.process.wait()
+        with contextlib.suppress(subprocess.TimeoutExpired):
+            wait_for(self.process, 5)
+        self._kill_group()  # (if it has closed its standard error, and not ended)
         GUARD.release(self.process.pid)
         self.output.close()
         self.reader.join(5)
@@ -221,17 +223,21 @@ class Service:
 
     def _read(self) -> None:
         self.listening_line = False
-        with self.said as stream:
-            for line in stream:
-                line = line.rstrip("\n")
-                self.lines.append(line)
-                if line.split(" ")[-1] == "listening":
-                    self.listening_line = True
-                    self.listening.set()
-                elif line.split(" ")[-1] != "stopped" and (
-                        self.listening_line or not line.startswith((NO_NETWORK, "configuration: "))):
-                    self.say(line)
-        self.listening.set()
+        try:
+            with self.said as stream:
+                for line in stream:
+                    self._take(line.rstrip("\n"))
+        finally:
+            self.listening.set()
+
+    def _take(self, line: str) -> None:
+        self.lines.append(line)
+        if line.split(" ")[-1] == "listening":
+            self.listening_line = True
+            self.listening.set()
+        elif line.split(" ")[-1] != "stopped" and (
+                self.listening_line or not line.startswith((NO_NETWORK, "configuration: "))):
+            self.say(line)
 
     def stats(self) -> Dict[str, int]:
         counts: Dict[str, int] = json.loads(ask(self.port, "GET", "/_local/stats")[2])

@@ -11,7 +11,8 @@ from typing import Any, Callable, Dict, Iterator, Tuple
 
 ROOT = os.path.dirname(os.path.dirname(os.path.dirname(os.path.realpath(__file__))))
 PACKAGED = ("lambda_local", "README.md", "CHANGELOG.md", "LICENSE", "docs", "examples", "tools", "tests/clients",
-            "tests/__init__.py", *(f"tests/library/{name}.py" for name in ("__init__", "counted", "ports")))
+            "tests/__init__.py", *(f"tests/library/{name}" for name in ("__init__.py", "clients", "counted.py", "day.c",
+                                                                        "ports.py")))
 # which only a checkout has
 MAKERS = ("tools/package", "tools/packages/", "tools/release", "tools/proof_costs", "tools/library/crate_list.py")
 PROVED = ("crates.txt", "HANDLES", ":(glob)crates/*/src/**", ":(glob)crates/*/specs/**", ":(glob)crates/*/proofs/**")

@@ -7,6 +7,7 @@ import sys
 import wrong_answers
 import wrong_conduct
 import wrong_connections
+import wrong_leaks
 import wrong_payloads
 import wrong_reports
 import wrong_requests
@@ -15,7 +16,7 @@ import wrong_texts
 from sound_runtime import Runtime
 
 MISTAKES = {name: value for module in (wrong_payloads, wrong_answers, wrong_reports, wrong_conduct, wrong_connections,
-                                          wrong_requests, wrong_sometimes)
+                                          wrong_requests, wrong_leaks, wrong_sometimes)
             for name, value in vars(module).items()
             if isinstance(value, type) and issubclass(value, Runtime) and value is not Runtime}
 MISTAKES.update(wrong_texts.MISTAKES)

@@ -1,2 +1,4 @@
 """Makes an UP.json of a SAM, CloudFormation, CDK or Serverless template."""
-from .command import main  # noqa: F401
+from .command import main
+
+__all__ = ["main"]

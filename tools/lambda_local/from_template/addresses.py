@@ -6,8 +6,8 @@ from ..configuration import Members
 from ..front.routes import WrongRoute
 from . import schedules
 from .cors import Tell, cors_of, rest_cors_of
-from .routes import IMPLICIT, IMPLICIT_REST, OF_SERVERLESS, REST_OF_SERVERLESS, Mapped, Of, key_of
-from .telling import shown
+from .routes import IMPLICIT, IMPLICIT_REST, OF_SERVERLESS, REST_OF_SERVERLESS, FunctionRoute, Of, key_of
+from .messages import excerpt
 from .values import NO_VALUE, Scope, members_of
 
 READ = {"FunctionUrlConfig", "Events", "url", "events"}
@@ -26,7 +26,7 @@ class Addresses:
     def value(self, name: str) -> object:
         if name not in self.properties:
             return None
-        value, placeholders = self.scope.known_or_why(self.properties[name])
+        value, placeholders = self.scope.evaluate_or_reason(self.properties[name])
         if placeholders:
             what = f"leaves out {name}: it needs" if value is None else f"{name} has a placeholder for"
             self.tell(f"{what} {' and '.join(placeholders)}{'' if value is None else ': write its value into UP.json'}")
@@ -55,18 +55,19 @@ class Addresses:
 
     # --- its routes ---
 
-    def routes(self) -> List[Mapped]:
+    def routes(self) -> List[FunctionRoute]:
         """Its routes, each with its API."""
         return [*self.of_sam(), *self.of_serverless()]
 
-    def of_sam(self) -> Iterator[Mapped]:
+    def of_sam(self) -> Iterator[FunctionRoute]:
         events = self.properties.get("Events")
         for name, event in events.items() if isinstance(events, dict) else ():
             kind = event.get("Type") if isinstance(event, dict) else None
             if kind in schedules.OF_SAM:
                 continue
             if kind not in ("HttpApi", "Api"):
-                self.tell(f"leaves out its event {name}, {shown(kind)}: examples/events has samples to invoke it with")
+                self.tell(f"leaves out its event {name}, {excerpt(kind)}: examples/events has samples to invoke it "
+                          "with")
                 continue
             given = members_of(event, "Properties")
             if kind == "Api":
@@ -82,14 +83,14 @@ class Addresses:
         named = named.get("Ref") if isinstance(named, dict) else named
         return named if isinstance(named, str) else otherwise
 
-    def of_serverless(self) -> Iterator[Mapped]:
+    def of_serverless(self) -> Iterator[FunctionRoute]:
         events = self.properties.get("events")
         for event in events if isinstance(events, list) else ():
             (kind, given), = event.items() if isinstance(event, dict) and len(event) == 1 else [(event, None)]
             if kind == "schedule":
                 continue
             if kind not in ("httpApi", "http"):
-                self.tell(f"leaves out events: {shown(kind)}")
+                self.tell(f"leaves out events: {excerpt(kind)}")
                 continue
             if isinstance(given, str):
                 method, _, path = given.strip().partition(" ")
@@ -101,13 +102,14 @@ class Addresses:
                 cors = rest_cors_of(given.get("cors"), f"its event {kind}", self.scope, self.tell)
             yield from self.route(f"events: {kind}", given.get("method"), given.get("path"), of, cors)
 
-    def route(self, where: str, method: object, path: object, of: Of, cors: Optional[Members] = None) -> List[Mapped]:
+    def route(self, where: str, method: object, path: object, of: Of,
+              cors: Optional[Members] = None) -> List[FunctionRoute]:
         """Returns one route, or reports it if it is unknown."""
-        both, placeholders = self.scope.known_or_why([method, path])
+        both, placeholders = self.scope.evaluate_or_reason([method, path])
         why = f"it needs {' and '.join(placeholders)}"
         if isinstance(both, list) and len(both) == 2 and not placeholders:
             try:
-                return [Mapped(key_of(both[0], both[1]), of, cors)]
+                return [FunctionRoute(key_of(both[0], both[1]), of, cors)]
             except WrongRoute as fault:
                 why = str(fault)
         self.tell(f"leaves out its {where}: {why}")

@@ -3,7 +3,7 @@ import re
 from typing import List, Optional, Tuple
 
 from ..configuration import Members
-from .telling import Grouped, shown, tell
+from .messages import LineGroups, excerpt, tell
 from .values import Scope, Unknown, members_of
 
 FUNCTION, SAM_FUNCTION = "AWS::Lambda::Function", "AWS::Serverless::Function"
@@ -31,7 +31,7 @@ def properties_of(key: str, resource: Members, shared: Members) -> Optional[Memb
     """Returns a function's properties; None, with a report, if they cannot be read."""
     properties: object = resource.get("Properties", {})
     if not isinstance(properties, dict):
-        tell(f"leaves out {key}: its Properties must be an object, not {shown(properties)}")
+        tell(f"leaves out {key}: its Properties must be an object, not {excerpt(properties)}")
         return None
     if resource["Type"] == SAM_FUNCTION:
         properties = with_globals(properties, shared)
@@ -57,13 +57,13 @@ def is_wanted(key: str, resource: Members, scope: Scope) -> bool:
     return is_met
 
 
-def listed(template: Members, stack: str) -> Tuple[List[Tuple[str, Members]], Scope]:
+def functions_in(template: Members, stack: str) -> Tuple[List[Tuple[str, Members]], Scope]:
     """Each function's logical id and properties, and the scope of their expressions."""
-    scope, left = Scope(template, stack), Grouped("leaves out {names}, {line}")
+    scope, left = Scope(template, stack), LineGroups("leaves out {names}, {line}")
     functions: List[Tuple[str, Members]] = []
     shared = members_of(members_of(template, "Globals"), "Function")
     for key, resource in template["Resources"].items():
-        kind = resource.get("Type") if isinstance(resource, dict) else shown(resource)
+        kind = resource.get("Type") if isinstance(resource, dict) else excerpt(resource)
         if isinstance(kind, str) and TAKEN_LATER.fullmatch(kind):
             continue
         if kind not in (FUNCTION, SAM_FUNCTION):

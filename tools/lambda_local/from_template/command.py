@@ -26,11 +26,11 @@ from ..usage import parser_of
 from . import cloudformation, serverless
 from .functions import functions_of
 from .gateway_resources import add_routes
-from .reading import read
+from .reader import read
 from .resources import add_urls, apis_of
 from .routes import Apis
 from .rules import add_schedules
-from .telling import Fault, tell
+from .messages import Fault, tell
 from .values import REGION
 
 
@@ -48,12 +48,12 @@ def up_of(path: str) -> Members:
     whole, base = read(path), os.path.dirname(os.path.abspath(path))
     is_of_resources = isinstance(whole.get("Resources"), dict)
     if is_of_resources:
-        listed, scope = cloudformation.listed(whole, stack_of(path))
+        functions_in, scope = cloudformation.functions_in(whole, stack_of(path))
     elif isinstance(whole.get("functions"), (dict, list)):
-        listed, scope = serverless.listed(whole, stack_of(path))
+        functions_in, scope = serverless.functions_in(whole, stack_of(path))
     else:
         raise Fault(f"{path} is not a template: it must have Resources, or functions")
-    functions = functions_of(listed, scope, base)
+    functions = functions_of(functions_in, scope, base)
     if not functions:
         raise Fault(f"{path} has no function")
     if is_of_resources:

@@ -3,7 +3,7 @@ from typing import Callable, Optional
 
 from ..configuration import Members
 from ..front import settings
-from .telling import shown
+from .messages import excerpt
 from .values import NO_VALUE, Scope, Unknown
 
 Tell = Callable[[str], None]  # takes a line on what is left out
@@ -21,10 +21,10 @@ SERVERLESS_HEADERS = ["Content-Type", "X-Amz-Date", "Authorization", "X-Api-Key"
                       "X-Amz-User-Agent", "X-Amzn-Trace-Id"]
 
 
-def known(given: object, where: str, scope: Scope, tell: Tell) -> object:
+def evaluate(given: object, where: str, scope: Scope, tell: Tell) -> object:
     """The value of a Cors; None, with a report, if it is not known here."""
     try:
-        given, placeholders = scope.known(given)
+        given, placeholders = scope.evaluate(given)
     except Unknown as reason:
         tell(f"leaves out the Cors of {where}: it needs {reason}")
         return None
@@ -33,7 +33,7 @@ def known(given: object, where: str, scope: Scope, tell: Tell) -> object:
     return None if given is NO_VALUE else given
 
 
-def taken(given: Members, names: Callable[[str], str], where: str, tell: Tell) -> Optional[Members]:
+def accepted_members(given: Members, names: Callable[[str], str], where: str, tell: Tell) -> Optional[Members]:
     """The members that UP.json takes."""
     cors: Members = {}
     for name, value in given.items():
@@ -41,34 +41,34 @@ def taken(given: Members, names: Callable[[str], str], where: str, tell: Tell) -
         if member in settings.OF_CORS and settings.OF_CORS[member].accepts(value):
             cors[member] = value
         else:
-            tell(f"leaves out {member} of the Cors of {where}: {shown(value)}")
+            tell(f"leaves out {member} of the Cors of {where}: {excerpt(value)}")
     return cors or None
 
 
 def cors_of(given: object, where: str, scope: Scope, tell: Tell) -> Optional[Members]:
     """Returns the member `cors` of the Cors of a Function URL or an HTTP API in one of its forms; None if it allows no
     site. Reports what it leaves out."""
-    given = known(given, where, scope, tell)
+    given = evaluate(given, where, scope, tell)
     if given is True:  # (any site)
         return ANY_SITE
     if isinstance(given, str):  # (SAM: the one site)
         return {"allowOrigins": [given]}
     if not isinstance(given, dict):
         return None
-    return taken(given, lambda name: OTHER_NAMES.get(name, name[:1].lower() + name[1:]), where, tell)
+    return accepted_members(given, lambda name: OTHER_NAMES.get(name, name[:1].lower() + name[1:]), where, tell)
 
 
 def rest_cors_of(given: object, where: str, scope: Scope, tell: Tell) -> Optional[Members]:
     """The same of a REST API, whose values are texts in quotes: they are the headers of a method OPTIONS."""
-    given = known(given, where, scope, tell)
+    given = evaluate(given, where, scope, tell)
     if given is True:
         return {**ANY_SITE, "allowHeaders": SERVERLESS_HEADERS}
     if isinstance(given, str):
         given = {"AllowOrigin": given}
     if not isinstance(given, dict):
         return None
-    cors = taken({name: plain(OF_REST.get(str(name)), value) for name, value in given.items()},
-                 lambda name: OF_REST.get(name, name), where, tell)
+    cors = accepted_members({name: plain(OF_REST.get(str(name)), value) for name, value in given.items()},
+                            lambda name: OF_REST.get(name, name), where, tell)
     return {"allowMethods": ["*"], **cors} if cors else None
 
 

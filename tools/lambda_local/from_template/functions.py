@@ -9,7 +9,7 @@ from typing import Dict, List, Optional, Sequence, Tuple
 from ..configuration import Members
 from . import addresses, schedules
 from .layers import layers_of
-from .telling import Grouped, shown, tell
+from .messages import LineGroups, excerpt, tell
 from .values import NO_VALUE, Scope, Unknown, is_scalar, text_of
 
 READ = {"FunctionName", "Handler", "Timeout", "ReservedConcurrentExecutions", "Environment", "Runtime", "CodeUri",
@@ -21,7 +21,7 @@ VARIABLE = re.compile(r"\w+")
 HANDLER = re.compile(r"[ -~]{1,128}")
 
 
-def cleaned(key: object) -> str:
+def safe_name(key: object) -> str:
     """A function's name by its logical id."""
     return re.sub(r"[^A-Za-z0-9_-]", "", str(key))[:64] or "function"
 
@@ -29,25 +29,25 @@ def cleaned(key: object) -> str:
 def name_of(key: str, properties: Members, scope: Scope) -> str:
     """The function's own name if it is known here, else its logical id."""
     if "FunctionName" not in properties:
-        return cleaned(key)
-    name, placeholders = scope.known_or_why(properties["FunctionName"])
+        return safe_name(key)
+    name, placeholders = scope.evaluate_or_reason(properties["FunctionName"])
     if name is NO_VALUE:
-        return cleaned(key)
+        return safe_name(key)
     if not placeholders and is_scalar(name) and NAME.fullmatch(text_of(name)):
         return text_of(name)
     if placeholders:
         why = f"it needs {' and '.join(placeholders)}"
     else:
-        why = f"{shown(name)} is not a name of 1 to 64 letters, digits, - and _"
-    tell(f"{key}: it is called {cleaned(key)}, since its FunctionName is not known here: {why}")
-    return cleaned(key)
+        why = f"{excerpt(name)} is not a name of 1 to 64 letters, digits, - and _"
+    tell(f"{key}: it is called {safe_name(key)}, since its FunctionName is not known here: {why}")
+    return safe_name(key)
 
 
 def names_of(listed: Sequence[Tuple[str, Members]], scope: Scope) -> Dict[str, str]:
     """The name of each function, which no other has. `listed` has pairs of a logical id and properties."""
     names: Dict[str, str] = {}
     for key, properties in listed:
-        wanted, own = name_of(key, properties, scope), cleaned(key)
+        wanted, own = name_of(key, properties, scope), safe_name(key)
         others = (own, *(f"{own[:60]}-{number}" for number in range(2, MOST_FUNCTIONS + 2)))
         names[key] = next(name for name in (wanted, *others) if name not in names.values())
         if names[key] != wanted:
@@ -60,30 +60,30 @@ class Maker:
 
     is_elsewhere = False  # its code is not among the files here
 
-    def __init__(self, name: str, properties: Members, scope: Scope, base: str, group: Grouped) -> None:
+    def __init__(self, name: str, properties: Members, scope: Scope, base: str, group: LineGroups) -> None:
         self.name, self.properties, self.scope, self.base, self.group = name, properties, scope, base, group
         self.made: Members = {"name": name}
 
     def tell(self, line: str) -> None:
         self.group.add(self.name, line)
 
-    def known(self, name: str) -> object:
+    def value_of(self, name: str) -> object:
         """Returns a property's value; None if it is absent, or unknown, which is reported. A placeholder is unknown."""
         if name not in self.properties:
             return None
-        value, placeholders = self.scope.known_or_why(self.properties[name])
+        value, placeholders = self.scope.evaluate_or_reason(self.properties[name])
         if placeholders:
             self.tell(f"leaves out {name}: it needs {' and '.join(placeholders)}")
             return None
         return None if value is NO_VALUE else value
 
     def whole(self, name: str, least: int, most: int) -> Optional[int]:
-        value = self.known(name)
+        value = self.value_of(name)
         if value is None:
             return None
         text = text_of(value) if is_scalar(value) else ""
         if not re.fullmatch(r"\d{1,9}(\.0*)?", text) or not least <= int(float(text)) <= most:
-            self.tell(f"leaves out {name}: it must be a whole number from {least} to {most}, not {shown(value)}")
+            self.tell(f"leaves out {name}: it must be a whole number from {least} to {most}, not {excerpt(value)}")
             return None
         return int(float(text))
 
@@ -92,9 +92,10 @@ class Maker:
             self.made[member] = value
 
     def make(self) -> Members:
-        handler = self.known("Handler")
+        handler = self.value_of("Handler")
         if handler is not None and not (isinstance(handler, str) and HANDLER.fullmatch(handler)):
-            self.tell(f"leaves out Handler: it must be a string of 1 to 128 printable characters, not {shown(handler)}")
+            self.tell("leaves out Handler: it must be a string of 1 to 128 printable characters, not "
+                      f"{excerpt(handler)}")
             handler = None
         self.put("handler", handler)
         self.put("timeout", self.whole("Timeout", 1, 900))
@@ -126,15 +127,15 @@ class Maker:
         if variables is None:
             return
         if not isinstance(variables, dict):
-            self.tell(f"leaves out its variables: they must be an object, not {shown(variables)}")
+            self.tell(f"leaves out its variables: they must be an object, not {excerpt(variables)}")
             return
         found: Dict[str, str] = {}
         for name, expression in variables.items():
             if not VARIABLE.fullmatch(str(name)):
-                self.tell(f"leaves out the variable {shown(name)}: its name must have letters, digits and _ alone")
+                self.tell(f"leaves out the variable {excerpt(name)}: its name must have letters, digits and _ alone")
                 continue
             try:
-                value, placeholders = self.scope.known(expression)
+                value, placeholders = self.scope.evaluate(expression)
                 if value is not None and value is not NO_VALUE:
                     found[str(name)] = text_of(value).replace("\0", "")
                 elif value is None:
@@ -143,7 +144,7 @@ class Maker:
                 self.tell(f"leaves out the variable {name}: {reason}")
                 continue
             if placeholders:
-                self.tell(f"the variable {name} is {shown(found[str(name)])}, a placeholder for "
+                self.tell(f"the variable {name} is {excerpt(found[str(name)])}, a placeholder for "
                           f"{' and '.join(placeholders)}: write its value into UP.json if the handler needs it")
         if found:
             self.made["variables"] = found
@@ -168,7 +169,7 @@ class Maker:
             return
         given = self.properties.get(name)
         is_far = isinstance(given, dict) and not {"S3Bucket", "S3Key", "Bucket", "Key"}.isdisjoint(given)
-        code = given if is_far else self.known(name)
+        code = given if is_far else self.value_of(name)
         if code is None:
             return
         if not isinstance(code, str) or "://" in code or "\0" in code:
@@ -195,7 +196,7 @@ class Maker:
             self.tell("has no command, since its code is not here: write its folder as \"directory\", and a "
                       "\"command\" or a \"runtime\"")
             return
-        known, handler = self.known("Runtime"), self.made.get("handler", "index.handler")
+        known, handler = self.value_of("Runtime"), self.made.get("handler", "index.handler")
         runtime = known if isinstance(known, str) else ""
         if runtime.startswith("python"):
             if importlib.util.find_spec("awslambdaric"):
@@ -233,7 +234,7 @@ def functions_of(listed: List[Tuple[str, Members]], scope: Scope, base: str) -> 
         tell(f"leaves out the function {key}: {MOST_FUNCTIONS} are the most")
     listed = listed[:MOST_FUNCTIONS]
     scope.functions = names_of(listed, scope)
-    group = Grouped()
+    group = LineGroups()
     made = [Maker(scope.functions[key], properties, scope, base, group).make() for key, properties in listed]
     group.say()
     left = MOST_IN_ALL - len(made)

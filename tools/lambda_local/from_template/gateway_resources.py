@@ -7,8 +7,8 @@ from typing import Callable, Dict, List, Optional
 from ..configuration import Members
 from ..front.routes import DEFAULT, WrongRoute
 from .resources import function_of, resources_of
-from .routes import Mapped, Of, checked, key_of
-from .telling import shown, tell
+from .routes import FunctionRoute, Of, check_key, key_of
+from .messages import excerpt, tell
 from .values import Scope, Unknown, members_of
 
 REST, HTTP = "AWS::ApiGateway::", "AWS::ApiGatewayV2::"
@@ -17,7 +17,7 @@ HEADER = "method.response.header.Access-Control-"
 MOST_PARTS = 100  # of a path, beyond which its resources go round in a circle
 
 
-def named(value: object) -> Optional[str]:
+def referenced_id(value: object) -> Optional[str]:
     """The logical id that a reference to a resource or to an attribute of it names; None if it is neither."""
     if not isinstance(value, dict) or len(value) != 1:
         return None
@@ -30,14 +30,14 @@ def named(value: object) -> Optional[str]:
 
 def text_of(properties: Members, name: str, scope: Scope) -> Optional[str]:
     """A property's text; None if it is none, or not known."""
-    value, placeholders = scope.known_or_why(properties.get(name))
+    value, placeholders = scope.evaluate_or_reason(properties.get(name))
     return value if isinstance(value, str) and not placeholders else None
 
 
-def invoked(uri: object, functions: List[Members], scope: Scope) -> Optional[Members]:
+def function_invoked_by(uri: object, functions: List[Members], scope: Scope) -> Optional[Members]:
     """The function that an integration's URI invokes, which for an HTTP API may be its ARN alone; None if none is."""
     try:
-        text = scope.known(uri).value
+        text = scope.evaluate(uri).value
     except Unknown:
         return None
     match = INVOKED.search(text) if isinstance(text, str) else None
@@ -47,7 +47,7 @@ def invoked(uri: object, functions: List[Members], scope: Scope) -> Optional[Mem
 def put(made: Members, where: str, of: Of, key: Callable[[], str]) -> None:
     """Gives a function the route whose key this makes."""
     try:
-        made["routes"] = [*made.get("routes", ()), Mapped(key(), of)]
+        made["routes"] = [*made.get("routes", ()), FunctionRoute(key(), of)]
     except WrongRoute as fault:
         tell(f"{made['name']}: leaves out its {where}: {fault}")
 
@@ -64,7 +64,7 @@ class RestApis:
     def path(self, resource: object) -> Optional[str]:
         """The path of a resource; None if it is not known."""
         parts: List[str] = []
-        while (key := named(resource)) is not None and key in self.parts and len(parts) < MOST_PARTS:
+        while (key := referenced_id(resource)) is not None and key in self.parts and len(parts) < MOST_PARTS:
             part = text_of(self.parts[key], "PathPart", self.scope)
             if part is None:
                 return None
@@ -75,14 +75,15 @@ class RestApis:
 
     def add_routes(self, functions: List[Members]) -> None:
         for key, properties in resources_of(REST + "Method", self.scope):
-            api, path = named(properties.get("RestApiId")), self.path(properties.get("ResourceId"))
+            api, path = referenced_id(properties.get("RestApiId")), self.path(properties.get("ResourceId"))
             method = text_of(properties, "HttpMethod", self.scope)
             integration = members_of(properties, "Integration")
             kind = integration.get("Type")
             if kind == "MOCK" and method == "OPTIONS":
                 self.preflight(api, integration)
                 continue
-            made = invoked(integration.get("Uri"), functions, self.scope) if kind in ("AWS_PROXY", "AWS") else None
+            made = (function_invoked_by(integration.get("Uri"), functions, self.scope)
+                    if kind in ("AWS_PROXY", "AWS") else None)
             if made is None or api is None or api not in self.apis or path is None or method is None:
                 tell(f"leaves out {key}, {REST}Method: {self.why_not(kind, made, api, path)}")
                 continue
@@ -93,7 +94,7 @@ class RestApis:
     @staticmethod
     def why_not(kind: object, made: Optional[Members], api: Optional[str], path: Optional[str]) -> str:
         if kind not in ("AWS_PROXY", "AWS"):
-            return f"its integration is {shown(kind)}, and no function"
+            return f"its integration is {excerpt(kind)}, and no function"
         return "its function is not here" if made is None else "its API, path or method is not known here"
 
     def preflight(self, api: Optional[str], integration: Members) -> None:
@@ -115,7 +116,7 @@ class RestApis:
             if key in self.cors:
                 by_api[key]["Cors"] = self.cors[key]
         for _, given in resources_of(REST + "Stage", self.scope):
-            api = by_api.get(named(given.get("RestApiId")) or "")
+            api = by_api.get(referenced_id(given.get("RestApiId")) or "")
             if api is not None:
                 api.update({name: given[name] for name in ("StageName", "Variables") if name in given})
         return by_api
@@ -132,28 +133,29 @@ class HttpApis:
     def integration_of(self, target: object) -> Optional[Members]:
         """The integration that a route's target names, `integrations/ID`; None if it is not here."""
         try:
-            text = self.scope.known(target).value
+            text = self.scope.evaluate(target).value
         except Unknown:
             return None
         return self.integrations.get(text.rpartition("/")[2]) if isinstance(text, str) else None
 
     def add_routes(self, functions: List[Members]) -> None:
         for key, properties in resources_of(HTTP + "Route", self.scope):
-            api, route = named(properties.get("ApiId")), text_of(properties, "RouteKey", self.scope)
+            api, route = referenced_id(properties.get("ApiId")), text_of(properties, "RouteKey", self.scope)
             integration = self.integration_of(properties.get("Target")) or {}
-            made = invoked(integration.get("IntegrationUri"), functions, self.scope)
+            made = function_invoked_by(integration.get("IntegrationUri"), functions, self.scope)
             if self.is_web_socket(api) or api is None or api not in self.apis or route is None or made is None:
                 tell(f"leaves out {key}, {HTTP}Route: " + (
                     "it is of a WebSocket API" if self.is_web_socket(api) else
                     "its function is not here" if made is None else "its API or key is not known here"))
                 continue
             payload = "2.0" if str(integration.get("PayloadFormatVersion")) == "2.0" else "1.0"
-            put(made, f"route {key}", Of(api, payload=payload), functools.partial(checked, route))
+            put(made, f"route {key}", Of(api, payload=payload), functools.partial(check_key, route))
         for key, properties in self.apis.items():  # (one whose only route is part of it)
-            made = invoked(properties.get("Target"), functions, self.scope) if "Target" in properties else None
+            made = (function_invoked_by(properties.get("Target"), functions, self.scope)
+                    if "Target" in properties else None)
             if made:
                 route = text_of(properties, "RouteKey", self.scope) or DEFAULT
-                put(made, f"route {key}", Of(key), functools.partial(checked, route))
+                put(made, f"route {key}", Of(key), functools.partial(check_key, route))
 
     def is_web_socket(self, api: Optional[str]) -> bool:
         return text_of(self.apis.get(api or "", {}), "ProtocolType", self.scope) == "WEBSOCKET"

@@ -2,7 +2,7 @@
 import os
 from typing import Any, Callable, Dict, List, NamedTuple, Optional
 
-from .telling import shown
+from .messages import excerpt
 from .values import Scope, members_of
 
 OF_LAYERS = ("AWS::Serverless::LayerVersion", "AWS::Lambda::LayerVersion")
@@ -35,7 +35,7 @@ def layers_of(given: Any, scope: Scope, base: str, tell: Tell) -> List[str]:
     if given is None:
         return []
     if not isinstance(given, list):
-        tell(f"leaves out its layers: they must be a list, not {shown(given)}")
+        tell(f"leaves out its layers: they must be a list, not {excerpt(given)}")
         return []
     return [path for path in (path_of(one, scope, base, tell) for one in given) if path is not None]
 
@@ -44,17 +44,17 @@ def path_of(given: Any, scope: Scope, base: str, tell: Tell) -> Optional[str]:
     name = given.get("Ref") if isinstance(given, dict) and len(given) == 1 else None
     layer = resource(name, scope) if isinstance(name, str) else None
     if layer is None:
-        named = scope.known_or_why(given).value if name is None else name
-        tell(f"leaves out the layer {shown(named or given)}, whose content is not here: unpack it into a folder, and "
+        named = scope.evaluate_or_reason(given).value if name is None else name
+        tell(f"leaves out the layer {excerpt(named or given)}, whose content is not here: unpack it into a folder, and "
              "write that into its \"layers\"")
         return None
     at = os.path.join(base, layer.path)
     if "\0" in layer.path or not (os.path.isdir(at) or os.path.isfile(at) and at.endswith(".zip")):
-        tell(f"leaves out the layer {layer.name}: {shown(layer.path)} is not a folder or .zip file (yet): write it "
+        tell(f"leaves out the layer {layer.name}: {excerpt(layer.path)} is not a folder or .zip file (yet): write it "
              "into its \"layers\" once it is built")
         return None
     if not layer.is_built and not any(os.path.isdir(os.path.join(at, folder)) for folder in FOLDERS):
-        tell(f"the layer {layer.name} is built from {shown(layer.path)}: build it, and write the built folder, which "
+        tell(f"the layer {layer.name} is built from {excerpt(layer.path)}: build it, and write the built folder, which "
              f"has python, nodejs or bin, into its \"layers\"")
     return layer.path
 

@@ -7,7 +7,7 @@ from ..front.events import NAMED
 from .addresses import Addresses
 from .cloudformation import is_wanted
 from .routes import IMPLICIT, IMPLICIT_REST
-from .telling import shown, tell
+from .messages import excerpt, tell
 from .values import Scope, Unknown, members_of
 
 URL, HTTP_API, REST_API = "AWS::Lambda::Url", "AWS::Serverless::HttpApi", "AWS::Serverless::Api"
@@ -31,12 +31,12 @@ def add_urls(functions: List[Members], scope: Scope) -> None:
     """Gives functions the URLs that are resources."""
     for key, properties in resources_of(URL, scope):
         try:
-            target = scope.known(properties.get("TargetFunctionArn")).value
+            target = scope.evaluate(properties.get("TargetFunctionArn")).value
         except Unknown as reason:
             target = str(reason)
         made = function_of(target, functions, scope)
         if made is None:
-            tell(f"leaves out {key}, {URL}: there is no function {shown(target)}")
+            tell(f"leaves out {key}, {URL}: there is no function {excerpt(target)}")
         elif "url" in made:
             tell(f"leaves out {key}, {URL}: {made['name']} has a URL already")
         else:
@@ -52,7 +52,7 @@ def url_of(name: str, key: str, properties: Members, scope: Scope) -> Union[bool
     known = given.value(key)
     known = known if isinstance(known, dict) else {}
     if "Qualifier" in known:
-        of_function(f"its URL is of {shown(known['Qualifier'])}, and here of $LATEST")
+        of_function(f"its URL is of {excerpt(known['Qualifier'])}, and here of $LATEST")
     if left := sorted(str(member) for member in set(known) - READ_OF_URL):
         of_function(f"leaves out {', '.join(left)} of its URL")
     return given.url_of(known)

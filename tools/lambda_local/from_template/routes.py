@@ -6,7 +6,7 @@ from ..configuration import Members
 from ..front import settings
 from ..front.routes import DEFAULT, Route, WrongRoute
 from .cors import cors_of, rest_cors_of
-from .telling import shown, tell
+from .messages import excerpt, tell
 from .values import NO_VALUE, Scope, is_scalar, text_of
 
 # The APIs of events that name none
@@ -28,7 +28,7 @@ class Of(NamedTuple):
         return f"the {'REST' if self.is_rest else 'HTTP'} API {self.key}"
 
 
-class Mapped(NamedTuple):
+class FunctionRoute(NamedTuple):
     """One route of a function. `cors` is what its own event says of other sites."""
     key: str
     of: Of
@@ -41,22 +41,22 @@ def key_of(method: object, path: object) -> str:
     if method is not None or path is not None:
         method = str(method or "ANY").upper().replace("*", "ANY").replace("X-AMAZON-APIGATEWAY-ANY-METHOD", "ANY")
         key = f"{method} /{str(path or '').lstrip('/')}"
-    return checked(key)
+    return check_key(key)
 
 
-def checked(key: str) -> str:
+def check_key(key: str) -> str:
     """The key of a route that is written as UP.json has it; WrongRoute if it is none."""
     try:
         Route(key)
     except WrongRoute as fault:
-        raise WrongRoute(f"{shown(key)}: {fault}") from None
+        raise WrongRoute(f"{excerpt(key)}: {fault}") from None
     return key
 
 
-def taken_from(functions: List[Members]) -> Dict[str, Tuple[str, Mapped]]:
+def take_routes(functions: List[Members]) -> Dict[str, Tuple[str, FunctionRoute]]:
     """Takes the routes out of the functions: each by its key, with its function's name. Of two that take the same
     requests the first counts."""
-    routes: Dict[str, Tuple[str, Mapped]] = {}
+    routes: Dict[str, Tuple[str, FunctionRoute]] = {}
     shapes: Dict[object, str] = {}
     for made in functions:
         for mapped in made.pop("routes", ()):
@@ -79,7 +79,7 @@ class Apis:
     def members(self, functions: List[Members]) -> Members:
         """The members `routes` and `api` of UP.json, without those that are empty; takes routes out of the
         functions."""
-        found = taken_from(functions)
+        found = take_routes(functions)
         used = list(dict.fromkeys(mapped.of for _, mapped in found.values()))
         integrations = {of: self.integration(of) for of in used}
         for key in set(self.properties) - {of.key for of in used} - UNNAMED:
@@ -97,7 +97,7 @@ class Apis:
         given = self.properties.get(of.key, {}).get(name)
         if given is None:
             return None
-        value, placeholders = self.scope.known_or_why(given)
+        value, placeholders = self.scope.evaluate_or_reason(given)
         if placeholders:
             tell(f"leaves out {name} of {of.name}: it needs {' and '.join(placeholders)}")
             return None
@@ -113,25 +113,25 @@ class Apis:
         integration: Members = {"payload": "1.0", "stage": self.value(of, "StageName"),
                                 "stageVariables": self.variables(of), "binaryMediaTypes": self.binary(of)}
         if integration["stage"] is not None and not settings.OF_INTEGRATION["stage"].accepts(integration["stage"]):
-            tell(f"leaves out StageName of {of.name}: {shown(integration['stage'])}")
+            tell(f"leaves out StageName of {of.name}: {excerpt(integration['stage'])}")
             integration["stage"] = None
         return {name: value for name, value in integration.items() if value}
 
     def variables(self, of: Of) -> Optional[Dict[str, str]]:
         given = self.value(of, "Variables") or {}
         if not isinstance(given, dict):
-            tell(f"leaves out Variables of {of.name}: they must be an object, not {shown(given)}")
+            tell(f"leaves out Variables of {of.name}: they must be an object, not {excerpt(given)}")
             return None
         return {str(name): text_of(value) for name, value in given.items() if is_scalar(value)}
 
     def binary(self, of: Of) -> Optional[List[str]]:
         given = self.value(of, "BinaryMediaTypes") or []
         if not isinstance(given, list) or not settings.TEXTS.accepts(given):
-            tell(f"leaves out BinaryMediaTypes of {of.name}: they must be a list of strings, not {shown(given)}")
+            tell(f"leaves out BinaryMediaTypes of {of.name}: they must be a list of strings, not {excerpt(given)}")
             return None
         return [re.sub("~1", "/", kind) for kind in given]  # (which is how SAM writes it)
 
-    def cors(self, routes: Dict[str, Tuple[str, Mapped]], used: Sequence[Of]) -> Members:
+    def cors(self, routes: Dict[str, Tuple[str, FunctionRoute]], used: Sequence[Of]) -> Members:
         """The member `cors`: all routes have one port here."""
         if not used:
             return {}

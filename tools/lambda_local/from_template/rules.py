@@ -5,7 +5,7 @@ from typing import Any, Dict, List
 from .cloudformation import is_wanted
 from .resources import function_of
 from .schedules import is_off, put, schedule_of
-from .telling import Grouped, shown
+from .messages import LineGroups, excerpt
 from .values import Scope, members_of
 
 OF_RESOURCES = ("AWS::Events::Rule", "AWS::Scheduler::Schedule")
@@ -13,7 +13,7 @@ OF_RESOURCES = ("AWS::Events::Rule", "AWS::Scheduler::Schedule")
 
 def add_schedules(functions: List[Dict[str, Any]], scope: Scope) -> None:
     """Gives functions the schedules that are resources."""
-    group = Grouped()
+    group = LineGroups()
     for key, resource in scope.resources.items():
         if isinstance(resource, dict) and resource.get("Type") in OF_RESOURCES and is_wanted(key, resource, scope):
             add_rule(str(key), str(resource["Type"]), members_of(resource, "Properties"), functions, scope, group)
@@ -21,7 +21,7 @@ def add_schedules(functions: List[Dict[str, Any]], scope: Scope) -> None:
 
 
 def add_rule(key: str, kind: str, given: Dict[str, Any], functions: List[Dict[str, Any]], scope: Scope,
-             group: Grouped) -> None:
+             group: LineGroups) -> None:
     def tell(line: str) -> None:
         group.add(key, line)
 
@@ -32,10 +32,10 @@ def add_rule(key: str, kind: str, given: Dict[str, Any], functions: List[Dict[st
         return
     targets = given.get("Targets", [given["Target"]] if "Target" in given else [])
     for target in targets if isinstance(targets, list) else []:
-        arn = scope.known_or_why(members_of({"target": target}, "target").get("Arn")).value
+        arn = scope.evaluate_or_reason(members_of({"target": target}, "target").get("Arn")).value
         made = function_of(arn, functions, scope)
         if made is None:
-            tell(f"leaves out a target of this {kind}: there is no function {shown(arn)}")
+            tell(f"leaves out a target of this {kind}: there is no function {excerpt(arn)}")
             continue
         schedule = schedule_of(kind, given["ScheduleExpression"], target.get("Input"), scope, tell)
         put(made, [schedule] if schedule is not None else [])

@@ -4,7 +4,7 @@ import json
 from typing import Any, Callable, Dict, Iterator, List, Optional
 
 from ..up.expressions import WrongExpression, expression_of
-from .telling import shown
+from .messages import excerpt
 from .values import NO_VALUE, Scope, members_of
 
 OF_SAM = ("Schedule", "ScheduleV2")
@@ -24,19 +24,19 @@ def input_of(given: Any) -> Any:
 
 def schedule_of(where: str, expression: Any, given: Any, scope: Scope, tell: Tell) -> Optional[object]:
     """A schedule of UP.json; none, and a message, if it is unknown here."""
-    both, placeholders = scope.known_or_why([expression, given if given is not None else {"Ref": "AWS::NoValue"}])
+    both, placeholders = scope.evaluate_or_reason([expression, given if given is not None else {"Ref": "AWS::NoValue"}])
     if placeholders:
         tell(f"leaves out its {where}: it needs {' and '.join(placeholders)}")
         return None
     both = both if isinstance(both, list) else []
     text = both[0] if both else None
     if not isinstance(text, str):
-        tell(f"leaves out its {where}: its expression must be a string, not {shown(text)}")
+        tell(f"leaves out its {where}: its expression must be a string, not {excerpt(text)}")
         return None
     try:
         expression_of(text)
     except WrongExpression as fault:
-        tell(f"leaves out its {where}, {shown(text)}: {fault}")
+        tell(f"leaves out its {where}, {excerpt(text)}: {fault}")
         return None
     if len(both) == 1 or both[1] is NO_VALUE:
         return text

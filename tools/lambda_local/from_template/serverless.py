@@ -6,7 +6,7 @@ from typing import Dict, List, Tuple
 from ..configuration import Members
 from . import layers
 from .routes import OF_SERVERLESS, REST_OF_SERVERLESS
-from .telling import shown, tell
+from .messages import excerpt, tell
 from .values import ACCOUNT, REGION, Scope, Unknown, is_scalar, members_of, text_of
 
 PROPERTIES = {"name": "FunctionName", "handler": "Handler", "timeout": "Timeout",
@@ -36,18 +36,18 @@ class ServerlessScope(Scope):
         super().__init__(members_of(whole, "resources"), stack)
         self.layers = layers.of_serverless(whole)
         self.stage, self.region = "dev", REGION  # (as options, until they are known)
-        self.stage = self.setting("stage", self.stage)
-        self.region = self.pseudo["AWS::Region"] = self.setting("region", self.region)
+        self.stage = self.provider_text("stage", self.stage)
+        self.region = self.pseudo["AWS::Region"] = self.provider_text("region", self.region)
 
     @property
     def payload(self) -> str:
         """The format of the events of its HTTP API."""
         return "1.0" if str(members_of(self.provider, "httpApi").get("payload")) == "1.0" else "2.0"
 
-    def setting(self, name: str, otherwise: str) -> str:
+    def provider_text(self, name: str, otherwise: str) -> str:
         """A text of `provider`."""
         try:
-            value, placeholders = self.known(self.provider[name])
+            value, placeholders = self.evaluate(self.provider[name])
         except Unknown:
             return otherwise
         return text_of(value) if is_scalar(value) and not placeholders else otherwise
@@ -127,11 +127,11 @@ def object_of(part: Members, name: str, where: str, scope: Scope) -> Members:
     value = part.get(name)
     if isinstance(value, str):
         try:
-            value = scope.known(value).value
+            value = scope.evaluate(value).value
         except Unknown as reason:
             value = str(reason)
     if value is not None and not isinstance(value, dict):
-        tell(f"{where}: leaves out {name}: it must be an object, not {shown(part[name])}")
+        tell(f"{where}: leaves out {name}: it must be an object, not {excerpt(part[name])}")
     return value if isinstance(value, dict) else {}
 
 
@@ -157,20 +157,20 @@ def properties_of(key: str, member: Members, scope: ServerlessScope) -> Members:
     return {**properties, "Environment": {"Variables": variables}}
 
 
-def listed(whole: Members, stack: str) -> Tuple[List[Tuple[str, Members]], ServerlessScope]:
+def functions_in(whole: Members, stack: str) -> Tuple[List[Tuple[str, Members]], ServerlessScope]:
     """Each function's logical id and properties, and the scope of their expressions."""
     scope = ServerlessScope(whole, stack)
     found: List[Tuple[str, Members]] = []
     functions = whole["functions"]
     for part in functions if isinstance(functions, list) else [functions]:
         if not isinstance(part, dict):
-            tell(f"leaves out functions: {shown(part)}: it must be an object")
+            tell(f"leaves out functions: {excerpt(part)}: it must be an object")
             continue
         for key, member in part.items():
             if member is None or isinstance(member, dict):
                 found.append((str(key), properties_of(str(key), member or {}, scope)))
             else:
-                tell(f"leaves out the function {key}: it must be an object, not {shown(member)}")
+                tell(f"leaves out the function {key}: it must be an object, not {excerpt(member)}")
     for name in sorted(str(name) for name in set(whole) - TAKEN):
         tell(f"leaves out {name}")
     return found, scope

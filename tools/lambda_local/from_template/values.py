@@ -22,7 +22,7 @@ class Unknown(Exception):
     """Why an expression has no value here."""
 
 
-class Known(NamedTuple):
+class Value(NamedTuple):
     value: object
     placeholders: Tuple[str, ...]  # what in it is one, such as "the resource Table"
 
@@ -70,18 +70,18 @@ class Scope:
         """The format of the events of an HTTP API whose routes name none."""
         return "2.0"
 
-    def known(self, expression: object) -> Known:
+    def evaluate(self, expression: object) -> Value:
         """Its value with its placeholders; Unknown if it has none."""
         self.placeholders, self.steps = [], 0
         value = self.value(expression)
-        return Known(value, tuple(dict.fromkeys(self.placeholders)))
+        return Value(value, tuple(dict.fromkeys(self.placeholders)))
 
-    def known_or_why(self, expression: object) -> Known:
+    def evaluate_or_reason(self, expression: object) -> Value:
         """The same; None, with the reason in the place of placeholders, if it has none."""
         try:
-            return self.known(expression)
+            return self.evaluate(expression)
         except Unknown as reason:
-            return Known(None, (str(reason),))
+            return Value(None, (str(reason),))
 
     def text(self, text: str) -> object:
         """A text outside of Fn::Sub."""
@@ -174,13 +174,13 @@ class Scope:
 
         names: Members = own
 
-        def replaced(match: Match[str]) -> str:
+        def replace(match: Match[str]) -> str:
             literal, name = match[1], match[2].strip()
             if literal:
                 return "${" + match[2] + "}"
             value = self.value(names[name]) if name in names else self.get_att(name) if "." in name else self.ref(name)
             return "" if value is NO_VALUE else text_of(value)
-        return IN_TEXT.sub(replaced, text)
+        return IN_TEXT.sub(replace, text)
 
     def select(self, argument: object) -> object:
         try:

@@ -16,11 +16,11 @@ IDLE_SECONDS = 60  # (the service closes one after 300)
 NO_DESCRIPTOR = (errno.EMFILE, errno.ENFILE)
 
 
-class Unreached(Gone):
+class Unreachable(Gone):
     """There is no connection to the service, so it has received nothing of the request."""
 
 
-class NoDescriptor(Unreached):
+class NoDescriptor(Unreachable):
     """This process has no descriptor for a connection."""
 
 
@@ -56,7 +56,7 @@ class Client:
         try:
             _, wire = await asyncio.get_running_loop().create_connection(ServiceWire, "127.0.0.1", self.port)
         except OSError as fault:
-            raise (NoDescriptor if fault.errno in NO_DESCRIPTOR else Unreached) from None
+            raise (NoDescriptor if fault.errno in NO_DESCRIPTOR else Unreachable) from None
         return wire
 
     def give_back(self, wire: ServiceWire) -> None:
@@ -73,8 +73,8 @@ class Client:
         self.idle.clear()
 
     @contextlib.asynccontextmanager
-    async def asking(self, method: str, target: str, headers: Sequence[Tuple[str, str]] = (), length: int = 0,
-                     pieces: Optional[AsyncIterator[bytes]] = None, body: bytes = b"") -> AsyncIterator[Answer]:
+    async def exchange(self, method: str, target: str, headers: Sequence[Tuple[str, str]] = (), length: int = 0,
+                       pieces: Optional[AsyncIterator[bytes]] = None, body: bytes = b"") -> AsyncIterator[Answer]:
         """The answer to a request, while it is read. Its body of this length is there, or comes in pieces; if neither,
         the service refuses it by its length. A request is never sent twice: it could be an invocation."""
         head = request_head(method, target, [("Host", f"127.0.0.1:{self.port}"), *headers,
@@ -123,5 +123,5 @@ class Client:
     async def ask(self, method: str, target: str, headers: Sequence[Tuple[str, str]] = (),
                   body: bytes = b"") -> Tuple[int, Headers, bytes]:
         """The status, headers and whole body of an answer."""
-        async with self.asking(method, target, headers, len(body), None, body) as answer:
+        async with self.exchange(method, target, headers, len(body), None, body) as answer:
             return answer.status, answer.headers, await answer.body.whole(1 << 30)

@@ -24,7 +24,7 @@ def of_service(status: int, message: str) -> Reply:
     return refusal(status, "ServiceException", {"Message": message, "Type": "Service"})
 
 
-def throttled(reason: str, identifier: str) -> Reply:
+def throttle_reply(reason: str, identifier: str) -> Reply:
     return refusal(429, "TooManyRequestsException", {"Reason": reason, "Type": "User", "message": "Rate Exceeded."},
                    identifier)
 
@@ -32,7 +32,7 @@ def throttled(reason: str, identifier: str) -> Reply:
 STOPPED = {"Message": "Service is stopped", "Type": "Service"}
 
 
-def stopped(identifier: str) -> Reply:
+def stop_reply(identifier: str) -> Reply:
     return refusal(500, "ServiceException", STOPPED, identifier)
 
 

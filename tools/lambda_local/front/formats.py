@@ -28,12 +28,12 @@ class OfUrl:
         return payload.reply_of(result)
 
     @staticmethod
-    def broken() -> Reply:
+    def failure_reply() -> Reply:
         """For a function that fails, or whose result is not an answer."""
         return Reply(502, JSON, b"Internal Server Error")
 
     @staticmethod
-    def throttled(result: bytes) -> Reply:
+    def throttle_reply(result: bytes) -> Reply:
         return Reply(429, JSON, result)
 
 
@@ -55,15 +55,15 @@ class OfHttpApi(OfUrl):
         return payload.reply_of(result)
 
     @staticmethod
-    def broken() -> Reply:
+    def failure_reply() -> Reply:
         return message(502, "Internal Server Error")
 
     @staticmethod
-    def throttled(result: bytes) -> Reply:
+    def throttle_reply(result: bytes) -> Reply:
         return Reply(503, JSON, result)
 
     @staticmethod
-    def unrouted() -> Reply:
+    def no_route_reply() -> Reply:
         """For a request that no route takes."""
         return message(404, "Not Found")
 
@@ -74,15 +74,15 @@ class OfRestApi(OfHttpApi):
     replaces_cors = False
 
     @staticmethod
-    def broken() -> Reply:
+    def failure_reply() -> Reply:
         return message(502, "Internal server error")
 
     @staticmethod
-    def throttled(result: bytes) -> Reply:
+    def throttle_reply(result: bytes) -> Reply:
         return message(500, "Internal server error")
 
     @staticmethod
-    def unrouted() -> Reply:
+    def no_route_reply() -> Reply:
         return message(403, "Missing Authentication Token")
 
 

@@ -20,6 +20,7 @@ from .settings import Settings
 from .tail import Tails
 
 BETWEEN_TELLS = 60.0  # seconds, of the same fault
+END_SECONDS = 20.0  # for its thread to end
 TRIES = 5  # for a free port, which another program can take between looking and listening
 
 
@@ -45,7 +46,7 @@ def url_of(listener: socket.socket) -> str:
     return f"http://127.0.0.1:{listener.getsockname()[1]}"
 
 
-class Served(Protocol):
+class Component(Protocol):
     """What the front's thread runs: a port, and all connections to it."""
 
     async def start(self) -> None:
@@ -55,7 +56,7 @@ class Served(Protocol):
         """Closes all."""
 
 
-class Other(Served, Protocol):
+class Other(Component, Protocol):
     """One that the front only runs."""
     descriptors: int  # that it needs
 
@@ -67,19 +68,19 @@ class Front(threading.Thread):
         super().__init__(name="front", daemon=True)
         self.settings, self.drain_seconds, self.log = settings, drain_seconds, log
         self.queue: Optional[Queue] = None
-        self.invoking = listener_at(settings.invoke_port, "invokePort", path)
+        self.invoke_listener = listener_at(settings.invoke_port, "invokePort", path)
         self.urls = {function: listener_at(address.port, f"url of function {function}", path)
                      for function, address in settings.urls.items()}
-        self.routing = listener_at(settings.api.port, "api", path) if settings.routes else None
+        self.api_listener = listener_at(settings.api.port, "api", path) if settings.routes else None
         self.loop = asyncio.new_event_loop()
-        self.told: Dict[str, float] = {}
+        self.last_told: Dict[str, float] = {}
 
     def addresses(self) -> Iterator[Tuple[Optional[str], str, str]]:
         """Each address, whose it is and in which words."""
         for function, listener in self.urls.items():
             yield function, f"{function}: its URL is {url_of(listener)}/", url_of(listener)
-        if self.routing:
-            yield None, f"routes: {url_of(self.routing)}", url_of(self.routing)
+        if self.api_listener:
+            yield None, f"routes: {url_of(self.api_listener)}", url_of(self.api_listener)
 
     def serve(self, service: Service, tails: Optional[Tails] = None, others: Sequence[Other] = (),
               streams: Optional[Streams] = None) -> None:
@@ -95,15 +96,15 @@ class Front(threading.Thread):
         urls = {function: url_of(listener) for function, listener in self.urls.items()}
         streams = streams or Streams()
         management = Management(port, self.client, self.settings, configuration, urls, streams)
-        self.servers: List[Served] = [Server(self.invoking, management, self.places, self.log)]
-        service.endpoint_url = url_of(self.invoking)
+        self.servers: List[Component] = [Server(self.invoke_listener, management, self.places, self.log)]
+        service.endpoint_url = url_of(self.invoke_listener)
         for function, listener in self.urls.items():
             url = Url(self.client, self.settings.urls[function], identifiers, self.log, function, configuration,
                       streams)
             self.servers.append(Server(listener, url, self.places, self.log))
-        if self.routing:
+        if self.api_listener:
             api = Api(self.client, self.settings.api, identifiers, self.log, self.settings.routes, configuration)
-            self.servers.append(Server(self.routing, api, self.places, self.log))
+            self.servers.append(Server(self.api_listener, api, self.places, self.log))
         self.servers += others
         self.start()
 
@@ -124,9 +125,9 @@ class Front(threading.Thread):
     def tell(self, _loop: asyncio.AbstractEventLoop, context: Dict[str, Any]) -> None:
         """A fault of a callback, or of a task that nobody awaits: in one line, and the same one not again soon."""
         what, now = f"{context['message']}: {context.get('exception')!r}"[:300], time.monotonic()
-        if now - self.told.get(what, -BETWEEN_TELLS) >= BETWEEN_TELLS:
-            self.told = {text: then for text, then in self.told.items() if now - then < BETWEEN_TELLS}
-            self.told[what] = now
+        if now - self.last_told.get(what, -BETWEEN_TELLS) >= BETWEEN_TELLS:
+            self.last_told = {text: then for text, then in self.last_told.items() if now - then < BETWEEN_TELLS}
+            self.last_told[what] = now
             self.log("up", f"the front: {what}", level="error")
 
     def drain(self, is_over: Callable[[], bool]) -> None:
@@ -143,4 +144,6 @@ class Front(threading.Thread):
         """Once the service has ended."""
         with contextlib.suppress(RuntimeError):  # (it has failed, and its loop is closed)
             self.loop.call_soon_threadsafe(self.loop.stop)
-        self.join()
+        self.join(END_SECONDS)
+        if self.is_alive():
+            self.log("up", f"the front does not end within {END_SECONDS:g} s, and is left", level="error")

@@ -5,7 +5,7 @@ from typing import Any, Callable, Dict, Mapping, NamedTuple, Optional
 from ..configuration import Members
 from ..outgoing import Log
 from ..streaming.streams import Streams
-from . import cors, streamed
+from . import cors, response_stream
 from .client import Client
 from .events import Identifiers, target_of
 from .formats import OfHttpApi, OfUrl, format_of, message
@@ -21,8 +21,8 @@ MOST_BODY = 6 << 20  # bytes, of a request and of the event that is made of it
 MOST_HELD = 256 << 20  # bytes of the bodies of all requests of a port that are being answered
 
 
-class Found(NamedTuple):
-    """What takes a request."""
+class Backend(NamedTuple):
+    """The function that takes a request, and in which format."""
     function: str
     context: Dict[str, Any]  # the members of requestContext that do not depend on the request
     parameters: Optional[Dict[str, str]]
@@ -30,40 +30,40 @@ class Found(NamedTuple):
 
 
 class Gateway:
-    """`find` gives what takes a request; None if no route does, and then `unrouted` is answered."""
+    """`find` gives what takes a request; None if no route does, and then `no_route_reply` is the answer."""
     preflight_status = 200
 
     def __init__(self, client: Client, address: Address, identifiers: Identifiers, log: Log) -> None:
         self.client, self.cors, self.identifiers, self.log = client, address.cors, identifiers, log
-        self.held, self.hosts = 0, further_hosts()
+        self.bytes_held, self.hosts = 0, further_hosts()
 
-    def find(self, request: Request) -> Optional[Found]:
+    def find(self, request: Request) -> Optional[Backend]:
         raise NotImplementedError
 
-    def unrouted(self) -> Reply:
+    def no_route_reply(self) -> Reply:
         raise NotImplementedError
 
     async def handle(self, request: Request) -> Reply:
-        refused = refusal_of(request.head, self.hosts, pages_may=True)
-        if refused:
-            return self.refused(request, refused)
+        refusal = refusal_of(request.head, self.hosts, pages_may=True)
+        if refusal:
+            return self.refuse(request, refusal)
         if self.cors and cors.is_preflight(request):
             return cors.preflight(self.cors, request, self.preflight_status)
-        found = self.find(request)
-        reply = self.unrouted() if found is None else await self.invoke(request, found)
-        if self.cors and (found is None or found.format.replaces_cors):
+        backend = self.find(request)
+        reply = self.no_route_reply() if backend is None else await self.invoke(request, backend)
+        if self.cors and (backend is None or backend.format.replaces_cors):
             return cors.with_cors(self.cors, request, reply)
         return reply
 
-    def refused(self, request: Request, refused: Refusal) -> Reply:
+    def refuse(self, request: Request, refusal: Refusal) -> Reply:
         """A page whose name leads to this machine could do here what it likes: so not each Host is served."""
-        self.log("up", f"a request is answered {refused.status}: {refused.message}", level="error", kind="http")
-        reply = message(refused.status, refused.message)
-        closes = [("Connection", "close")] if refused is FOREIGN_CODING else []
+        self.log("up", f"a request is answered {refusal.status}: {refusal.message}", level="error", kind="http")
+        reply = message(refusal.status, refusal.message)
+        closes = [("Connection", "close")] if refusal is FOREIGN_CODING else []
         return reply._replace(headers=[*reply.headers, *closes])
 
     @staticmethod
-    def malformed(fault: Malformed, _request: Optional[Request]) -> Reply:
+    def malformed_reply(fault: Malformed, _request: Optional[Request]) -> Reply:
         kind = PHRASES[fault.status].title().replace(" ", "")
         body = json.dumps({"errorMessage": str(fault), "errorType": kind}).encode()
         return Reply(fault.status, [("Content-Type", "application/json"), ("Connection", "close")], body)
@@ -72,66 +72,66 @@ class Gateway:
     def refusal(status: int, text: str) -> Reply:
         return message(status, text)
 
-    async def invoke(self, request: Request, found: Found) -> Reply:
+    async def invoke(self, request: Request, backend: Backend) -> Reply:
         size = MOST_BODY if request.body.length is None else min(MOST_BODY, request.body.length)
-        if self.held + size > MOST_HELD:
-            self.say(found, request, f"503, requests with {MOST_HELD} bytes are being answered")
+        if self.bytes_held + size > MOST_HELD:
+            self.say(backend, request, f"503, requests with {MOST_HELD} bytes are being answered")
             return message(503, "Service Unavailable")
-        self.held += size
+        self.bytes_held += size
         try:
-            return await self.invoke_by(request, found)
+            return await self.invoke_by(request, backend)
         finally:
-            self.held -= size
+            self.bytes_held -= size
 
-    async def invoke_by(self, request: Request, found: Found) -> Reply:
+    async def invoke_by(self, request: Request, backend: Backend) -> Reply:
         def tell(text: str) -> None:
-            self.say(found, request, text, level="warning")
+            self.say(backend, request, text, level="warning")
 
         try:
             body = await request.body.whole(MOST_BODY)
         except TooLong:
-            return self.too_large(found, request, "its body")
-        context = {**found.context, "requestId": self.identifiers.next(found.function)}
-        event = found.format.event(request, body, context, found.parameters, tell)
+            return self.too_large(backend, request, "its body")
+        context = {**backend.context, "requestId": self.identifiers.next(backend.function)}
+        event = backend.format.event(request, body, context, backend.parameters, tell)
         if len(event) > MOST_BODY:
-            return self.too_large(found, request, "the event made of it")
+            return self.too_large(backend, request, "the event made of it")
         trace = [(name, value) for name, value in request.headers if name.lower() == "x-amzn-trace-id"]
         try:
-            return await self.answer(request, found, trace, event, tell)
+            return await self.answer(request, backend, trace, event, tell)
         except (Gone, Malformed):
-            self.say(found, request, "502, the service broke its connection off")
-            return found.format.broken()
+            self.say(backend, request, "502, the service broke its connection off")
+            return backend.format.failure_reply()
 
-    async def answer(self, request: Request, found: Found, trace: Headers, event: bytes, tell: Tell) -> Reply:
-        status, headers, result = await self.client.ask("POST", target_of(found.function), trace, event)
-        return self.mapped(request, found, status, headers, result, found.format.reply, tell)
+    async def answer(self, request: Request, backend: Backend, trace: Headers, event: bytes, tell: Tell) -> Reply:
+        status, headers, result = await self.client.ask("POST", target_of(backend.function), trace, event)
+        return self.map_result(request, backend, status, headers, result, backend.format.reply, tell)
 
-    def mapped(self, request: Request, found: Found, status: int, headers: Headers, result: bytes,
-               mapping: Callable[[bytes, Request, Tell], Reply], tell: Tell) -> Reply:
+    def map_result(self, request: Request, backend: Backend, status: int, headers: Headers, result: bytes,
+                   mapping: Callable[[bytes, Request, Tell], Reply], tell: Tell) -> Reply:
         """The answer to a result that is whole."""
         if status != 200:
-            return self.not_invoked(found, request, status, result)
+            return self.reply_to_refusal(backend, request, status, result)
         if first(headers, "x-amz-function-error") is not None:
-            return found.format.broken()  # (the invocation's own line says why)
+            return backend.format.failure_reply()  # (the invocation's own line says why)
         try:
             return mapping(result, request, tell)
         except Unmappable as reason:
-            self.say(found, request, f"502, its result cannot be mapped: {reason}")
-            return found.format.broken()
+            self.say(backend, request, f"502, its result cannot be mapped: {reason}")
+            return backend.format.failure_reply()
 
-    def too_large(self, found: Found, request: Request, what: str) -> Reply:
-        self.say(found, request, f"413, {what} has more than {MOST_BODY} bytes")
+    def too_large(self, backend: Backend, request: Request, what: str) -> Reply:
+        self.say(backend, request, f"413, {what} has more than {MOST_BODY} bytes")
         return message(413, "Request Entity Too Large")
 
-    def not_invoked(self, found: Found, request: Request, status: int, result: bytes) -> Reply:
-        self.say(found, request, f"the invocation is answered {status} {result[:200].decode(errors='replace')}")
+    def reply_to_refusal(self, backend: Backend, request: Request, status: int, result: bytes) -> Reply:
+        self.say(backend, request, f"the invocation is answered {status} {result[:200].decode(errors='replace')}")
         if status == 429:
-            return found.format.throttled(result)
-        return message(413, "Request Entity Too Large") if status == 413 else found.format.broken()
+            return backend.format.throttle_reply(result)
+        return message(413, "Request Entity Too Large") if status == 413 else backend.format.failure_reply()
 
-    def say(self, found: Found, request: Request, text: str, level: str = "error") -> None:
-        self.log(found.function, f"{request.method} {request.path[:200]}: {text}", level=level, kind="http",
-                 function=found.function)
+    def say(self, backend: Backend, request: Request, text: str, level: str = "error") -> None:
+        self.log(backend.function, f"{request.method} {request.path[:200]}: {text}", level=level, kind="http",
+                 function=backend.function)
 
 
 class Url(Gateway):
@@ -142,30 +142,30 @@ class Url(Gateway):
         name = f"{function.lower()}.lambda-url.{configuration['region']}.on.aws"
         context = {"accountId": "anonymous", "apiId": function.lower(), "domainName": name,
                    "domainPrefix": function.lower(), "routeKey": "$default", "stage": "$default"}
-        self.found = Found(function, context, None, OfUrl())
+        self.backend = Backend(function, context, None, OfUrl())
 
-    async def answer(self, request: Request, found: Found, trace: Headers, event: bytes, tell: Tell) -> Reply:
+    async def answer(self, request: Request, backend: Backend, trace: Headers, event: bytes, tell: Tell) -> Reply:
         if self.streams is None:
-            return await super().answer(request, found, trace, event, tell)
-        asking = streamed.Asking(self.client, self.streams, target_of(found.function), trace, event)
-        begun = await asking.first()
-        if not isinstance(begun, streamed.Begun):
-            await asking.aclose()
-            return self.mapped(request, found, *begun, streamed.as_it_is, tell)
-        self.held += len(event)
-        begun.asking.add_done_callback(lambda _: self.release(len(event)))
+            return await super().answer(request, backend, trace, event, tell)
+        invocation = response_stream.Invocation(self.client, self.streams, target_of(backend.function), trace, event)
+        start = await invocation.first()
+        if not isinstance(start, response_stream.Start):
+            await invocation.aclose()
+            return self.map_result(request, backend, *start, response_stream.plain_reply, tell)
+        self.bytes_held += len(event)
+        start.answer.add_done_callback(lambda _: self.release(len(event)))
         try:
-            return await streamed.url_reply(asking, begun.stream)
+            return await response_stream.url_reply(invocation, start.stream)
         except Unmappable as reason:
-            await asking.aclose()
-            self.say(found, request, f"502, {reason}")
-            return found.format.broken()
+            await invocation.aclose()
+            self.say(backend, request, f"502, {reason}")
+            return backend.format.failure_reply()
 
     def release(self, size: int) -> None:
-        self.held -= size
+        self.bytes_held -= size
 
-    def find(self, request: Request) -> Optional[Found]:
-        return self.found
+    def find(self, request: Request) -> Optional[Backend]:
+        return self.backend
 
 
 class Api(Gateway):
@@ -184,14 +184,14 @@ class Api(Gateway):
         formats = list(self.formats.values())
         self.common = formats[0] if len(set(map(type, formats))) == 1 else OfHttpApi(Integration())
 
-    def unrouted(self) -> Reply:
-        return self.common.unrouted()
+    def no_route_reply(self) -> Reply:
+        return self.common.no_route_reply()
 
-    def find(self, request: Request) -> Optional[Found]:
-        found = self.routes.find(request.method, request.path)
-        if found is None:
+    def find(self, request: Request) -> Optional[Backend]:
+        match = self.routes.find(request.method, request.path)
+        if match is None:
             return None
-        route, parameters = found
+        route, parameters = match
         assert route.target is not None
         context = {**self.context, "routeKey": route.key}
-        return Found(route.target.function, context, parameters, self.formats[route.key])
+        return Backend(route.target.function, context, parameters, self.formats[route.key])

@@ -12,16 +12,16 @@ from urllib.parse import parse_qs, quote
 
 from ..streaming.streams import Streams
 from ..variables import text_of
-from . import streamed
+from . import response_stream
+from .budget import Full as NoRoom
 from .client import Client
 from .errors import of_service, of_user, refusal
 from .events import function_of, target_of
-from .held import Full as NoRoom
 from .http import Malformed, Reply, Request, TooLong, first
-from .invoke import KNOWN, TYPE, InvokePort
-from .operations import HERE, OF_API, Asked, asked, sentence
+from .invoke import TYPE, InvokePort
+from .operations import HERE, OF_API, OperationCall, operation_of, sentence
 from .origins import further_hosts, refusal_of
-from .passing import LONGEST, asked_headers
+from .relay import LONGEST, headers_to_send, unknown
 from .settings import Address, Settings
 from .wire import Gone
 
@@ -37,12 +37,12 @@ class Management:
                  urls: Dict[str, str], streams: Streams):
         self.streams = streams
         self.client, self.settings, self.configuration, self.urls = client, settings, configuration, urls
-        self.port, self.malformed, self.refusal = port, port.malformed, port.refusal
+        self.port, self.malformed_reply, self.refusal = port, port.malformed_reply, port.refusal
         self.hosts, self.since = further_hosts(), datetime.now(timezone.utc)
         self.members = {member["name"]: member for member in settings.functions}
 
     async def handle(self, request: Request) -> Reply:
-        operation = asked(request.method, request.path)
+        operation = operation_of(request.method, request.path)
         is_other = operation.name in BY_SERVICE if operation else not self.is_of_api(request)
         # (a request that may not be taken is refused there, by the service's own rule)
         if is_other or refusal_of(request.head, self.hosts):
@@ -69,11 +69,11 @@ class Management:
         return OF_API.fullmatch(request.path) is not None and not request.path.rstrip("/").endswith(
             ("/invocations", "/concurrency"))
 
-    async def answer(self, request: Request, operation: Optional[Asked]) -> Reply:
+    async def answer(self, request: Request, operation: Optional[OperationCall]) -> Reply:
         identifier = str(uuid.uuid4())
         if operation is None or operation.name not in HERE:
             message = sentence(request.method, request.path, operation)
-            return self.refused(501, "NotImplementedException", message, identifier)
+            return self.refuse(501, "NotImplementedException", message, identifier)
         query = parse_qs(request.query, keep_blank_values=True)
         if operation.name == "ListFunctions":
             return self.list_functions(query, identifier)
@@ -81,9 +81,9 @@ class Management:
         try:
             if operation.name == "InvokeWithResponseStream" and first(request.headers, TYPE) != "DryRun":
                 return await self.stream(request, self.target(name, query), identifier)
-            unknown = await self.unknown(name, query)
-            if unknown:
-                return unknown
+            reply = await unknown(self.client, self.target(name, query))
+            if reply:
+                return reply
             if operation.name == "InvokeWithResponseStream":
                 return Reply(204, [("x-amzn-requestid", identifier)])
             return await self.of_function(operation.name, str(function_of(target_of(name))), identifier)
@@ -91,11 +91,11 @@ class Management:
             return of_service(500, "The service breaks its connection off")
 
     @staticmethod
-    def refused(status: int, kind: str, message: str, identifier: str) -> Reply:
+    def refuse(status: int, kind: str, message: str, identifier: str) -> Reply:
         return refusal(status, kind, {"Message": message, "Type": "User"}, identifier)
 
     @staticmethod
-    def given(value: Dict[str, Any], identifier: str) -> Reply:
+    def success(value: Dict[str, Any], identifier: str) -> Reply:
         return Reply(200, [("content-type", "application/json"), ("x-amzn-requestid", identifier)],
                      json.dumps(value).encode())
 
@@ -110,7 +110,7 @@ class Management:
         length = LONGEST if request.body.length is None else min(LONGEST, request.body.length)
         held = contextlib.ExitStack()
         try:
-            held.enter_context(self.port.held.holding(length))
+            held.enter_context(self.port.budget.reserve(length))
             payload = await request.body.whole(LONGEST)
         except NoRoom:
             return self.refusal(503, "Too many bodies are held")
@@ -120,32 +120,22 @@ class Management:
         except BaseException:
             held.close()
             raise
-        headers = asked_headers(request.headers)
-        return await streamed.invoke_with_response_stream(self.client, self.streams, target, headers, payload,
-                                                          held.close)
-
-    async def unknown(self, name: str, query: Dict[str, List[str]]) -> Optional[Reply]:
-        """What the service answers to this name and qualifier; none if it knows the function."""
-        status, headers, body = await self.client.ask("POST", self.target(name, query),
-                                                      [("X-Amz-Invocation-Type", "Event")])
-        if status == 400 and KNOWN in body:
-            return None
-        kept = [(each, value) for each, value in headers
-                if each.lower() in ("content-type", "x-amzn-errortype", "x-amzn-requestid")]
-        return Reply(status, kept, body)
+        headers = headers_to_send(request.headers)
+        return await response_stream.invoke_with_response_stream(self.client, self.streams, target, headers,
+                                                                 payload, held.close)
 
     async def of_function(self, operation: str, name: str, identifier: str) -> Reply:
         configuration = self.of_member(name)
         if operation == "GetFunctionConfiguration":
-            return self.given(configuration, identifier)
+            return self.success(configuration, identifier)
         if operation == "GetFunctionUrlConfig":
             if name not in self.urls:
-                return self.refused(404, "ResourceNotFoundException", f'{name} has no "url" in UP.json', identifier)
-            return self.given(self.of_url(name, self.settings.urls[name]), identifier)
+                return self.refuse(404, "ResourceNotFoundException", f'{name} has no "url" in UP.json', identifier)
+            return self.success(self.of_url(name, self.settings.urls[name]), identifier)
         reserved = await self.client.ask("GET", f"/2019-09-30/functions/{name}/concurrency", [])
         concurrency = json.loads(reserved[2]) if reserved[0] == 200 else {}
         code = {"RepositoryType": "local", "Location": f"file://{quote(self.folder(name))}"}
-        return self.given({"Configuration": configuration, "Code": code, "Tags": {},
+        return self.success({"Configuration": configuration, "Code": code, "Tags": {},
                            **({"Concurrency": concurrency} if concurrency else {})}, identifier)
 
     def folder(self, name: str) -> str:
@@ -160,7 +150,7 @@ class Management:
             return of_user(400, "InvalidParameterValueException", wrong, identifier)
         names = list(self.members)
         following = begin + count
-        return self.given({"Functions": [self.of_member(name) for name in names[begin:following]],
+        return self.success({"Functions": [self.of_member(name) for name in names[begin:following]],
                            **({"NextMarker": str(following)} if following < len(names) else {})}, identifier)
 
     # ---- a function --------------------------------------------------------------------------------------------------

@@ -10,12 +10,13 @@ PAUSE = 0.1  # seconds, after a newcomer for whom there is no descriptor
 
 
 class Newcomers:
-    """`welcome` is given the socket of each. If there is no descriptor for one, `told` is called, and the listener is
-    looked at again after a pause. (The loop's own way reports each of these, some thousand times a second.)"""
+    """`welcome` is given the socket of each. If there is no descriptor for one, `when_short` is called, and the
+    listener is looked at again after a pause. (The loop's own way reports each of these, some thousand times a second.)
+    """
 
-    def __init__(self, listener: socket.socket, welcome: Callable[[socket.socket], None], told: Callable[[], None],
-                 at_once: int = AT_ONCE) -> None:
-        self.listener, self.welcome, self.told, self.at_once = listener, welcome, told, at_once
+    def __init__(self, listener: socket.socket, welcome: Callable[[socket.socket], None],
+                 when_short: Callable[[], None], at_once: int = AT_ONCE) -> None:
+        self.listener, self.welcome, self.when_short, self.at_once = listener, welcome, when_short, at_once
 
     def begin(self) -> None:
         self.loop = asyncio.get_running_loop()
@@ -42,7 +43,7 @@ class Newcomers:
             self.welcome(peer)
 
     def pause(self) -> None:
-        self.told()
+        self.when_short()
         self.loop.remove_reader(self.listener)
         self.loop.call_later(PAUSE, self.go_on)
 

@@ -128,21 +128,21 @@ def _operations() -> List[Operation]:
 OPERATIONS = _operations()
 
 
-class Asked(NamedTuple):
+class OperationCall(NamedTuple):
     name: str
     parameters: List[str]  # as they are in the path
 
 
-def asked(method: str, path: str) -> Optional[Asked]:
+def operation_of(method: str, path: str) -> Optional[OperationCall]:
     """The operation that a request is; none if none is known."""
     for operation in OPERATIONS:
         match = operation.path.fullmatch(path) if operation.method == method else None
         if match:
-            return Asked(operation.name, list(match.groups()))
+            return OperationCall(operation.name, list(match.groups()))
     return None
 
 
-def sentence(method: str, path: str, operation: Optional[Asked]) -> str:
+def sentence(method: str, path: str, operation: Optional[OperationCall]) -> str:
     """Why an operation is not there, and what to do."""
     if operation is None:
         return f"lambda_local has no operation {method} {path[:200]}: it has {', '.join(HERE)}"

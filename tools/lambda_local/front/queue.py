@@ -7,7 +7,7 @@ from typing import Deque, Dict, Optional, Set
 
 from ..configuration import Members
 from ..outgoing import Log
-from .client import Client, Unreached
+from .client import Client, Unreachable
 from .errors import is_stop
 from .events import Event, Identifiers, target_of
 from .http import Headers, Malformed, first
@@ -35,13 +35,13 @@ class Lane:
         self.throttles = self.successes = 0
         self.pause: Optional[asyncio.TimerHandle] = None
 
-    def throttled(self) -> float:
-        """The seconds until the next attempt."""
+    def note_throttle(self) -> float:
+        """Returns the seconds until the next attempt."""
         self.limit, self.successes = max(1, self.running), 0
         self.throttles += 1
         return min(LONGEST_PAUSE, FIRST_PAUSE * (1 << min(self.throttles - 1, 10)))
 
-    def taken(self) -> None:
+    def note_success(self) -> None:
         self.throttles, self.successes = 0, self.successes + 1
         if self.successes >= GROWS_AFTER and self.limit < self.environments:
             self.limit, self.successes = self.limit + 1, 0
@@ -120,12 +120,12 @@ class Queue:
     async def attempt(self, lane: Lane, event: Event) -> None:
         if event.age > self.settings.oldest:
             lane.running -= 1
-            self.given_up(event, "EventAgeExceeded", f"is older than {self.settings.oldest:g} s")
+            self.give_up(event, "EventAgeExceeded", f"is older than {self.settings.oldest:g} s")
             return self.go_on(lane)
         event.is_running = True
         try:
             status, headers, body = await self.client.ask("POST", event.target, event.headers, event.payload)
-        except Unreached:
+        except Unreachable:
             lane.running, event.is_running = lane.running - 1, False
             return self.postpone(lane, event, "cannot be sent, since the service takes no connection")
         except (Gone, Malformed):
@@ -141,25 +141,25 @@ class Queue:
         if status is not None and status >= 500:  # (which may come after the function has run)
             return self.postpone(lane, event, "has no outcome, since the service answers "
                                               f"{status} {body[:200].decode(errors='replace')}")
-        lane.taken()
-        self.ended(event, status, headers, body)
+        lane.note_success()
+        self.settle(event, status, headers, body)
         self.release(lane)
 
     def postpone(self, lane: Lane, event: Event, why: Optional[str] = None) -> None:
         """After a throttle or a fault of the service, which is reported: the attempt does not count."""
-        pause = lane.throttled()
+        pause = lane.note_throttle()
         if why:
             self.say(event, f"{why}: again after {pause:g} s", "warning", "fault")
         event.throttles += 1
         lane.ready.appendleft(event)
         self.hold(lane, pause)
 
-    def ended(self, event: Event, status: Optional[int], headers: Headers, body: bytes) -> None:
+    def settle(self, event: Event, status: Optional[int], headers: Headers, body: bytes) -> None:
         event.attempts += 1
         invocation = first(headers, "x-amzn-requestid")
         if status is None:
             self.drop_result(event)
-            self.failed(event, "has no outcome, since the service broke its connection off")
+            self.retry(event, "has no outcome, since the service broke its connection off")
         elif status != 200:
             self.say(event, f"is refused: {status} {body.decode(errors='replace')[:200]}", "error", "refused",
                      invocation)
@@ -170,18 +170,18 @@ class Queue:
             self.forget(event)
         else:
             self.keep_result(event, body)
-            self.failed(event, "failed", invocation)
+            self.retry(event, "failed", invocation)
 
-    def failed(self, event: Event, what: str, invocation: Optional[str] = None) -> None:
+    def retry(self, event: Event, what: str, invocation: Optional[str] = None) -> None:
         if event.attempts > self.settings.retries:
-            return self.given_up(event, "RetriesExhausted", f"{what}, attempt {event.attempts} of {event.attempts}",
-                                 invocation)
+            return self.give_up(event, "RetriesExhausted", f"{what}, attempt {event.attempts} of {event.attempts}",
+                                invocation)
         delay = self.settings.delay(event.attempts)
         self.say(event, f"{what}, attempt {event.attempts} of {self.settings.retries + 1}: again after {delay:g} s",
                  "warning", "retry", invocation)
         asyncio.get_running_loop().call_later(delay, self.enqueue, event)
 
-    def given_up(self, event: Event, condition: str, why: str, invocation: Optional[str] = None) -> None:
+    def give_up(self, event: Event, condition: str, why: str, invocation: Optional[str] = None) -> None:
         """The destination gets its record, which takes the place of the event; a destination's own failure ends
         here."""
         goes_on = self.goes_on(event)
@@ -216,7 +216,7 @@ class Queue:
 
     # ---- the end -----------------------------------------------------------------------------------------------------
 
-    async def drained(self, seconds: float) -> None:
+    async def drain(self, seconds: float) -> None:
         """Waits until no event is left, at most so long."""
         with contextlib.suppress(asyncio.TimeoutError):
             await asyncio.wait_for(self._until_empty(), seconds)

@@ -13,6 +13,7 @@ from .http import PHRASES, Body, Pieces, Reply, Request, first, words_of
 from .newcomers import Newcomers
 from .patience import LINGER_BYTES, Patience, Phase
 from .places import Places
+from .tasks import begin_task
 from .wire import Gone, Wire
 
 BETWEEN_LOOKS = 1.0
@@ -20,12 +21,12 @@ BETWEEN_TELLS = 60.0  # seconds, of newcomers for whom there is no descriptor
 
 
 class Port(Protocol):
-    """What answers at a port: `handle` to a Request, `malformed` to what is not HTTP/1.1."""
+    """What answers at a port: `handle` to a Request, `malformed_reply` to what is not HTTP/1.1."""
 
     async def handle(self, request: Request) -> Reply:
         ...
 
-    def malformed(self, fault: Malformed, request: Optional[Request]) -> Reply:
+    def malformed_reply(self, fault: Malformed, request: Optional[Request]) -> Reply:
         ...
 
     def refusal(self, status: int, text: str) -> Reply:
@@ -79,7 +80,7 @@ class Connection:
         except Malformed as fault:
             if isinstance(fault, CutShort) and request is None:
                 return False  # (its caller ends its side within a head: the service answers nothing either)
-            reply, keeps = self.server.malformed(fault, request), False
+            reply, keeps = self.server.malformed_reply(fault, request), False
         try:
             is_read = request is not None and request.body.is_read
             self.patience.begin(Phase.ANSWERED)
@@ -182,14 +183,15 @@ class Server:
         self.port, self.places, self.log = port, places, log
         self.newcomers = Newcomers(listener, self.welcome, self.lacks_room)
         self.connections: Set[Connection] = set()
-        self.told = -BETWEEN_TELLS
+        self.last_told = -BETWEEN_TELLS
 
     async def start(self) -> None:
         loop = asyncio.get_running_loop()
         assert isinstance(loop, asyncio.BaseEventLoop)
         self.loop = loop
         self.newcomers.begin()
-        self.looking = self.loop.create_task(self.look())
+        self.looking = begin_task(self.look(), "what closes slow connections", lambda text: self.log(
+            "up", text, level="error", kind="http"))
 
     async def stop(self) -> None:
         """Closes all connections, also those that wait for an answer."""
@@ -215,8 +217,8 @@ class Server:
 
     def tell_shortage(self) -> None:
         now = time.monotonic()
-        if now - self.told > BETWEEN_TELLS:
-            self.told = now
+        if now - self.last_told > BETWEEN_TELLS:
+            self.last_told = now
             self.log("up", "there is no descriptor for a further connection (ulimit -n): callers wait, and those that "
                            "are idle are closed", level="error", kind="http")
 
@@ -241,11 +243,11 @@ class Server:
             return reply._replace(headers=[*reply.headers, ("connection", "close")])
         return await self.port.handle(request)
 
-    def malformed(self, fault: Malformed, request: Optional[Request]) -> Reply:
+    def malformed_reply(self, fault: Malformed, request: Optional[Request]) -> Reply:
         """The answer to what is not HTTP/1.1, which is reported."""
         what = "a body ends early" if isinstance(fault, CutShort) and request else str(fault)
         self.log("up", f"a request is answered {fault.status}: {what}", level="error", kind="http")
-        return self.port.malformed(fault, request)
+        return self.port.malformed_reply(fault, request)
 
     def refusal(self, status: int, text: str) -> Reply:
         return self.port.refusal(status, text)

@@ -23,12 +23,12 @@ async def with_tail(tails: Tails, function: str, invoke: Callable[[], Awaitable[
     if reply.status != 200 or identifier is None:
         return reply
     name = identifier
-    result = await looked(lambda: tails.result_of(function, name))
+    result = await result_in_time(lambda: tails.result_of(function, name))
     return reply if result is None else reply._replace(headers=[*reply.headers, (LOG_RESULT, result)])
 
 
-async def looked(look: Callable[[], T]) -> Optional[T]:
-    """What a function gives that may wait; none if it takes long."""
+async def result_in_time(look: Callable[[], T]) -> Optional[T]:
+    """Returns what a function that may wait gives; none if it takes long."""
     try:
         return await asyncio.wait_for(asyncio.get_running_loop().run_in_executor(None, look), LONGEST_SECONDS)
     except asyncio.TimeoutError:

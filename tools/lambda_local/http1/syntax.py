@@ -140,7 +140,7 @@ def target_of(text: str) -> Target:
     rest = text[scheme.end():] if scheme else text
     if scheme and len(scheme[1]) > MOST_SCHEME:
         raise Malformed(400, "the target's scheme is too long")
-    authority = re.match("[^/?#]*", rest)[0]  # type: ignore[index]
+    authority = re.split("[/?#]", rest, maxsplit=1)[0]
     if not authority or not scheme and authority != rest or not is_authority(authority):
         raise Malformed(400, "the target's authority is not HOST:PORT")
     if not scheme:
@@ -148,11 +148,17 @@ def target_of(text: str) -> Target:
     return path_of(authority, rest[len(authority):] or "/")
 
 
+def end_of(pattern: "re.Pattern[str]", text: str, begin: int) -> int:
+    """Where the part of a text ends that has the bytes of this pattern."""
+    match = pattern.match(text, begin)
+    return begin if match is None else match.end()
+
+
 def path_of(authority: Optional[str], text: str) -> Target:
-    end = PATH.match(text).end() if text != "*" else 1  # type: ignore[union-attr]
+    end = end_of(PATH, text, 0) if text != "*" else 1
     path, query, after = text[:end] or "/", None, end
     if text[end:end + 1] == "?":
-        after = QUERY.match(text, end + 1).end()  # type: ignore[union-attr]
+        after = end_of(QUERY, text, end + 1)
         query = text[end + 1:after]
     if after < len(text) and text[after] != "#":
         raise Malformed(400, "the target has a byte that may not be in it")

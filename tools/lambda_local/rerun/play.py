@@ -39,7 +39,7 @@ class Attempt(threading.Thread):
                 time.sleep(PAUSE)
                 status, identifier, body = self.invoke()
             self.sent = Sent(status, identifier, body, time.monotonic() - begun)
-        except (OSError, http.client.HTTPException) as fault:
+        except Exception as fault:  # (which is told by the one that waits for it)
             self.fault = str(fault) or type(fault).__name__
         finally:
             self.is_sent.set()

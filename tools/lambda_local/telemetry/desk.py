@@ -8,7 +8,7 @@ from typing import Awaitable, Callable, Dict, List, Optional, Tuple
 from .buffer import Buffer
 from .conversation import Answer
 from .schema import Event, rendered
-from .sending import Sender
+from .sender import Sender
 from .story import About, Moment, Story, now
 from .subscription import LOGS, Refused, Subscription, subscription_of
 

@@ -8,6 +8,7 @@ from typing import Callable, Dict, Optional, Set, Tuple, cast
 
 from ..front.newcomers import Newcomers
 from ..front.places import A_PROXY
+from ..front.tasks import begin_task
 from .conversation import Conversation, Ears
 
 MOST = 64  # connections at once; a runtime and ten extensions have eleven polls
@@ -128,7 +129,7 @@ class Pair:
             self.service.end()
         if conversation.waits and not self.is_waiting:
             self.is_waiting = True
-            self.task = asyncio.get_running_loop().create_task(self._wait())
+            self.task = begin_task(self._wait(), "a connection of its processes", self.proxy.tell)
         if not self.is_waiting:
             self._flush_client()
         full = conversation.full

@@ -99,8 +99,9 @@ def buffering_in(given: object, faults: List[str]) -> Buffering:
     buffering = {name: default for name, (_, _, default) in RANGES.items()}
     if given is not None and not isinstance(given, dict):
         faults.append(f"buffering must be an object, not {shown(given)}")
-    for name, (least, most, _) in RANGES.items() if isinstance(given, dict) else ():
-        value = given.get(name)  # type: ignore[attr-defined]
+    members: Dict[str, object] = given if isinstance(given, dict) else {}
+    for name, (least, most, _) in RANGES.items():
+        value = members.get(name)
         if value is None:
             continue
         if isinstance(value, bool) or not isinstance(value, int) or not least <= value <= most:

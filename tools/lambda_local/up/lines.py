@@ -6,7 +6,7 @@ from typing import Counter as Counts, Dict, Iterable, List, Mapping, Optional, T
 from ..history.words import EXPIRE, FAILURES, Word
 from ..life import Closes, Ended, Environment, Event, Generation, Throttled
 from ..outgoing import Log
-from ..reports import Report, shortened
+from ..reports import Report, shorten
 from .invocation_lines import Printed
 from .members import NAME, Function
 from .unnamed import late_and_others
@@ -74,7 +74,7 @@ class Lines:
             of = f"of the extension {event.extension.name} " if event.extension else ""
             self.say(environment.name, f"Init {of}failed {report}", "error", "init", {**report.members, **members})
             for line in [] if self._is_printed(environment.number, report.lines) else report.lines:
-                self.log(environment.name, f"  {shortened(line)}", level="error", kind="trace")
+                self.log(environment.name, f"  {shorten(line)}", level="error", kind="trace")
 
     def _is_printed(self, number: int, trace: List[str]) -> bool:
         """Whether the runtime has printed the end of its trace itself, as the bundled ones do."""

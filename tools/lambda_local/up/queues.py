@@ -12,6 +12,7 @@ from typing import Any, Dict, Iterator, List, NamedTuple, Optional
 from urllib.parse import urlsplit
 
 from ..json_reader import NotJson, read_json
+from ..reports import shorten
 from ..service import ask
 from .log import Log
 from .sources import MOST_AT_ONCE, Queue
@@ -116,7 +117,7 @@ class Poller(threading.Thread):
         except NoClient:
             return self.say(f"it is not polled, since {sys.executable} has no boto3: pip install boto3", "error")
         except Exception as fault:
-            return self.say(f"it is not polled: {shortened(fault)}", "error")
+            return self.say(f"it is not polled: {one_line(fault)}", "error")
         while not self.stopping.is_set():
             try:
                 batch = self.collected()
@@ -134,7 +135,7 @@ class Poller(threading.Thread):
 
     def wait_after(self, fault: Exception) -> None:
         if not self.pause:
-            self.say(f"it cannot be polled: {shortened(fault)}", "error")
+            self.say(f"it cannot be polled: {one_line(fault)}", "error")
         self.pause = min(LONGEST_PAUSE, 2 * self.pause or FIRST_PAUSE)
         self.stopping.wait(self.pause)
 
@@ -202,7 +203,7 @@ class Poller(threading.Thread):
                                             f"/2015-03-31/functions/{self.function}/invocations", event,
                                             timeout=INVOKE_SECONDS)
             except (OSError, http.client.HTTPException) as fault:
-                return Invoked(None, f"has no outcome: {shortened(fault)}")
+                return Invoked(None, f"has no outcome: {one_line(fault)}")
             if status != 429:
                 break
             if self.stopping.wait(pause):
@@ -226,7 +227,7 @@ class Poller(threading.Thread):
                 failed = answer.get("Failed") or []
                 left, why = left + len(failed), str(failed[0].get("Message", ""))[:200] if failed else why
             except Exception as fault:
-                left, why = left + len(part), shortened(fault)
+                left, why = left + len(part), one_line(fault)
         if left:
             self.say(f"{left} messages were handled and could not be deleted, and so come again: {why}", "error")
         return left
@@ -238,9 +239,8 @@ def parts_of(messages: List[Dict[str, Any]]) -> Iterator[List[Dict[str, Any]]]:
         yield messages[begin:begin + MOST_AT_ONCE]
 
 
-def shortened(fault: Exception) -> str:
-    text = " ".join(f"{type(fault).__name__}: {fault}".split())
-    return text if len(text) <= 300 else text[:300] + ".."
+def one_line(fault: Exception) -> str:
+    return shorten(" ".join(f"{type(fault).__name__}: {fault}".split()))
 
 
 def pollers_of(queues: Dict[str, Queue], service: Any, keeps_credentials: bool, stopping: threading.Event,

@@ -7,7 +7,7 @@ import time
 import uuid
 from typing import Callable, Dict, List, Union
 
-from ..guard import GUARD, Marked, Single
+from ..guard import GUARD, Mark, Single
 from ..service import Fault
 
 PATIENCE = 10.0  # seconds for a command that was interrupted
@@ -35,7 +35,7 @@ class Run:
     interrupts the command once, through this process."""
 
     def __init__(self, words: List[str], variables: Dict[str, str], when_ended: Callable[[], None]) -> None:
-        self.shares, self.mark = has_terminal(), Marked(f"{MARK}={uuid.uuid4()}")
+        self.shares, self.mark = has_terminal(), Mark(f"{MARK}={uuid.uuid4()}")
         GUARD.hold(self.mark)
         try:
             self.child = subprocess.Popen(words, env={**variables, MARK: self.mark.partition("=")[2]},

@@ -9,7 +9,7 @@ from typing import Callable, Dict, Iterator, List, Optional, Sequence, Tuple, Ty
 
 from ..front.front import Front
 from ..guard import GUARD
-from ..guarding import end_all_below
+from ..guard_process import end_all_below
 from ..outgoing import opened_for_payloads
 from ..reports import Report
 from ..service import Fault, Service

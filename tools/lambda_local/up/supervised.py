@@ -4,21 +4,17 @@ import threading
 import traceback
 from typing import Callable
 
+from ..reports import shorten
 from .log import Log
 
 BROKEN = 70  # the status of a run that a fault of the tools themselves has ended (sysexits.h: an internal fault)
-MOST_SHOWN = 300  # characters
 
 
 def told(fault: BaseException) -> str:
     """An exception and the line that raised it, in one line."""
     frames = traceback.extract_tb(fault.__traceback__)
     place = f" ({os.path.basename(frames[-1].filename)}:{frames[-1].lineno})" if frames else ""
-    return f"{type(fault).__name__}: {shortened(str(fault))}{place}"
-
-
-def shortened(text: str) -> str:
-    return text if len(text) <= MOST_SHOWN else text[:MOST_SHOWN] + ".."
+    return f"{type(fault).__name__}: {shorten(str(fault))}{place}"
 
 
 class Supervisor:

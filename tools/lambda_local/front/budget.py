@@ -1,4 +1,4 @@
-"""The bytes of bodies that are held while their requests are answered, at all ports of the front together."""
+"""A budget of bytes for the bodies that are held while their requests are answered: one for all ports of the front."""
 import contextlib
 from typing import Iterator
 
@@ -9,12 +9,12 @@ class Full(Exception):
     """As many bytes are held as may be."""
 
 
-class Held:
+class Budget:
     def __init__(self, most: int = MOST_HELD) -> None:
         self.most, self.size = most, 0
 
     @contextlib.contextmanager
-    def holding(self, size: int) -> Iterator[None]:
+    def reserve(self, size: int) -> Iterator[None]:
         """Raises Full if there is no room."""
         if self.size + size > self.most:
             raise Full

@@ -4,7 +4,7 @@ from typing import Any, Callable, Dict
 
 from ..configuration import Members
 from ..json_reader import NotJson, is_deeper, read_json
-from .telling import Fault, tell
+from .messages import Fault, tell
 
 LONGEST = 16 << 20  # bytes of a template (CloudFormation takes 1 MB)
 DEEPEST = 100  # levels of one (an expression has 50: `values`)
@@ -18,7 +18,7 @@ def yaml_loader(yaml: Any) -> Any:
     class Loader(yaml.SafeLoader):  # type: ignore[misc]  # (yaml has no types)
         pass
 
-    def written_out(loader: Any, tag: str, node: Any) -> Members:
+    def write_out(loader: Any, tag: str, node: Any) -> Members:
         name = tag if tag in WITHOUT_PREFIX else f"Fn::{tag}"
         if isinstance(node, yaml.ScalarNode):
             value = loader.construct_scalar(node)
@@ -26,12 +26,12 @@ def yaml_loader(yaml: Any) -> Any:
         construct = loader.construct_sequence if isinstance(node, yaml.SequenceNode) else loader.construct_mapping
         return {name: construct(node, deep=True)}
 
-    Loader.add_multi_constructor("!", written_out)
-    Loader.flatten_mapping = counting_merges(Loader.flatten_mapping, yaml)
+    Loader.add_multi_constructor("!", write_out)
+    Loader.flatten_mapping = count_merges(Loader.flatten_mapping, yaml)
     return Loader
 
 
-def counting_merges(flatten: Callable[[Any, Any], object], yaml: Any) -> Callable[[Any, Any], None]:
+def count_merges(flatten: Callable[[Any, Any], object], yaml: Any) -> Callable[[Any, Any], None]:
     """Returns what merges the keys `<<` of a mapping node into it, and refuses more members than a template has."""
     counts: Dict[Any, int] = {}  # by loader, of which there is one for each template
 
@@ -53,13 +53,13 @@ def counting_merges(flatten: Callable[[Any, Any], object], yaml: Any) -> Callabl
         if given:
             flatten(loader, node)
 
-    def merged(loader: Any, node: Any) -> None:
+    def flatten_counted(loader: Any, node: Any) -> None:
         merge(loader, node)
         flatten(loader, node)
-    return merged
+    return flatten_counted
 
 
-def parsed(path: str, text: str) -> object:
+def parse(path: str, text: str) -> object:
     try:
         return read_json(text, DEEPEST)
     except NotJson:
@@ -97,7 +97,7 @@ def read(path: str) -> Members:
         raise Fault(f"{path}: it is not text: name a template") from None
     if len(text) > LONGEST:
         raise Fault(f"{path}: it is longer than {LONGEST:,} bytes: name a template")
-    whole = parsed(path, text)
+    whole = parse(path, text)
     if not isinstance(whole, dict):
         raise Fault(f"{path} is not a template: it must have Resources, or functions")
     return whole

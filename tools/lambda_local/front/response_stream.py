@@ -10,6 +10,7 @@ from ..streaming.streams import Fault, Stream, Streams
 from .client import Client
 from .http import Headers, Malformed, Reply, Request, first
 from .payload import Unmappable, cookies_in, headers_in, status_in
+from .relay import refusal_by_service
 from .wire import Gone
 
 Whole = Tuple[int, Headers, bytes]
@@ -17,11 +18,11 @@ TRACE = "X-Amzn-Trace-Id"
 DEFAULT_TYPE = "application/octet-stream"
 
 
-class Begun(NamedTuple):
+class Start(NamedTuple):
     """A response that has begun."""
     stream: Stream
     identifier: str
-    asking: "asyncio.Task[Whole]"
+    answer: "asyncio.Task[Whole]"
 
 
 def fault_of(result: bytes) -> Fault:
@@ -34,38 +35,38 @@ def fault_of(result: bytes) -> Fault:
     return Fault(kind if isinstance(kind, str) and kind else "Unhandled", result.decode(errors="replace"))
 
 
-class Asking:
+class Invocation:
     """One invocation, from its request to the end of its response: `first` gives what has come first, the beginning of
     a stream or the service's whole answer."""
 
     def __init__(self, client: Client, streams: Streams, target: str, headers: Headers, payload: bytes) -> None:
         self.streams, self.expected = streams, streams.expect()
-        given = first(headers, TRACE.lower())
+        trace = first(headers, TRACE.lower())
         others = [(name, value) for name, value in headers if name.lower() != TRACE.lower()]
-        self.asking: "asyncio.Task[Whole]" = asyncio.get_running_loop().create_task(client.ask(
-            "POST", target, [*others, (TRACE, self.expected.trace(given))], payload))
+        self.answer: "asyncio.Task[Whole]" = asyncio.get_running_loop().create_task(client.ask(
+            "POST", target, [*others, (TRACE, self.expected.trace(trace))], payload))
         self.stream: Optional[Stream] = None
 
-    async def first(self) -> Union[Begun, Whole]:
+    async def first(self) -> Union[Start, Whole]:
         try:
-            either: "Set[asyncio.Future[Any]]" = {self.asking, self.expected.begun}
+            either: "Set[asyncio.Future[Any]]" = {self.answer, self.expected.begun}
             await asyncio.wait(either, return_when=asyncio.FIRST_COMPLETED)
             if not self.expected.begun.done():
-                return await self.asking
+                return await self.answer
         except BaseException:
             await self.aclose()
             raise
         self.stream = self.expected.begun.result()
-        self.asking.add_done_callback(self._answered)
-        return Begun(self.stream, str(self.expected.identifier), self.asking)
+        self.answer.add_done_callback(self._end)
+        return Start(self.stream, str(self.expected.identifier), self.answer)
 
-    def _answered(self, asking: "asyncio.Task[Whole]") -> None:
+    def _end(self, answer: "asyncio.Task[Whole]") -> None:
         """All that will come has come."""
         assert self.stream is not None
-        if asking.cancelled() or asking.exception() is not None:
+        if answer.cancelled() or answer.exception() is not None:
             self.stream.end(Fault("Service.Gone", "the service has broken its connection off"))
             return
-        status, headers, result = asking.result()
+        status, headers, result = answer.result()
         failed = status != 200 or first(headers, "x-amz-function-error") is not None
         self.stream.end(fault_of(result) if failed else None)
 
@@ -74,69 +75,69 @@ class Asking:
         self.expected.begun.cancel()
         if self.stream is not None:
             self.stream.leave()
-        self.asking.cancel()
+        self.answer.cancel()
         with contextlib.suppress(asyncio.CancelledError, Gone, Malformed):
-            await self.asking
+            await self.answer
 
 
-class Streamed:
+class BodyOfStream:
     """The body of a reply that is passed on as it comes."""
 
-    def __init__(self, asking: Asking, pieces: AsyncIterator[bytes]) -> None:
-        self.asking, self.pieces = asking, pieces
+    def __init__(self, invocation: Invocation, pieces: AsyncIterator[bytes]) -> None:
+        self.invocation, self.pieces = invocation, pieces
 
     def __aiter__(self) -> AsyncIterator[bytes]:
         return self.pieces
 
     async def aclose(self) -> None:
-        await self.asking.aclose()
+        await self.invocation.aclose()
 
 
 # ---- a Function URL --------------------------------------------------------------------------------------------------
 
 
-def as_it_is(result: bytes, _request: Request, _tell: Callable[[str], None]) -> Reply:
+def plain_reply(result: bytes, _request: Request, _tell: Callable[[str], None]) -> Reply:
     """The answer to a result that was not streamed."""
     return Reply(200, [("Content-Type", "application/json")], result)
 
 
-async def url_pieces(stream: Stream, begun: bytes, pieces: AsyncIterator[bytes]) -> AsyncIterator[bytes]:
+async def url_pieces(stream: Stream, beginning: bytes, pieces: AsyncIterator[bytes]) -> AsyncIterator[bytes]:
     """A response that breaks off breaks its connection off."""
-    if begun:
-        yield begun
+    if beginning:
+        yield beginning
     async for piece in pieces:
         yield piece
     if stream.fault is not None:
         raise Gone
 
 
-async def url_reply(asking: Asking, stream: Stream) -> Reply:
+async def url_reply(invocation: Invocation, stream: Stream) -> Reply:
     """Raises Unmappable if its prelude is none."""
-    pieces, begun = stream.pieces(), b""
+    pieces, beginning = stream.pieces(), b""
     status, headers = 200, [("Content-Type", stream.content_type or DEFAULT_TYPE)]
     if (stream.content_type or "").partition(";")[0].strip().lower() == prelude.CONTENT_TYPE:
         try:
-            said, begun = await prelude.prelude_of(pieces)
+            members, beginning = await prelude.prelude_of(pieces)
         except prelude.NoPrelude as reason:
             raise Unmappable(str(reason)) from None
-        status, headers = status_in({"statusCode": 200, **said}), headers_in(said)
+        status, headers = status_in({"statusCode": 200, **members}), headers_in(members)
         if first(headers, "content-type") is None:
             headers.append(("Content-Type", DEFAULT_TYPE))
-        headers += [("Set-Cookie", cookie) for cookie in cookies_in(said)]
-    return Reply(status, headers, pieces=Streamed(asking, url_pieces(stream, begun, pieces)))
+        headers += [("Set-Cookie", cookie) for cookie in cookies_in(members)]
+    return Reply(status, headers, pieces=BodyOfStream(invocation, url_pieces(stream, beginning, pieces)))
 
 
 # ---- InvokeWithResponseStream ----------------------------------------------------------------------------------------
 
 
-async def framed(stream: Stream) -> AsyncIterator[bytes]:
+async def event_stream(stream: Stream) -> AsyncIterator[bytes]:
     async for piece in stream.pieces():
         yield frames.payload_chunk(piece)
     fault = stream.fault
     yield frames.invoke_complete(fault.kind, fault.body) if fault else frames.invoke_complete()
 
 
-def framed_whole(headers: Headers, result: bytes) -> bytes:
+def whole_event_stream(headers: Headers, result: bytes) -> bytes:
     """A response that was not streamed, in one piece."""
     if first(headers, "x-amz-function-error") is not None:
         return frames.invoke_complete(*fault_of(result))
@@ -150,16 +151,14 @@ def stream_headers(identifier: str) -> List[Tuple[str, str]]:
 
 async def invoke_with_response_stream(client: Client, streams: Streams, target: str, headers: Headers, payload: bytes,
                                       when_answered: Callable[[], None]) -> Reply:
-    asking = Asking(client, streams, target, headers, payload)
-    asking.asking.add_done_callback(lambda _: when_answered())
-    begun = await asking.first()
-    if isinstance(begun, Begun):
-        return Reply(200, stream_headers(begun.identifier), pieces=Streamed(asking, framed(begun.stream)))
-    await asking.aclose()
-    status, answered, result = begun
+    invocation = Invocation(client, streams, target, headers, payload)
+    invocation.answer.add_done_callback(lambda _: when_answered())
+    start = await invocation.first()
+    if isinstance(start, Start):
+        return Reply(200, stream_headers(start.identifier), pieces=BodyOfStream(invocation, event_stream(start.stream)))
+    await invocation.aclose()
+    status, headers, result = start
     if status != 200:
-        kept = [(name, value) for name, value in answered
-                if name.lower() in ("content-type", "x-amzn-errortype", "x-amzn-requestid")]
-        return Reply(status, kept, result)
-    identifier = first(answered, "x-amzn-requestid") or ""
-    return Reply(200, stream_headers(identifier), framed_whole(answered, result))
+        return refusal_by_service(status, headers, result)
+    identifier = first(headers, "x-amzn-requestid") or ""
+    return Reply(200, stream_headers(identifier), whole_event_stream(headers, result))

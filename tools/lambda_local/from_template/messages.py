@@ -12,11 +12,11 @@ def tell(line: object) -> None:
     outgoing.tell(f"from_template: {line}")
 
 
-class Grouped:
+class LineGroups:
     """Lines about functions and resources: what is the same of several is said once, with all their names."""
 
-    def __init__(self, written: str = "{names}: {line}") -> None:
-        self.written = written
+    def __init__(self, form: str = "{names}: {line}") -> None:
+        self.form = form
         self.names: Dict[str, List[str]] = {}
 
     def add(self, name: str, line: str) -> None:
@@ -27,12 +27,12 @@ class Grouped:
     def say(self) -> None:
         """Says what was added, in the order in which it came first."""
         for line, names in self.names.items():
-            tell(self.written.format(names=", ".join(names), line=line))
+            tell(self.form.format(names=", ".join(names), line=line))
         self.names = {}
 
 
-def shown(value: object) -> str:
-    """A value in a sentence, cut short."""
+def excerpt(value: object) -> str:
+    """Returns a value for a sentence, cut short."""
     text = str(value) if isinstance(value, str) else repr(value)
     text = " ".join(text.split())
     return text if len(text) <= 80 else text[:78] + ".."

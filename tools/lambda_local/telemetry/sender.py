@@ -6,6 +6,7 @@ import threading
 import time
 from typing import Callable, List, Optional, Tuple
 
+from ..front.tasks import begin_task
 from ..http1 import NEED_DATA, Data, EndOfMessage, Malformed, Response, ResponseReader, request_head
 from .buffer import Buffer
 from .schema import array_of, lines_of
@@ -135,7 +136,7 @@ class Sender:
     def begin(self) -> None:
         """In the loop that it will use."""
         self.loop, self.changed = asyncio.get_running_loop(), asyncio.Event()
-        self.task = self.loop.create_task(self._run())
+        self.task = begin_task(self._run(), "what sends telemetry", self.tell)
 
     # ---- from any thread, with the lock ------------------------------------------------------------------------------
 

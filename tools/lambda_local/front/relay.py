@@ -2,21 +2,24 @@
 import contextlib
 from typing import AsyncIterator, Optional, Tuple
 
+from .budget import Budget
 from .client import Client
-from .held import Held
 from .http import OF_CONNECTION, Body, Headers, Reply, Request, TooLong, first, words_of
 
 LONGEST = 6 << 20  # bytes of a body that the service reads; a longer one it refuses by its length alone
 TYPE, TRACE = "X-Amz-Invocation-Type", "X-Amzn-Trace-Id"
+OF_REFUSALS = ("content-type", "x-amzn-errortype", "x-amzn-requestid")
+# The service refuses any other type once it knows the function (docs/formats.md): so it is it that judges a name.
+KNOWN = b"Invocation type is not RequestResponse"
 
 
-def asked_headers(headers: Headers) -> Headers:
+def headers_to_send(headers: Headers) -> Headers:
     """The headers that the service reads at its invoke port, but for those by which a request is refused: of these it
     has been asked already. If one comes twice, the first counts."""
     return [(name, value) for name in (TYPE, TRACE) for value in [first(headers, name.lower())] if value is not None]
 
 
-def answered(headers: Headers) -> Headers:
+def headers_to_return(headers: Headers) -> Headers:
     """Returns the headers of an answer. If the service ends the connection after it, so does the front."""
     words = words_of(headers, "connection")
     dropped = OF_CONNECTION - ({"connection"} if "close" in words else set())
@@ -24,13 +27,25 @@ def answered(headers: Headers) -> Headers:
     return [(name, "close" if name.lower() == "connection" else value) for name, value in kept]
 
 
-async def pass_on(client: Client, request: Request, held: Held) -> Reply:
+def refusal_by_service(status: int, headers: Headers, body: bytes) -> Reply:
+    """Returns the service's own refusal, with the headers that belong to it."""
+    return Reply(status, [(name, value) for name, value in headers if name.lower() in OF_REFUSALS], body)
+
+
+async def unknown(client: Client, target: str) -> Optional[Reply]:
+    """What the service answers to this name and qualifier; none if it knows the function."""
+    status, headers, body = await client.ask("POST", target, [(TYPE, "Event")])
+    return None if status == 400 and KNOWN in body else refusal_by_service(status, headers, body)
+
+
+async def relay(client: Client, request: Request, budget: Budget) -> Reply:
     """A Reply whose body is the service's, while it is read. What breaks off there breaks off here."""
     async with contextlib.AsyncExitStack() as stack:
-        length, pieces, body = await outgoing(request, held, stack)
-        answer = await stack.enter_async_context(client.asking(request.method, request.target,
-                                                               asked_headers(request.headers), length, pieces, body))
-        headers = answered(answer.headers)
+        length, pieces, body = await body_to_send(request, budget, stack)
+        answer = await stack.enter_async_context(client.exchange(request.method, request.target,
+                                                                 headers_to_send(request.headers), length, pieces,
+                                                                 body))
+        headers = headers_to_return(answer.headers)
         if answer.body.is_here:
             content = await answer.body.whole(answer.body.length or 0)
             reply = Reply(answer.status, headers, content, reason=answer.reason)
@@ -39,13 +54,13 @@ async def pass_on(client: Client, request: Request, held: Held) -> Reply:
     return reply
 
 
-async def outgoing(request: Request, held: Held,
-                   stack: contextlib.AsyncExitStack) -> Tuple[int, Optional[AsyncIterator[bytes]], bytes]:
+async def body_to_send(request: Request, budget: Budget,
+                       stack: contextlib.AsyncExitStack) -> Tuple[int, Optional[AsyncIterator[bytes]], bytes]:
     """The length of the body that the service is told, its pieces as they come, and what of it is here. One in chunks
     is read whole, so that its length is known."""
     body = request.body
     if body.length is None:
-        stack.enter_context(held.holding(LONGEST))
+        stack.enter_context(budget.reserve(LONGEST))
         try:
             whole = await body.whole(LONGEST)
         except TooLong:

@@ -41,7 +41,7 @@ def adopt_orphans() -> None:
 
 def below(pid: int) -> List[int]:
     """The processes below this one, those of each level before those below them."""
-    children_of = listed if os.path.exists(CHILDREN.format(os.getpid(), os.getpid())) else scanned()
+    children_of = listed_children if os.path.exists(CHILDREN.format(os.getpid(), os.getpid())) else scanned_children()
     found: List[int] = []
     level = [pid]
     while level := [child for parent in level for child in children_of(parent)]:
@@ -49,7 +49,7 @@ def below(pid: int) -> List[int]:
     return found
 
 
-def listed(pid: int) -> List[int]:
+def listed_children(pid: int) -> List[int]:
     """The children of a process, as the system lists them for each of its threads."""
     found: List[int] = []
     with contextlib.suppress(OSError):  # (it has gone)
@@ -59,7 +59,7 @@ def listed(pid: int) -> List[int]:
     return found
 
 
-def scanned() -> Callable[[int], List[int]]:
+def scanned_children() -> Callable[[int], List[int]]:
     """The same on a kernel without these lists: by the parents of all processes."""
     children: Dict[int, List[int]] = {}
     for name in filter(str.isdigit, os.listdir("/proc")):
@@ -69,7 +69,7 @@ def scanned() -> Callable[[int], List[int]]:
     return lambda pid: children.get(pid, [])
 
 
-def marked(variable: str, among: Optional[List[int]] = None) -> List[int]:
+def processes_with(variable: str, among: Optional[List[int]] = None) -> List[int]:
     """The processes that were started with a variable, NAME=VALUE, among these, or all; but for this one."""
     found = []
     for pid in map(int, filter(str.isdigit, os.listdir("/proc"))) if among is None else among:
@@ -120,12 +120,12 @@ def end_all_below() -> None:
         time.sleep(0.005)
 
 
-def framed(message: object) -> bytes:
+def frame(message: object) -> bytes:
     data = json.dumps(message).encode()
     return LENGTH.pack(len(data)) + data
 
 
-def received(channel: socket.socket) -> Tuple[Optional[Dict[str, object]], List[int]]:
+def receive(channel: socket.socket) -> Tuple[Optional[Dict[str, object]], List[int]]:
     """The next message, and the descriptors that came with it; none at the end."""
     data, handles, wanted = b"", [], LENGTH.size
     while len(data) < wanted:
@@ -141,13 +141,13 @@ def received(channel: socket.socket) -> Tuple[Optional[Dict[str, object]], List[
 
 
 class Forker:
-    """A process that forks runtimes (`forking`): it has the imports of one that was started by these words, in this
+    """A process that forks runtimes (`forker`): it has the imports of one that was started by these words, in this
     folder and with these variables."""
 
     def __init__(self, words: List[str], cwd: str, env: Mapping[str, str]):
         self.channel, its = socket.socketpair()
         self.channel.settimeout(FORKER_SECONDS)
-        path = os.path.join(os.path.dirname(os.path.realpath(__file__)), "forking.py")
+        path = os.path.join(os.path.dirname(os.path.realpath(__file__)), "forker.py")
         try:
             self.process = subprocess.Popen([*words[:-1], path, words[-1], str(its.fileno())], env=env, cwd=cwd,
                                             stdin=subprocess.DEVNULL, stdout=subprocess.DEVNULL,
@@ -161,14 +161,14 @@ class Forker:
             raise OSError("it cannot fork")
 
     def _answer(self) -> Dict[str, object]:
-        message = received(self.channel)[0]
+        message = receive(self.channel)[0]
         if message is None:
             raise OSError("it has ended")
         return message
 
     def start(self, cwd: str, env: Mapping[str, str], output: int) -> int:
         """The number of a runtime that it has forked, which is a child of this process."""
-        data = framed({"cwd": cwd, "env": dict(env)})
+        data = frame({"cwd": cwd, "env": dict(env)})
         sent = socket.send_fds(self.channel, [data], [output])
         self.channel.sendall(data[sent:])
         pid = self._answer().get("pid")
@@ -188,7 +188,7 @@ class Forker:
             self.process.wait()
 
 
-class Forked:
+class ForkedChild:
     """A child that another process has forked for this one."""
 
     def __init__(self, pid: int):
@@ -207,7 +207,7 @@ class Forkers:
         self.forkers: Dict[str, Optional[Forker]] = {}  # none for one that has failed
         self.seen: Dict[str, bool] = {}
 
-    def start(self, words: List[str], cwd: str, env: Mapping[str, str], output: int) -> Optional[Forked]:
+    def start(self, words: List[str], cwd: str, env: Mapping[str, str], output: int) -> Optional[ForkedChild]:
         """A runtime that was forked; none if it is to be started afresh. The first of its kind is."""
         kept = {name: value for name, value in env.items() if name not in OF_ENVIRONMENTS}
         key = json.dumps([words, cwd, sorted(kept.items())])
@@ -215,13 +215,13 @@ class Forkers:
             self.seen[key] = True
             return None
         try:
-            forker = self.forkers[key] if key in self.forkers else self._made(key, words, cwd, env)
-            return Forked(forker.start(cwd, env, output)) if forker else None
+            forker = self.forkers[key] if key in self.forkers else self._make(key, words, cwd, env)
+            return ForkedChild(forker.start(cwd, env, output)) if forker else None
         except (OSError, ValueError):
-            self._failed(key)
+            self._drop(key)
             return None
 
-    def _made(self, key: str, words: List[str], cwd: str, env: Mapping[str, str]) -> Optional[Forker]:
+    def _make(self, key: str, words: List[str], cwd: str, env: Mapping[str, str]) -> Optional[Forker]:
         if len(self.forkers) >= MOST_FORKERS:
             return None
         self.forkers[key] = None  # (until it is ready)
@@ -230,7 +230,7 @@ class Forkers:
         self.forkers[key] = found = Forker(words, cwd, own)
         return found
 
-    def _failed(self, key: str) -> None:
+    def _drop(self, key: str) -> None:
         forker = self.forkers.get(key)
         self.forkers[key] = None
         if forker is not None:
@@ -241,7 +241,7 @@ class Guard:
     def __init__(self, channel: socket.socket):
         self.channel = channel
         self.held: List[Tuple[str, str]] = []
-        self.started: Dict[int, "Union[subprocess.Popen[bytes], Forked]"] = {}
+        self.started: Dict[int, "Union[subprocess.Popen[bytes], ForkedChild]"] = {}
         self.forkers = Forkers()
         self.marks: Dict[int, str] = {}  # the variables of those, NAME=VALUE
         self.ended: Dict[int, int] = {}  # the statuses that the tool was sent
@@ -287,17 +287,17 @@ class Guard:
                 kill_tree(int(target))
         for kind, target in self.held:
             if kind == "marked":
-                self.end_marked(target)
+                self.end_by_mark(target)
         end_all_below()
         for kind, target in self.held:
             if kind == "folder":
                 shutil.rmtree(target, ignore_errors=True)
 
     @staticmethod
-    def end_marked(variable: str, among: Callable[[], Optional[List[int]]] = lambda: None) -> None:
+    def end_by_mark(variable: str, among: Callable[[], Optional[List[int]]] = lambda: None) -> None:
         """What lost its parent before, and so is below nothing that is held."""
         end = time.monotonic() + PATIENCE
-        while (found := marked(variable, among())) and time.monotonic() < end:
+        while (found := processes_with(variable, among())) and time.monotonic() < end:
             for pid in found:
                 kill_tree(pid)
             time.sleep(0.005)
@@ -306,7 +306,7 @@ class Guard:
 
     def answer(self) -> bool:
         """Does what the next message asks for; whether more can come."""
-        message, handles = received(self.channel)
+        message, handles = receive(self.channel)
         if message is None:
             return False
         try:
@@ -322,7 +322,7 @@ class Guard:
 
     def tell(self, message: object) -> None:
         with contextlib.suppress(OSError):  # (the tool has gone, which standard input says)
-            self.channel.sendall(framed(message))
+            self.channel.sendall(frame(message))
 
     def start(self, words: List[str], cwd: str, env: Dict[str, str], output: int, forks: bool) -> Dict[str, object]:
         mark = os.urandom(16).hex()
@@ -349,7 +349,7 @@ class Guard:
             child.wait()
             del self.started[pid]
             self.ended.pop(pid, None)
-            self.end_marked(self.marks.pop(pid), self.adopted)
+            self.end_by_mark(self.marks.pop(pid), self.orphans)
         self.tell({"gone": pid})
 
     def look(self) -> None:
@@ -360,17 +360,17 @@ class Guard:
                 if seen is not None:
                     self.ended[pid] = seen.si_status if seen.si_code == os.CLD_EXITED else -seen.si_status
                     self.tell({"ended": pid, "status": self.ended[pid]})
-        for pid in self.adopted():
+        for pid in self.orphans():
             with contextlib.suppress(ChildProcessError):
                 os.waitpid(pid, os.WNOHANG)
 
-    def adopted(self) -> List[int]:
+    def orphans(self) -> List[int]:
         return [pid for pid in self.children() if pid not in self.started]
 
     @staticmethod
     def children() -> List[int]:
         own = os.getpid()
-        return listed(own) or below(own)
+        return listed_children(own) or below(own)
 
 
 def main() -> None:

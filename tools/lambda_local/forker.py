@@ -2,7 +2,7 @@
 function. What it forks is a runtime as a fresh interpreter would be, for a fraction of the time: handlers and all that
 they import are loaded after the fork, each for itself.
 
-usage: forking.py RUNTIME DESCRIPTOR (the guard calls it, by the function's interpreter and with its variables)
+usage: forker.py RUNTIME DESCRIPTOR (the guard calls it, by the function's interpreter and with its variables)
 
 On the socket with that number it says {"ready": true} once, or {"reason": ..} and ends. Then each request, a length and
 JSON with "cwd" and "env" and the descriptor of the output, is answered by {"pid": ..}: the runtime's parent has ended
@@ -28,12 +28,12 @@ LENGTH = 4  # bytes, the most significant first
 MODULE = "lambda_local_runtime"
 
 
-def framed(message: object) -> bytes:
+def frame(message: object) -> bytes:
     data = json.dumps(message).encode()
     return len(data).to_bytes(LENGTH, "big") + data
 
 
-def received(channel: socket.socket) -> "Tuple[Optional[Request], int]":
+def receive(channel: socket.socket) -> "Tuple[Optional[Request], int]":
     """The next request with the descriptor that came with it; none at the end."""
     data, handles, wanted = b"", array.array("i"), LENGTH
     while len(data) < wanted:
@@ -54,10 +54,10 @@ def has_threads() -> bool:
     return len(os.listdir("/proc/self/task")) > 1
 
 
-def forked(channel: socket.socket) -> "Tuple[Optional[Request], int]":
+def serve(channel: socket.socket) -> "Tuple[Optional[Request], int]":
     """Serves requests. In each process that it forks, gives its request and its output; at the end, nothing."""
     while True:
-        request, output = received(channel)
+        request, output = receive(channel)
         if request is None:
             return None, -1
         reading, writing = os.pipe()
@@ -77,7 +77,7 @@ def forked(channel: socket.socket) -> "Tuple[Optional[Request], int]":
         os.close(reading)
         os.waitpid(between, 0)
         answer: "Dict[str, object]" = {"pid": int(pid)} if pid else {"reason": "it could not fork"}
-        channel.sendall(framed(answer))
+        channel.sendall(frame(answer))
 
 
 def become(path: str, request: "Request", output: int) -> types.ModuleType:
@@ -99,7 +99,7 @@ def become(path: str, request: "Request", output: int) -> types.ModuleType:
     return module
 
 
-def prepared(path: str, channel: socket.socket) -> "Optional[types.CodeType]":
+def prepare(path: str, channel: socket.socket) -> "Optional[types.CodeType]":
     """The code of the runtime, whose imports have been made; none if no fork could be as a fresh interpreter."""
     with open(path, "rb") as file:
         code: "types.CodeType" = compile(file.read(), path, "exec")
@@ -107,12 +107,12 @@ def prepared(path: str, channel: socket.socket) -> "Optional[types.CodeType]":
     module.__file__ = path
     exec(code, module.__dict__)  # (as a module it only defines)
     if has_threads():  # (what starts with the interpreter has started some, and a fork has none)
-        channel.sendall(framed({"reason": "there are threads"}))
+        channel.sendall(frame({"reason": "there are threads"}))
         return None
     if hasattr(gc, "freeze"):
         gc.freeze()
     del sys.modules["gc"]  # (a runtime has not imported it)
-    channel.sendall(framed({"ready": True}))
+    channel.sendall(frame({"ready": True}))
     return code
 
 
@@ -133,8 +133,8 @@ def leave(end: SystemExit) -> None:
 
 if __name__ == "__main__":
     _channel = socket.socket(fileno=int(sys.argv[2]))
-    _code = prepared(sys.argv[1], _channel)
-    _request, _output = forked(_channel) if _code is not None else (None, -1)
+    _code = prepare(sys.argv[1], _channel)
+    _request, _output = serve(_channel) if _code is not None else (None, -1)
     if _request is not None and _code is not None:
         _own = sys.modules["__main__"]  # (kept: its names are in use)
         try:

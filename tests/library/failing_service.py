@@ -1,0 +1,145 @@
+"""A front over a service that does what a check asks for: it answers, breaks its connection off, or says something
+else than HTTP."""
+import contextlib
+import json
+import re
+import socket
+import threading
+from types import SimpleNamespace
+from typing import Any, List, Tuple, cast
+
+from lambda_local.front.front import Front
+from lambda_local.front.settings import settings_of
+from lambda_local.outgoing import Log
+from tests.library.events_kit import Caller
+
+PATIENCE = 60  # seconds, on a machine that does much else
+STOPPED = b'{"Message":"Service is stopped","Type":"Service"}'
+NO_MEMORY = b'{"Message":"Out of memory","Type":"Service"}'
+IS_KNOWN = b'{"Type":"User","message":"Invocation type is not RequestResponse"}'
+
+
+def answer(status, body, *headers):
+    return "\r\n".join([f"HTTP/1.1 {status} X", f"Content-Length: {len(body)}", *headers, "", ""]).encode() + body
+
+
+MUCH = 64 << 10  # bytes of a result
+# What the service sends for an Invoke, and whether it keeps the connection then.
+DEEDS = {
+    "ok": (answer(200, b"1"), True),
+    "ok, and closes": (answer(200, b"1"), False),
+    "fails": (answer(200, b'{"errorType":"E"}', "X-Amz-Function-Error: Unhandled"), True),
+    "throttles": (answer(429, b"{}"), True),
+    "has no memory": (answer(500, NO_MEMORY, "Connection: close"), False),
+    "is stopped": (answer(500, STOPPED), True),
+    "closes": (b"", False),
+    "breaks off in the head": (b"HTTP/1.1 200 OK\r\nConte", False),
+    "breaks off in the body": (answer(200, b"1")[:-1], False),
+    "answers no HTTP": (b"hello\r\n\r\n", False),
+    "answers twice": (answer(200, b"1") + answer(200, b'"another\'s"'), True),
+    "fails with much": (answer(200, b'{"errorType":"' + b"x" * MUCH + b'"}', "X-Amz-Function-Error: Unhandled"),
+                        True),
+    "never answers": (b"", True),
+}
+
+
+class Service(threading.Thread):
+    """Does these deeds with its Invokes, one after the other, and then answers each. It notes each that it takes."""
+
+    def __init__(self, *deeds: str) -> None:
+        super().__init__(daemon=True)
+        self.deeds, self.connections, self.closed = list(deeds), 0, 0
+        self.runs: List[Tuple[int, str]] = []  # the number of each event, and the deed
+        self.heads: List[bytes] = []
+        self.payloads: List[Any] = []
+        self.listener = socket.create_server(("127.0.0.1", 0))
+        self.port = self.listener.getsockname()[1]
+        self.start()
+
+    def run(self):
+        with contextlib.suppress(OSError):
+            while True:
+                peer, _ = self.listener.accept()
+                self.connections += 1
+                threading.Thread(target=self.serve, args=(peer,), daemon=True).start()
+
+    def serve(self, peer):
+        self.answer(peer)
+        self.closed += 1
+
+    def answer(self, peer):
+        with peer, peer.makefile("rb") as stream, contextlib.suppress(OSError):
+            while head := b"".join(iter(stream.readline, b"\r\n")):
+                self.heads.append(head)
+                length = int(re.findall(rb"(?i)content-length: (\d+)", head)[0])
+                body = stream.read(length)
+                if len(body) < length:
+                    return
+                if b"/_local/" in head:
+                    peer.sendall(answer(200, b"{}"))
+                    continue
+                if b"Invocation-Type: Event" in head:
+                    peer.sendall(answer(400, IS_KNOWN))
+                    continue
+                deed = self.deeds.pop(0) if self.deeds else "ok"
+                payload = json.loads(body)  # (of an event, or its record)
+                self.runs.append((payload.get("requestPayload", payload)["number"], deed))
+                self.payloads.append(payload)
+                content, keeps = DEEDS[deed]
+                peer.sendall(content)
+                if not keeps:
+                    return
+
+    def close(self):
+        self.listener.shutdown(socket.SHUT_RDWR)
+        self.listener.close()
+
+
+class Reports(List[Any]):
+    """What a front reports of events; `lines` are all that it reports."""
+
+    def __init__(self) -> None:
+        super().__init__()
+        self.lines: List[str] = []
+
+
+@contextlib.contextmanager
+def front_of(service, **members):
+    """A front over this service, a caller of it, and its Reports."""
+    whole = {"functions": [{"name": "f"}, {"name": "sink"}],
+             "asynchronous": {"delays": [0.05], "onFailure": "sink", **members}}
+    told = Reports()
+
+    def log(_who, text, **members):
+        told.lines.append(text)
+        if members.get("kind") == "event":
+            told.append(SimpleNamespace(text=text, **members))
+
+    front = Front(settings_of(whole), "up.json", 5, cast(Log, log))
+    configuration = {"region": "us-east-1", "account": "123456789012",
+                     "functions": [{"name": name, "ports": [1]} for name in ("f", "sink")]}
+    made: Any = SimpleNamespace(port=service.port, configuration=configuration)
+    front.serve(made)
+    try:
+        with Caller(made.endpoint_url) as caller:
+            yield front, caller, told
+    finally:
+        front.end()
+
+
+def statuses(told, function="f"):
+    """What was reported of the events of a function, in order."""
+    return [line.status for line in told if line.function == function]
+
+
+def answer_to(front, data, seconds=PATIENCE):
+    """The status and body of the answer to these bytes."""
+    with socket.create_connection(("127.0.0.1", front.invoke_listener.getsockname()[1]), timeout=seconds) as peer:
+        peer.sendall(data)
+        with peer.makefile("rb") as stream:
+            status = 100
+            while status == 100:
+                status = int((stream.readline() or b"HTTP/1.1 0").split(b" ")[1])
+                head = b"".join(iter(stream.readline, b"\r\n")) if status else b""
+            length = re.search(rb"(?i)content-length: (\d+)", head)
+            return status, stream.read(int(length[1])) if length else b""

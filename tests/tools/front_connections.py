@@ -1,0 +1,210 @@
+"""Checks the connections at a front's ports and to its service: what the service is asked, that each caller gets its
+own answer, who has a place, and who takes too long."""
+import asyncio
+import errno
+import json
+import os
+import socket
+import struct
+import time
+
+from lambda_local.front import patience
+from lambda_local.front.client import NoDescriptor
+from lambda_local.front.tasks import begin_task
+from tests.library.cases import Case
+from tests.library.events_kit import invoke_path
+from tests.library.failing_service import PATIENCE, Service, answer_to, front_of
+from tests.library.up_kit import until
+
+STATS = b"GET /_local/stats HTTP/1.1\r\nHost: a\r\n\r\n"
+
+
+def is_closed(peer):
+    try:
+        return peer.recv(1) == b""
+    except ConnectionResetError:
+        return True
+
+
+class Exhausted:
+    """A listener of a process that has no descriptor for a newcomer, for so many times."""
+
+    def __init__(self, listener, times):
+        self.listener, self.times, self.tried = listener, times, []
+        self.fileno, self.close = listener.fileno, listener.close
+
+    def accept(self):
+        self.tried.append(time.monotonic())
+        if len(self.tried) <= self.times:
+            raise OSError(errno.EMFILE, os.strerror(errno.EMFILE))
+        return self.listener.accept()
+
+
+def drips(peer, data):
+    """Sends a byte; whether the connection is still open."""
+    try:
+        if data:
+            peer.sendall(bytes([next(data)]))
+        peer.setblocking(False)
+        return peer.recv(1) != b""
+    except BlockingIOError:
+        return True
+    except OSError:
+        return False
+    finally:
+        peer.setblocking(True)
+
+
+class FrontConnections(Case):
+    def test_synchronous(self):
+        """What is passed on is sent once, whatever becomes of it."""
+        for deed in ("closes", "breaks off in the head", "has no memory"):
+            service = Service(deed)
+            with front_of(service) as (_, caller, _):
+                try:
+                    seen = caller.ask("POST", invoke_path("f"), b'{"number":1}')[0]
+                except Exception as fault:
+                    seen = type(fault).__name__
+                wanted = 500 if deed == "has no memory" else "RemoteDisconnected"
+                self.check(f"an invocation that {deed}: its caller sees it", seen, wanted)
+                time.sleep(0.1)
+                self.check("it is sent once", service.runs, [(1, deed)])
+
+    def test_written_anew(self):
+        """What the service is asked is the front's own: whatever else a head has, it does not come there."""
+        service = Service("ok", "ok", "ok")
+        with front_of(service) as (front, caller, _):
+            path = invoke_path("f")
+            own = f"Host: 127.0.0.1:{service.port}\r\n"
+            for name, data, wanted in (
+                    ("much else",
+                     f"POST {path}?Qualifier=$LATEST HTTP/1.1\r\nHost: localhost\r\nConnection: x-one, close\r\n"
+                     "X-One: 1\r\nX-Amzn-Trace-Id: Root=1\r\nx-amzn-trace-id: Root=2\r\nExpect: 100-continue\r\n"
+                     "Content-Length: 012\r\nContent-Length: 012\r\nUpgrade: h2c\r\n\r\n",
+                     f"POST {path}?Qualifier=$LATEST HTTP/1.1\r\n{own}X-Amzn-Trace-Id: Root=1\r\n"
+                     "Content-Length: 12\r\n"),
+                    ("absolute form", f"POST http://a.localhost{path} HTTP/1.0\r\nContent-Length: 12\r\n\r\n",
+                     f"POST {path} HTTP/1.1\r\n{own}Content-Length: 12\r\n")):
+                service.heads.clear()
+                status, _ = answer_to(front, data.encode() + b'{"number":1}')
+                self.check(f"what the service is asked: {name}", (status, service.heads), (200, [wanted.encode()]))
+            service.heads.clear()
+            chunked = (f"POST {path} HTTP/1.1\r\nHost: a\r\nTransfer-Encoding: chunked\r\n\r\n").encode()
+            status, _ = answer_to(front, chunked + b'6;x=y\r\n{"numb\r\n6\r\ner":1}\r\n0\r\nHost: evil\r\n\r\n')
+            self.check("what the service is asked: a body in chunks", (status, service.heads),
+                       (200, [f"POST {path} HTTP/1.1\r\n{own}Content-Length: 12\r\n".encode()]))
+            absolute = f"POST http://localhost{path} HTTP/1.1\r\nHost: a\r\nX-Amz-Invocation-Type: Event\r\n"
+            self.check("an event in absolute form is taken",
+                       answer_to(front, absolute.encode() + b'Content-Length: 12\r\n\r\n{"number":2}')[0], 202)
+
+    def test_silent(self):
+        """A connection on which more has come than its answer is not used again."""
+        service = Service("answers twice")
+        with front_of(service) as (_, caller, _):
+            seen = [caller.ask("POST", invoke_path("f"), b'{"number":%d}' % number)[2] for number in range(3)]
+            self.check("each caller gets its own answer", (seen, service.connections), ([b"1"] * 3, 2))
+
+    def test_places(self):
+        """A newcomer takes the place of the one that has waited longest; the service's own requests always get in."""
+        service = Service(*["never answers"] * 4)
+        with front_of(service) as (front, _, _):
+            front.places.most, front.places.reserve = 4, 2
+            address = ("127.0.0.1", front.invoke_listener.getsockname()[1])
+            idle = [socket.create_connection(address, timeout=PATIENCE) for _ in range(3)]
+            until(lambda: len(front.places.taken) >= 3, PATIENCE)
+            idle[0].sendall(b"GET /_local/stats HT")  # (a head that does not come is no request)
+            used = socket.create_connection(address, timeout=PATIENCE)
+            for _ in range(2):
+                used.sendall(STATS)
+                used.recv(4096)
+            newcomer = socket.create_connection(address, timeout=PATIENCE)
+            self.check("the one that has waited longest is closed", is_closed(idle[0]), True)
+            newcomer.sendall(STATS)
+            self.check("the newcomer is served", newcomer.recv(4096)[:12], b"HTTP/1.1 200")
+            busy = []
+            for number in range(4):
+                busy.append(socket.create_connection(address, timeout=PATIENCE))
+                head = f"POST {invoke_path('f')} HTTP/1.1\r\nHost: a\r\nContent-Length: 12\r\n\r\n"
+                busy[-1].sendall(head.encode() + b'{"number":%d}' % number)
+            until(lambda: len(service.runs) == 4, PATIENCE)
+            self.check("requests that are served keep their places", (len(service.runs), len(front.places.taken)),
+                       (4, 4))
+            self.check("stats get in", answer_to(front, STATS)[0], 200)
+            status, body = answer_to(front, f"POST {invoke_path('f')} HTTP/1.1\r\nHost: a\r\n\r\n".encode())
+            self.check("nothing else does", (status, json.loads(body)),
+                       (503, {"Message": "All places for connections are taken", "Type": "Service"}))
+            further = [socket.create_connection(address, timeout=PATIENCE) for _ in range(20)]
+            until(lambda: len(front.places.taken) <= 6, PATIENCE)
+            self.check("no more than the places and the reserve are taken", len(front.places.taken) <= 6, True)
+            self.check("stats get in still", answer_to(front, STATS)[0], 200)
+            for peer in (*idle, used, newcomer, *busy, *further):
+                peer.setsockopt(socket.SOL_SOCKET, socket.SO_LINGER, struct.pack("ii", 1, 0))  # (it is reset)
+                peer.close()
+            self.check("all places are free again", until(lambda: not front.places.taken, PATIENCE), True)
+
+    def test_descriptors(self):
+        """Without a descriptor for a newcomer, those that are idle make room, one line says so, and it recovers."""
+        def without(*_):
+            raise NoDescriptor
+
+        with front_of(Service()) as (front, _, told):
+            address = ("127.0.0.1", front.invoke_listener.getsockname()[1])
+            idle = [socket.create_connection(address, timeout=PATIENCE) for _ in range(3)]
+            until(lambda: len(front.places.taken) == 3, PATIENCE)
+            listener = front.servers[0].newcomers.listener = Exhausted(front.servers[0].newcomers.listener, 5)
+            begun = time.monotonic()
+            self.check("a caller is served once there is one", answer_to(front, STATS)[0], 200)
+            passed = time.monotonic() - begun
+            self.check("those that were idle have made room", [is_closed(peer) for peer in idle], [True] * 3)
+            self.check("it is not tried again and again", (len(listener.tried) < 10, passed > 0.4), (True, True))
+            kept, front.client.connection = front.client.connection, without
+            status, body = answer_to(front, STATS)
+            front.client.connection = kept
+            self.check("nor is there one to the service", (status, json.loads(body)["Message"]),
+                       (503, "There are too many connections (ulimit -n)"))
+            self.check("one line says so", sum("there is no descriptor" in line for line in told.lines), 1)
+            self.check("and all goes on", answer_to(front, STATS)[0], 200)
+
+    def test_tasks(self):
+        """A task that ends by an exception is told; one that is cancelled is not."""
+        async def fails():
+            raise ValueError("no")
+
+        async def begin():
+            tasks = [begin_task(fails(), "the one", told.append),
+                     begin_task(asyncio.sleep(9), "the other", told.append)]
+            await asyncio.sleep(0)
+            tasks[1].cancel()
+            await asyncio.gather(*tasks, return_exceptions=True)
+            await asyncio.sleep(0)
+
+        told = []
+        asyncio.run(begin())
+        self.check("what is told of two tasks", told, ["the one cannot go on: ValueError('no')"])
+
+    def test_slow_peers(self):
+        """A head has its time as a whole, a body its rate, and what is idle its own (docs/formats.md)."""
+        kept = {name: getattr(patience, name) for name in ("HEAD_SECONDS", "WHOLE_HEAD_SECONDS", "SLOWEST")}
+        patience.HEAD_SECONDS, patience.WHOLE_HEAD_SECONDS, patience.SLOWEST = 3, 6, 1000
+        try:
+            with front_of(Service()) as (front, _, _):
+                address = ("127.0.0.1", front.invoke_listener.getsockname()[1])
+                head = f"POST {invoke_path('f')} HTTP/1.1\r\nHost: a\r\n".encode()
+                peers = {name: socket.create_connection(address, timeout=PATIENCE)
+                         for name in ("nothing", "half a head", "a head byte by byte", "a body byte by byte")}
+                peers["half a head"].sendall(head)
+                peers["a body byte by byte"].sendall(head + b"Content-Length: 1000\r\n\r\n")
+                began, lived = time.monotonic(), {}
+                dripping = {"a head byte by byte": iter(head), "a body byte by byte": iter(b"x" * 1000)}
+                while len(lived) < len(peers) and time.monotonic() < began + PATIENCE:
+                    for name, peer in peers.items():
+                        if name not in lived and not drips(peer, dripping.get(name)):
+                            lived[name] = time.monotonic() - began
+                    time.sleep(0.25)
+                self.check("each is closed", sorted(lived), sorted(peers))
+                self.check("what is silent before what is slow", lived["half a head"] < lived["a head byte by byte"],
+                           True)
+                self.check("a slow head has its whole time", lived["a head byte by byte"] > 5.5, True)
+        finally:
+            for name, value in kept.items():
+                setattr(patience, name, value)

@@ -1,0 +1,77 @@
+"""Runtimes with one mistake each in what they leave behind of many invocations. A class is named after its mistake, and
+`check` is the check that catches it."""
+import os
+import socket
+import sys
+import threading
+import time
+
+from shared_mistakes import is_scenario
+from sound_runtime import Parts, Runtime
+
+
+class EndsAfterFortyInvocations(Runtime):
+    check, count, settings = "many_invocations", 0, {"invocations": 100}
+
+    def respond(self, request, output):
+        super().respond(request, output)
+        self.count += 1
+        if self.count == 40:
+            sys.exit(0)
+
+
+class OpensAFileForEachError(Runtime):
+    check, files, settings = "descriptors", [], {"invocations": 200}
+
+    def fails(self, request, fault):
+        self.files.append(open(os.devnull))
+        super().fails(request, fault)
+
+
+class StartsAThreadForEachError(Runtime):
+    check, settings = "threads", {"invocations": 200}
+
+    def fails(self, request, fault):
+        threading.Thread(target=time.sleep, args=(1000,), daemon=True).start()
+        super().fails(request, fault)
+
+
+class KeepsItsConnections(Runtime):
+    """Opens a new one for each response, and closes none."""
+    check, kept, settings = "descriptors", [], {"invocations": 100}
+
+    def respond(self, request, output):
+        if isinstance(output, Parts) or not is_scenario("a_thousand"):
+            return super().respond(request, output)
+        other = Runtime()
+        self.kept.append(other)
+        return other.ask("POST", f"invocation/{request}/response", self.dump(output))
+
+
+class ListensForEach(Runtime):
+    check, kept, settings = "descriptors", [], {"invocations": 100}
+
+    def read(self, payload):
+        if len(payload) > 10_000 and is_scenario("a_thousand"):
+            self.kept.append(socket.create_server(("127.0.0.1", 0)))
+        return super().read(payload)
+
+
+class KeepsEveryOutput(Runtime):
+    check, kept, settings = "memory", [], {"invocations": 800}
+
+    def dump(self, output):
+        body = super().dump(output)
+        self.kept.append(bytearray(body))
+        return body
+
+
+class LogsToAFile(Runtime):
+    """All events, each in a file of its own."""
+    check, settings = "files", {"invocations": 100}
+
+    def read(self, payload):
+        if len(payload) > 10_000 and is_scenario("a_thousand"):
+            with open(os.path.join(os.environ.get("TMPDIR", "/tmp"), f"log.{time.monotonic_ns()}"), "wb") as file:
+                file.write(payload)
+        return super().read(payload)
