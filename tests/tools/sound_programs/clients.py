@@ -3,6 +3,7 @@
 in the same order. A class is named after its client, or after what it does otherwise than most.
 
 usage: clients.py SHAPE   (in a folder with the kit's handlers, as the kit starts a runtime)"""
+import contextlib
 import json
 import os
 import select
@@ -326,6 +327,23 @@ class TwoConnections(Runtime):
             return super().next()
         finally:
             self.connection = other
+
+
+class EnablesSigterm(Runtime):
+    """As aws-lambda-go and lambda_runtime do: an internal extension without events, whose one Next waits for ever."""
+
+    def begin(self):
+        threading.Thread(target=self.wait_for_ever, daemon=True).start()
+
+    def wait_for_ever(self):
+        extension = Connection(self.address)
+        with contextlib.suppress(ConnectionError):
+            extension.request("POST", "/2020-01-01/extension/register", b'{"events":[]}',
+                              {"Lambda-Extension-Name": "GoLangEnableSIGTERM"})
+            identifier = extension.answer().headers["Lambda-Extension-Identifier"]
+            extension.request("GET", "/2020-01-01/extension/event/next", None,
+                              {"Lambda-Extension-Identifier": identifier})
+            extension.answer()
 
 
 class ThreadForEach(Runtime):

@@ -57,6 +57,29 @@ class Telemetry(Extension):
             super().shut_down(reason)
 
 
+class WaitsForTheEnd(Extension):
+    """As collectors do: it asks for the next event only once it has been sent the end of the invocation."""
+
+    def begin(self):
+        self.ended, self.taking = set(), threading.Condition()
+
+    def taken(self, batch):
+        with self.taking:
+            self.ended.update(event["record"]["requestId"] for event in batch
+                              if event["type"] == "platform.runtimeDone")
+            self.taking.notify_all()
+        return super().taken(batch)
+
+    def subscribed(self, answer):
+        self.takes = answer.status == 200
+
+    def invoked(self, event):
+        super().invoked(event)
+        with self.taking:
+            self.taking.wait_for(lambda: event["requestId"] in self.ended or not self.takes)
+            self.ended.discard(event["requestId"])
+
+
 class LogsApi(Extension):
     """The older API."""
 

@@ -149,6 +149,16 @@ class AsksForTheRuntimesInvocation(Extension):
             self.ask("GET", "/2018-06-01/runtime/invocation")
 
 
+class AsksAsARuntime(Extension):
+    """While the runtime works, so that it is refused."""
+    check = "known_requests"
+
+    def invoked(self, event):
+        super().invoked(event)
+        if is_scenario("invocations"):
+            self.ask("POST", f"/2018-06-01/runtime/invocation/{event['requestId']}/response", {})
+
+
 class SubscribesByPost(Extension):
     check = "known_requests"
 

@@ -32,6 +32,15 @@ class BuildsTheArn(Runtime):
         return context
 
 
+class HasRoomForAShortArn(Runtime):
+    check = "function_arn"
+
+    def context(self, headers):
+        context = super().context(headers)
+        context.invoked_function_arn = context.invoked_function_arn[:80]
+        return context
+
+
 class ReadsTheDeadlineAsSeconds(Runtime):
     check = "deadline"
 

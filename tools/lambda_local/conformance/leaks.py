@@ -15,9 +15,9 @@ LEAST_PARTS = 6  # that a judgement takes
 EACH = 0.02  # of one thing, that is left behind for a request at least
 LEAKED = 12  # of one thing, that are left behind at least
 LARGEST = 4  # times as often as is asked for it is repeated, for as long as memory grows
-STEP = 200_000  # bytes by which memory grows in each part, at least, if it does not stop
-GROWN, SUSPECT = 4_000_000, 2_500_000  # and in all; and as much that it is worth to go on
-EVEN = 0.5  # of the growth before, that there is still at the end
+GROUPS = 8  # of looks, between which memory grows if it does not stop
+SHARE = 0.2  # of what it grows by on average, that it grows by between two of these at least
+LONG = 3  # times as many requests as asked for, of which a collector has surely had its turn
 READ = 200_000  # bytes of a file that are searched
 FILE = 1000  # bytes of a file that may be one for each request; a larger one is a payload
 LEFT = 5  # files, from which on they are one for each
@@ -26,6 +26,18 @@ LEFT = 5  # files, from which on they are one for each
 class Look(NamedTuple):
     done: int
     holds: Holds
+
+
+class Rule(NamedTuple):
+    """From which growth on memory does not stop growing."""
+    least: int  # bytes
+    even: float  # of the growth in the first half, that there is in the second one
+    nearly: float  # of the groups, in which there is some
+
+
+SUSPECT = Rule(1_500_000, 0.1, 0.0)  # that it is worth to go on
+CERTAIN = Rule(4_000_000, 0.5, 0.75)
+AFTER_LONG = Rule(4_000_000, 0.4, 0.5)
 
 
 class Looks:
@@ -56,23 +68,25 @@ class Looks:
             return (FAIL if more >= LEAKED else NOTE), f"{last} invocations are too few to tell: {words}"
         return (FAIL if more >= max(LEAKED, EACH * (last - first)) else PASS), words
 
-    def grows(self, least: int = GROWN) -> int:
-        """Whether memory has grown in each of the last parts, evenly, and by as many bytes at least: those for each
-        request; 0 if not."""
+    def grows(self, rule: "Rule") -> int:
+        """Whether memory has grown evenly, in nearly each group of the last looks, and by as many bytes at least: those
+        for each request; 0 if not."""
         values = self._values("memory")
         if len(values) < LEAST_PARTS + 2:
             return 0
-        tail = values[len(values) // 4:]
-        half = len(tail) // 2
-        # (the least of two looks: what a collector frees is no growth)
-        first, middle, last = min(tail[:2]), min(tail[half:half + 2]), min(tail[-2:])
-        lowest = [min(tail[place:]) for place in range(len(tail))]
-        steps = sum(after - before > STEP for before, after in zip(lowest, lowest[1:]))
-        even = last - middle >= EVEN * (middle - first)
-        grown = last - first
-        if grown < least or not even or steps < (len(tail) - 1) * 0.6:
+        quarter = len(values) // 4
+        tail = values[quarter:]
+        # (the least of a group, and of those behind it: what a collector frees is no growth, and an allocator takes
+        # memory now and then, many requests' at once)
+        size = max(2, len(tail) // GROUPS)
+        lowest = [min(tail[place:]) for place in range(0, len(tail) - size + 1, size)]
+        steps = [after - before for before, after in zip(lowest, lowest[1:])]
+        first, middle, last = lowest[0], lowest[len(lowest) // 2], lowest[-1]
+        grown, average = last - first, (last - first) / max(1, len(steps))
+        rising = sum(step > SHARE * average for step in steps)
+        if grown < rule.least or last - middle < rule.even * (middle - first) or rising < rule.nearly * len(steps):
             return 0
-        return int(grown // max(1, self.done - self._looks[len(values) // 4].done))
+        return int(grown // max(1, self._looks[-size].done - self._looks[quarter].done))
 
     def memory(self) -> str:
         values = self._values("memory")
@@ -108,7 +122,7 @@ def judge(stage: Stage, looks: Looks, names: Dict[str, str], wanted: int) -> Non
     stage.jury.judge(names["processes"], left, words)
     if left == FAIL:  # (each has memory, descriptors and threads of its own)
         return stage.jury.rest(NOTE, "not judged: it leaves processes behind")
-    rate = looks.grows()
+    rate = looks.grows(AFTER_LONG if looks.done >= LONG * wanted else CERTAIN)
     too_few = looks.done < wanted
     if rate:
         stage.jury.judge(names["memory"], FAIL, f"it does not stop growing: {rate:,} bytes more with each invocation, "

@@ -1,4 +1,7 @@
-"""HTTP/1.1 messages cut out of a stream of bytes (RFC 9112), for the proxy, which forwards bytes and reads along."""
+"""HTTP/1.1 messages cut out of a stream of bytes (RFC 9112), for the proxy, which forwards bytes and reads along.
+
+It is lenient on purpose: what it cannot read it forwards all the same, and the service, whose reader is strict, judges
+it. So a program meets the answer that it would have without the proxy."""
 from typing import Callable, Dict, Optional
 
 

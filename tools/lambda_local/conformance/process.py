@@ -7,7 +7,7 @@ import subprocess
 import tempfile
 import threading
 import time
-from typing import IO, Any, Callable, Dict, Iterator, List, NamedTuple, Protocol, Set
+from typing import IO, Any, Callable, Dict, Iterator, List, NamedTuple, Optional, Protocol, Set
 
 from ..guard import GUARD
 from ..service import Fault
@@ -142,9 +142,10 @@ class Process:
     def ended(self) -> bool:
         return self._ended.is_set()
 
-    def wait(self, seconds: float) -> bool:
-        """Whether it ends within this many seconds, by its own time, which `own` has then."""
-        self.own = OwnTime(self.number)
+    def wait(self, seconds: float, since: Optional[float] = None) -> bool:
+        """Whether it ends within this many seconds, from now on or since a moment of `time.monotonic`, by its own time,
+        which `own` has then."""
+        self.own = OwnTime(self.number, since)
         while not self._ended.wait(max(0.001, min(LOOK, seconds - self.own.seconds))):
             if self.own.look() >= seconds:
                 return False

@@ -1,6 +1,7 @@
 """What a run says: a line for each check, for a FAIL what was expected, by which page, what came, what the connections
 show, and the timeline. FAILs of one cause are told once and then counted."""
 import argparse
+import itertools
 import os
 import subprocess
 from typing import Any, Callable, Dict, Iterable, List, Optional, Set
@@ -12,7 +13,7 @@ from .causes import Causes
 from .clock import CLOCK
 from .kit import FAIL, NOTE, PASS, SHOULD, Verdict
 
-LINES, WIDTH = 24, 200  # of a timeline as text
+LINES, WIDTH = 24, 200  # of a timeline as text, and lines of what the kit did
 
 
 def draw(history: str, *options: Any) -> str:
@@ -22,10 +23,19 @@ def draw(history: str, *options: Any) -> str:
 
 
 def text_timeline(history: str) -> List[str]:
-    lines = [line if len(line) <= WIDTH else line[:WIDTH] + "\u2026" for line in draw(history).splitlines()]
-    if len(lines) > LINES:
-        lines = [*lines[:LINES // 2], f".. {len(lines) - LINES} lines ..", *lines[-LINES // 2:]]
-    return lines
+    """The timeline of a history as lines that are neither too long nor too many."""
+    return shortened(line if len(line) <= WIDTH else line[:WIDTH] + "\u2026" for line in draw(history).splitlines())
+
+
+def shortened(lines: Iterable[str]) -> List[str]:
+    """Each line once, with how often it comes if it comes several times in a row; of many the first and the last."""
+    told = []
+    for line, same in itertools.groupby(lines):
+        count = sum(1 for _ in same)
+        told.append(line if count == 1 else f"{line} ({count:,} times)")
+    if len(told) > LINES:
+        told = [*told[:LINES // 2], f".. {len(told) - LINES} lines ..", *told[-LINES // 2:]]
+    return told
 
 
 class Report:
@@ -93,7 +103,7 @@ class Report:
     def _details(self, verdict: Verdict) -> List[str]:
         lines = [*self._rule(verdict), *(f"wire      {line}" for line in verdict.seen.wire)]
         if verdict.seen.history:
-            lines += [f"kit       {act}" for act in verdict.seen.acts]
+            lines += [f"kit       {act}" for act in shortened(verdict.seen.acts)]
             if verdict.scenario in self._timelines:
                 lines.append("timeline  as above")
             else:

@@ -12,8 +12,8 @@ LEAST, MOST = 2, 5  # times that a scenario is played by itself before it counts
 SECONDS = 6  # after which it is played no more than the least
 AT_ONCE = 3  # copies of it that are played beside one another
 # What shows that a program has done something wrong; and that it has only not done it in time, which a busy machine may
-# be the reason of.
-DONE = re.compile(r"received|in place of|came as|twice|second Next|-> 4\d\d|sees the|responses to each")
+# be the reason of. (403 is the answer to what comes in another phase, so also too late.)
+DONE = re.compile(r"received|in place of|came as|twice|second Next|-> 4(?!03)\d\d|sees the|responses to each")
 NOT_IN_TIME = re.compile(r"[Tt]imeout|timed out|ExitError|no answer|within|it ended")
 
 

@@ -32,6 +32,8 @@ MALFORMED = (400, 404, 405, 411, 414, 431, 501, 505)  # statuses of requests tha
 REFUSED = 3  # polls that are refused for what they are, after which it is not waited for another one
 TWO_POLLS = "there is a second Next while one waits"
 RESTARTS = "its command starts other processes in place of those that have ended"
+LONGEST_NAME = 64  # letters of a function's name
+LONG_NAME = "_of_a_function_whose_name_has_as_many_letters_as_Lambda_allows"
 STAGES = itertools.count()
 
 
@@ -89,13 +91,14 @@ class Stage:
     def __init__(self, tools: Tools, scenario: Scenario, jury: Jury, environments: int = 1, timeout: int = 30,
                  handler: str = KITS_HANDLER, start: bool = True, extensions: Sequence[str] = (), lasts: int = 0,
                  drawn: bool = True, first: bool = False, variables: Optional[Dict[str, str]] = None,
-                 judged: str = FAIL) -> None:
+                 judged: str = FAIL, has_long_name: bool = False) -> None:
         self.tools, self.scenario, self.jury, self.variables = tools, scenario, jury, dict(variables or {})
         # (the service's clock is the real one: on a busy machine a function has more of it)
         self.is_long, self.is_first = timeout > SILENT, first  # (no handler takes as long)
         self.timeout = timeout = math.ceil(timeout * CLOCK.slowness())
         self.patience = tools.options.init_seconds + PATIENCE
-        self.name, self._cause = scenario.name, ""
+        self.name = (scenario.name + LONG_NAME)[:LONGEST_NAME] if has_long_name else scenario.name
+        self._cause = ""
         function = {"name": self.name, "handler": handler, "timeout": timeout, "ports": [0] * environments,
                     "extensions": list(extensions)}
         configuration = {"account": ACCOUNT, "region": REGION, "salt": salt(), "functions": [function]}
@@ -187,14 +190,14 @@ class Stage:
         """Invokes the function, and again if no environment is free yet. Returns what its caller received."""
         headers = {"X-Amzn-Trace-Id": trace} if trace else {}
         path = f"/2015-03-31/functions/{self.name}/invocations" + ("?Qualifier=$LATEST" if qualified else "")
-        end = CLOCK.now() + ANSWERED_WITHIN
+        end, own = CLOCK.now() + ANSWERED_WITHIN, OwnTime(self.environment.process.number)
         while True:
             answer = self._received(path, compact(event), headers)
             if answer.status == 200:
                 return answer
             if answer.status != 429:
                 raise Missing(f"the caller received {answer.status} {shown(answer.body)}")
-            if CLOCK.now() > end:
+            if own.look() > ANSWERED_WITHIN and CLOCK.now() > end:
                 raise Missing(f"it did not ask for its next invocation within {ANSWERED_WITHIN} s: {self.said()}")
             time.sleep(0.05)
 

@@ -115,6 +115,12 @@ def is_asleep(processes: Iterable[int]) -> bool:
                for process in processes for thread in threads_of(process))
 
 
+def worked(processes: Iterable[int]) -> float:
+    """Seconds of a processor that these and their ended children have had. (In steps of a hundredth.)"""
+    found = [fields(f"/proc/{process}/stat")[11:15] for process in processes]
+    return sum(int(ticks) for words in found for ticks in words) / TICKS
+
+
 def resident(process: int) -> int:
     try:
         with open(f"/proc/{process}/statm") as file:
@@ -132,13 +138,14 @@ def open_descriptors(process: int) -> int:
 
 class OwnTime:
     """How long a session's processes take by themselves. While they sleep, that is the real time; while they could
-    work, it is the part of it in which this machine gives them a processor. So a program that waits too long is late on
-    a busy machine too, and one that is not served is not."""
+    work, it is the time of a processor that this machine gives them. So a program that waits too long is late on a busy
+    machine too, and one that is not served is not."""
 
-    def __init__(self, session: int) -> None:
+    def __init__(self, session: int, since: Optional[float] = None) -> None:
         self._session, self._listed = session, 0.0
         self._members: List[int] = []
-        self._begun = self._at = time.monotonic()
+        self._begun = self._at = time.monotonic() if since is None else since
+        self._worked: Optional[float] = None  # at the last look, if that was one at a busy machine
         self.seconds, self.real = 0.0, 0.0
 
     def look(self) -> float:
@@ -147,8 +154,17 @@ class OwnTime:
         passed, self._at = now - self._at, now
         self.real += passed
         slowness = CLOCK.slowness()
-        is_whole = slowness < CALM or (self.real > BRIEF and self._asleep(now))
-        self.seconds += passed if is_whole else passed / slowness
+        if slowness < CALM:
+            self.seconds, self._worked = self.seconds + passed, None
+            return self.seconds
+        before, is_listed = self._worked, self._list(now)
+        self._worked = worked(self._members)
+        if self.real > BRIEF and is_asleep(self._members):
+            self.seconds += passed
+        elif before is not None and is_listed:
+            self.seconds += min(passed, max(0.0, self._worked - before))
+        else:
+            self.seconds += passed / slowness
         return self.seconds
 
     def has_others(self) -> bool:
@@ -156,7 +172,9 @@ class OwnTime:
         have ended."""
         return any(began_after(number, self._begun) for number in members(self._session))
 
-    def _asleep(self, now: float) -> bool:
-        if now - self._listed > LISTED:
-            self._members, self._listed = members(self._session), now
-        return is_asleep(self._members)
+    def _list(self, now: float) -> bool:
+        """Lists the processes anew now and then. Returns whether they are those of the last look."""
+        if now - self._listed <= LISTED:
+            return True
+        before, self._members, self._listed = self._members, members(self._session), now
+        return before == self._members

@@ -26,14 +26,23 @@ BATCHES: Dict[str, List[Dict[str, Any]]] = {
 }
 
 
+def end_of(request: str, status: str, is_of_logs: bool) -> List[Dict[str, Any]]:
+    """What Lambda sends once the function is done with an invocation: `success`, `error` or `timeout`. The first schema
+    of the Logs API has `platform.end` for it."""
+    start = {"requestId": request, "version": "$LATEST"}
+    kinds = ("platform.end", "platform.runtimeDone") if is_of_logs else ("platform.runtimeDone",)
+    return [{"time": AT, "type": "platform.start", "record": start},
+            *({"time": AT, "type": kind, "record": {"requestId": request, "status": status}} for kind in kinds)]
+
+
 class NothingListens(Exception):
     """There is no receiver where it says."""
 
 
-def fault_over_http(address: str, batch: List[Dict[str, Any]]) -> Optional[str]:
+def fault_over_http(address: str, batch: List[Dict[str, Any]], seconds: float) -> Optional[str]:
     """What is wrong with the answer to a batch, in words; none if it is taken."""
     to = urllib.parse.urlsplit(address)
-    connection = http.client.HTTPConnection(HERE, to.port, timeout=ANSWERED_SECONDS)
+    connection = http.client.HTTPConnection(HERE, to.port, timeout=seconds)
     try:
         connection.connect()
     except OSError:
@@ -44,7 +53,7 @@ def fault_over_http(address: str, batch: List[Dict[str, Any]]) -> Optional[str]:
         status = connection.getresponse().status
         return None if 200 <= status < 300 else f"is answered {status}, and comes again and again"
     except socket.timeout:
-        return f"is not answered within {ANSWERED_SECONDS:g} s"
+        return f"is not answered within {seconds:g} s"
     except (OSError, http.client.HTTPException) as fault:
         return f"is answered by no HTTP ({type(fault).__name__})"
     finally:
@@ -69,14 +78,16 @@ class Receiver(NamedTuple):
     destination: Dict[str, Any]
     is_of_logs: bool  # subscribed at the Logs API, whose schema is an older one
 
+    takes_platform: bool = True  # whether it has asked for the platform's events
+
     @property
     def is_over_tcp(self) -> bool:
         return bool(self.destination["protocol"] == "TCP")
 
-    def fault_first(self, batch: List[Dict[str, Any]]) -> Optional[str]:
+    def fault_first(self, batch: List[Dict[str, Any]], seconds: float = ANSWERED_SECONDS) -> Optional[str]:
         """What is wrong with the answer to a batch, in words; NothingListens if nobody takes it."""
         return (fault_over_tcp(self.destination["port"], batch) if self.is_over_tcp
-                else fault_over_http(self.destination["URI"], batch))
+                else fault_over_http(self.destination["URI"], batch, seconds))
 
     def fault_later(self, batch: List[Dict[str, Any]]) -> Optional[str]:
         """So, of one that has listened before."""
@@ -89,7 +100,10 @@ class Receiver(NamedTuple):
 def subscribed(stage: "ExtensionStage") -> Optional[Receiver]:
     """Where the extension, which has begun, says that it takes telemetry; None if it asks for none."""
     asked = [one for one in stage.environment.proxy.of("telemetry") if one.status == 200]
-    return Receiver(asked[-1].json()["destination"], asked[-1].path == "/2020-08-15/logs") if asked else None
+    if not asked:
+        return None
+    told = asked[-1].json()
+    return Receiver(told["destination"], asked[-1].path == "/2020-08-15/logs", "platform" in told["types"])
 
 
 def listening(stage: "ExtensionStage") -> Optional[Receiver]:

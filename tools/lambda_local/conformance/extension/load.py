@@ -10,7 +10,7 @@ scenario = scenarios_of(SCENARIOS)
 
 EVENTS = 500  # unless --invocations says how many
 SECONDS = 8  # that they may take, unless it does
-PATIENCE = 15  # seconds more, for as long as memory grows
+PATIENCE = 30  # seconds more, for as long as memory grows
 CHECKS = {"memory": "memory", "descriptors": "descriptors", "threads": "threads", "processes": "children",
           "zombies": "zombies"}
 

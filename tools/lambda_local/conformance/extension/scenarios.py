@@ -9,7 +9,7 @@ from ..kit import NOTE, Missing, Scenario, scenarios_of
 from ..watch import began_after, members, parent_of
 from ..sockets import owner_of
 from ..stage import shown
-from .stage import SHUTDOWN_SECONDS, SPARE, ExtensionStage, report_failure
+from .stage import SHUTDOWN_SECONDS, SPARE, ExtensionStage
 
 SCENARIOS: List[Scenario] = []
 scenario = scenarios_of(SCENARIOS)
@@ -18,6 +18,7 @@ TIMEOUT = 3  # seconds
 INVOCATIONS = 3
 ENDS = 3  # seconds in which a process that has to end promptly has ended
 SETTLES = 1  # seconds in which a poll too many is seen
+OF_RUNTIMES = ("next", "response", "error", "init_error")  # requests that an extension does not make
 
 
 @scenario(
@@ -97,6 +98,7 @@ def invocations(stage: ExtensionStage) -> None:
                 f"{late[0] if late else 0:.1f} s after its INVOKE, of a timeout of {TIMEOUT} s")
     stage.check("one_poll", not overlap, "a second Next while one waited")
     stray = [one for one in environment.proxy.of("other", "register") if one.refused]
+    stray += environment.proxy.of(*OF_RUNTIMES)
     stage.check("known_requests", not stray, str(stray and stray[0]))
     return None
 
@@ -193,13 +195,11 @@ def crash(stage: ExtensionStage) -> None:
     stage.begin()
     stage.idle()
     environment, found = stage.environment, worker_of(stage)
-    identifier = stage.identifier
     os.kill(found, signal.SIGKILL)
     has_ended = environment.process.wait(ENDS)
     stage.in_time("crash_noticed", has_ended, environment.process.own, ENDS,
                   f"{ENDS} s after its process {found} was killed the command still runs")
-    environment.kill()
-    report_failure(environment.service_port, identifier, "it was killed")
+    stage.forget()
     works_anew(stage, "works_after_crash")
 
 

@@ -1,6 +1,8 @@
 """The stage of an extension: the kit plays the runtime, and the extension is the command behind the proxy."""
+import contextlib
 import http.client
 import json
+import socket
 import threading
 import time
 from typing import Any, Dict, List, Optional, Tuple
@@ -9,8 +11,9 @@ from ...service import EXTENSION, RUNTIME, ask
 from ..clock import CLOCK
 from ..kit import Jury, Missing, Scenario
 from ..exchanges import Exchange, Rule
-from ..stage import SILENT, Stage, Tools, shown
+from ..stage import SILENT, Answer, Event, Stage, Tools, shown
 from ..watch import OwnTime
+from .delivery import NothingListens, end_of, subscribed
 from .telemetry import Telemetry
 
 NAMED, IDENTIFIED = "Lambda-Extension-Name", "Lambda-Extension-Identifier"
@@ -18,7 +21,9 @@ FAILURE_TYPE = "Lambda-Extension-Function-Error-Type"
 SHUTDOWN_SECONDS = 2  # that Lambda's Shutdown phase has
 SETTLES = 2  # seconds in which it asks again if its Next is refused
 SPARE = 0.15  # seconds in which an end is noticed
+TAKES = 1.0  # seconds in which it has taken the end of an invocation, if it takes batches at all
 COMPANION = "conformance.companion"
+STATUSES = {"Function.Timeout": "timeout"}  # of platform.runtimeDone, by the service's errors
 ANOTHER_EVENT = (b'{"eventType":"INVOKE","deadlineMs":4102444800000,"requestId":"00000000-0000-4000-8000-00000000d00d",'
                  b'"invokedFunctionArn":"arn:aws:lambda:us-east-1:123456789012:function:f",'
                  b'"tracing":{"type":"X-Amzn-Trace-Id","value":""}}')
@@ -29,13 +34,21 @@ class PlayedRuntime(threading.Thread):
 
     def __init__(self, port: int) -> None:
         super().__init__(daemon=True)
-        self._port = port
+        self._connection, self._has_to_end = http.client.HTTPConnection("127.0.0.1", port), False
         self.start()
 
+    def end(self) -> None:
+        """Ends its connection, so that it asks for nothing in the next generation, however late it comes to that."""
+        self._has_to_end, connected = True, self._connection.sock
+        if connected:
+            with contextlib.suppress(OSError):
+                connected.shutdown(socket.SHUT_RDWR)
+        self.join(SETTLES)
+
     def run(self) -> None:
-        connection = http.client.HTTPConnection("127.0.0.1", self._port)
+        connection = self._connection
         try:
-            while True:
+            while not self._has_to_end:
                 connection.request("GET", RUNTIME + "invocation/next")
                 answer = connection.getresponse()
                 event = answer.read()
@@ -79,7 +92,8 @@ class ExtensionStage(Stage):
         super().__init__(tools, scenario, jury, start=False, **settings)
         self._wants_companion = companion
         self.companion: Optional[Companion] = None
-        self.telemetry = Telemetry(self)
+        self._runtime: Optional[PlayedRuntime] = None
+        self.telemetry, self._is_deaf = Telemetry(self), False
         if telemetry:  # (this service has none, which one scenario alone is about)
             self.environment.proxy.always["telemetry"] = Rule("telemetry", decide=self.telemetry.decide)
         self.environment.proxy.on_answer = self._hold_after_shutdown
@@ -126,6 +140,7 @@ class ExtensionStage(Stage):
     def forget(self) -> None:
         """Ends the process and its generation, so that another one can begin."""
         self.environment.kill()
+        self._end_runtime()
         registered = [one for one in self.environment.proxy.of("register") if one.status == 200]
         if registered:
             report_failure(self.environment.service_port, registered[-1].told["lambda-extension-identifier"],
@@ -135,6 +150,7 @@ class ExtensionStage(Stage):
         """A generation: the extension registers and asks for its first event, then come the kit's companion and
         runtime."""
         environment = self.environment
+        self._end_runtime()
         environment.proxy.always.pop("event", None)
         environment.proxy.then = None
         if self.events("SHUTDOWN"):  # (of the generation before)
@@ -158,7 +174,28 @@ class ExtensionStage(Stage):
         self.play()
 
     def play(self) -> None:
-        PlayedRuntime(self.environment.service_port)
+        """Plays the runtime of this generation."""
+        self._end_runtime()
+        self._runtime = PlayedRuntime(self.environment.service_port)
+
+    def _end_runtime(self) -> None:
+        """Ends the runtime of the generation before."""
+        if self._runtime:
+            self._runtime.end()
+            self._runtime = None
+
+    def invoke(self, event: Event, qualified: bool = False, trace: Optional[str] = None) -> Answer:
+        """Invokes the function, and sends the extension the end of that, for which it may wait before it asks again."""
+        answer = super().invoke(event, qualified, trace)
+        found = None if self._is_deaf else subscribed(self)
+        if found and found.takes_platform:
+            status = "success" if not answer.failed else STATUSES.get(str(answer.report.get("errorType")), "error")
+            batch = end_of(answer.headers["x-amzn-requestid"], status, found.is_of_logs)
+            try:
+                self._is_deaf = found.fault_first(batch, TAKES) is not None
+            except NothingListens:
+                self._is_deaf = True
+        return answer
 
     # -- what it registered for
 
@@ -207,7 +244,7 @@ class ExtensionStage(Stage):
         """Waits for its SHUTDOWN, and whether its process ends in time: the exchange, whether it did, and its own time.
         Then all is ended as Lambda ends it, and the service knows."""
         exchange, process = self.event("SHUTDOWN"), self.environment.process
-        ended = process.wait(SHUTDOWN_SECONDS + SPARE)
+        ended = process.wait(SHUTDOWN_SECONDS + SPARE, exchange.end)
         self.environment.kill()
         ask(self.environment.service_port, "GET", EXTENSION + "event/next", headers={IDENTIFIED: self.identifier})
         return exchange, ended, process.own

@@ -21,13 +21,15 @@ TRACES = ("Root=1-5759e988-bd862e3fe1be46a994272793;Parent=53995c3f42cd8ad8;Samp
     ("request_id", pages.NEXT,
      "the handler sees the request identifier of each invocation, as Lambda-Runtime-Aws-Request-Id has it"),
     ("function_arn", pages.NEXT,
-     "the handler sees the ARN that was invoked, as Lambda-Runtime-Invoked-Function-Arn has it"),
+     "the handler sees the ARN that was invoked, as Lambda-Runtime-Invoked-Function-Arn has it, of a function with the "
+     "longest name"),
     ("deadline", pages.NEXT,
      "the remaining time is what is left until Lambda-Runtime-Deadline-Ms, in Unix milliseconds"),
     ("remaining_time", pages.PROCESSING_TASKS, "the remaining time gets less while the handler works"),
     ("trace_id", pages.PROCESSING_TASKS,
      "_X_AMZN_TRACE_ID has the value of Lambda-Runtime-Trace-Id while the handler works"),
-    ("trace_renewed", pages.PROCESSING_TASKS, "_X_AMZN_TRACE_ID is renewed for each invocation"), timeout=TIMEOUT)
+    ("trace_renewed", pages.PROCESSING_TASKS, "_X_AMZN_TRACE_ID is renewed for each invocation"), timeout=TIMEOUT,
+    has_long_name=True)
 def context(stage: Stage) -> None:
     for place, trace in enumerate(TRACES):
         time.sleep(APART * place)

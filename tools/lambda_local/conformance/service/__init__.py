@@ -37,6 +37,7 @@ MOST_TIMEOUT = 10  # seconds: with a longer one, the sequences with a timeout ar
 FRESH_SHARE = 0.75  # of the random sequences begin with a fresh environment
 INIT_ERROR_ROUTE = "POST /2018-06-01/runtime/init/error"
 BATCH = 20  # random sequences that are made at once
+LATE, LATE_TIMES = ("invoke", "timeout", "moment"), 4  # a timeout that is late, and how often it has to be so again
 LATER = 3  # times that what was left undecided is looked into again, since this machine may be less busy then
 
 
@@ -129,7 +130,19 @@ class Run:
         played = self.course.play(plan)
         if played.difference and played.difference.words not in self.reported:
             self._look_into(plan, played)
+        elif played.is_late and LATE not in self.reported:
+            self._look_into_lateness(plan, played)
         return played.seconds
+
+    def _look_into_lateness(self, plan: Plan, played: Played) -> None:
+        """A timeout that comes late each time does not do so because this machine is busy."""
+        self.course.is_strict = True
+        try:
+            differences = (self.course.play(plan).difference for _ in range(LATE_TIMES))
+            if all(difference and difference.words == LATE for difference in differences):
+                self._look_into(plan, played)
+        finally:
+            self.course.is_strict = False
 
     def _look_into(self, plan: Plan, played: Played) -> None:
         """Reports a difference with as few calls as show it. One that does not show again with more time between the

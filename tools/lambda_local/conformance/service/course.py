@@ -6,7 +6,7 @@ from typing import Dict, List, NamedTuple, Optional, Tuple, cast
 
 from ...history.entries import count_in
 from ...history.words import Word
-from .calls import Call, Ids
+from .calls import POLLS, Call, Ids
 from .judge import Aspect, Judge, label_of, shown
 from .known import WAITS, KnownDifferences
 from .oracle import FRESH, WARM, Plan
@@ -20,6 +20,8 @@ CLOSING_SECONDS = 2.1  # how long an environment may wait for extensions that en
 OF_TIMEOUT = 0.7  # of the function's timeout, as real time, that such an answer may take at most
 SURELY = 0.05  # how long a call waits that is to be taken before the next one
 RESTORE_SECONDS = 30  # and a timeout: how long a service is brought to a fresh environment
+STARVED_SECONDS = 10.0  # that a request may take which any service answers at once
+NO_ROUTE = "/conformance/no/such/route"
 PROBE = Call("invoke", "probe", ("={}",))
 
 
@@ -41,6 +43,7 @@ class Played(NamedTuple):
     difference: Optional[Difference]
     whole: bool  # whether all calls were made: the state at the end is known
     seconds: float
+    is_late: bool = False  # whether a timeout came later than on a calm machine
 
 
 class Unrecoverable(Exception):
@@ -56,6 +59,7 @@ class Course:
         self.ids: Ids = {}  # that the last sequence learned
         self.found: Optional[Difference] = None  # the last difference
         self.calls = 0
+        self.is_strict = False  # whether a timeout may be no later on a busy machine
 
     # ---- one sequence ----
 
@@ -64,7 +68,7 @@ class Course:
         `settle` is how long a call that is not answered has to wait, `patience` how long an answer may take that is
         given at once."""
         self.bring(plan.sequence.start)
-        begun, judge = time.monotonic(), Judge(plan)
+        begun, judge = time.monotonic(), Judge(plan, self.is_strict)
         exchanges: Dict[int, Exchange] = {}
         moments: List[int] = []
         self.ids, self.state = judge.ids, None
@@ -91,7 +95,7 @@ class Course:
                 break
         if whole:
             self._ended(plan, exchanges)
-        return Played(difference, whole, time.monotonic() - begun)
+        return Played(difference, whole, time.monotonic() - begun, judge.is_late)
 
     def send(self, call: Call, ids: Ids) -> Exchange:
         self.calls += 1
@@ -108,6 +112,7 @@ class Course:
                 self.wire.collect(waited_for, self.timeout + BEYOND_SECONDS)
             else:  # (an answer that is missing is to be missed before a deadline comes)
                 self.wire.collect(waited_for, patience, OF_TIMEOUT * self.timeout)
+                self._outlast([one for one in waited_for if not one.over])
         elif call.kind == "wait":
             self.wire.collect(seconds=self.timeout + 0.5)
         if len(answered) < len(given):
@@ -119,6 +124,16 @@ class Course:
         elif call.kind != "wait" and exchanges[step].answered:
             self.wire.note_trip(exchanges[step])
         self.wire.collect()
+
+    def _outlast(self, missing: List[Exchange]) -> None:
+        """Waits until requests that are made now are answered: what has no answer then has none, and is not late since
+        this machine gives the service no processor."""
+        later = [self.wire.send(address, "GET", NO_ROUTE) for address in sorted({one.address for one in missing})]
+        if later:
+            begun = time.monotonic()
+            self.wire.collect(later, STARVED_SECONDS, STARVED_SECONDS)
+            self.wire.leave(later)
+            self.wire.collect(missing, max(SURELY, time.monotonic() - begun))
 
     def _end_connection(self, plan: Plan, step: int, exchanges: Dict[int, Exchange]) -> None:
         """Ends that of the Next that waits, or of an invocation's caller: what it would be answered is not compared."""
@@ -140,6 +155,8 @@ class Course:
         answered_before = (open_invocation(plan, step) is None
                            and any(given.answer.word is Word.DELIVER for given in before))
         over = {given.call for given in before}
+        asked_before = any(one.kind in POLLS and place not in over and one.label == plan.sequence.calls[step].label
+                           for place, one in enumerate(plan.sequence.calls[:step]))
         parted = False
 
         # (a delivery first, which makes an identifier known, and then the call itself)
@@ -148,7 +165,7 @@ class Course:
         for place in sorted(exchanges, key=order):
             exchange = exchanges[place]
             if place in here:
-                label = label_of(here[place], answered_before)
+                label = label_of(here[place], answered_before, asked_before)
                 aspects = judge.aspects(here[place], label, exchange)
             elif place not in over and exchange.over:
                 label, aspects = WAITS, [Aspect("answered", shown(exchange), "no answer: it waits", True)]
@@ -158,6 +175,8 @@ class Course:
                 if not self.known.accepts((plan.sequence.calls[place].kind, label, aspect.name)):
                     return (place, label, aspect), True
                 parted = parted or (aspect.parts and label != "Container")
+            if parted:  # (the other answers of this step may be others for that reason)
+                break
         return None, parted
 
     def _ended(self, plan: Plan, exchanges: Dict[int, Exchange]) -> None:

@@ -42,8 +42,10 @@ class Missing(str):
     """What a reply does not have."""
 
 
-def label_of(given: Given, answered_before: bool) -> str:
-    """Returns the word for an answer: its kind, or why it is refused, as `docs/differences.md` distinguishes them."""
+def label_of(given: Given, answered_before: bool, asked_before: bool = False) -> str:
+    """Returns the word for an answer: its kind, or why it is refused, as `docs/differences.md` distinguishes them.
+    `answered_before` is whether the open invocation has its answer, `asked_before` whether a Next of the one that makes
+    the call waits."""
     answer = given.answer
     if answer.word is Word.REFUSED:
         return answer.reason or ""
@@ -53,6 +55,8 @@ def label_of(given: Given, answered_before: bool) -> str:
         return "error-of-init"
     if answer.word is Word.THROTTLED and answered_before:
         return "throttled-after-answer"
+    if answer.word is Word.ACCEPTED and given.cause.endswith("init-failure") and asked_before:
+        return "accepted-after-next"
     return str(answer.word)
 
 
@@ -63,8 +67,9 @@ def status_of(label: str) -> int:
 class Judge:
     """Knows the identifiers that the service gave in a sequence."""
 
-    def __init__(self, plan: Plan) -> None:
-        self.plan = plan
+    def __init__(self, plan: Plan, is_strict: bool = False) -> None:
+        self.plan, self.is_strict = plan, is_strict  # whether a timeout may be no later on a busy machine
+        self.is_late = False  # whether one was later than on a calm one
         self.ids: Ids = {}
         self.deadlines: Dict[str, int] = {}  # by the labels of invocations, what Lambda-Runtime-Deadline-Ms said
         self.since: Optional[float] = None  # when the call was sent that gave the answers of this step
@@ -73,7 +78,7 @@ class Judge:
         """The respects in which a reply is another than the answer that is given."""
         wanted = status_of(label)
         if exchange.status != wanted:
-            both_refuse = 400 <= exchange.status < 500 and 400 <= wanted < 500
+            both_refuse = 400 <= exchange.status < 500 and wanted >= 400
             name = "refusal" if both_refuse else "status" if exchange.status else "connection"
             return [Aspect(name, exchange.ended or shown(exchange), f"{wanted} {label}", not both_refuse)]
         found = []
@@ -172,7 +177,9 @@ class Judge:
         deadline = self.deadlines.get(self.plan.sequence.calls[given.call].label)
         if given.answer.word is Word.TIMEOUT and deadline:
             late = exchange.wall - deadline
-            fits = -TOLERANCE <= late <= tolerance() + SLOW_ANSWER  # (a busy machine makes it late, and not early)
+            most = TOLERANCE if self.is_strict else tolerance()  # (a busy machine makes it late, and not early)
+            fits = -TOLERANCE <= late <= most + SLOW_ANSWER
+            self.is_late = self.is_late or late > TOLERANCE + SLOW_ANSWER
             words = f"{abs(late) / 1000:.1f} s {'after' if late > 0 else 'before'} its Lambda-Runtime-Deadline-Ms"
             yield "moment", "" if fits else words, "" if fits else "then"
         told = members(exchange)

@@ -20,6 +20,10 @@ class Known(NamedTuple):
 BUILT_IN = (
     Known(("next", "Container", "connection"), "the end of an environment"),
     Known(("ext-next", "Container", "connection"), "the end of an environment"),
+    Known(("next", "Container", "refusal"), "the end of an environment"),
+    Known(("ext-next", "Container", "refusal"), "the end of an environment"),
+    Known(("init-failure", "accepted-after-next", "*"), "an Init that fails after its Next"),
+    Known(("ext-init-failure", "accepted-after-next", "*"), "an Init that fails after its Next"),
     Known(("invoke", "error-of-init", "*"), "a failed Init"),
     Known(("invoke", "throttled-after-answer", "*"), "an environment that has answered and not asked again"),
 )

@@ -7,7 +7,7 @@ from ...service import EXTENSION, RUNTIME, Fault
 from .calls import NEVER_GIVEN, Call, Ids
 Request = Tuple[Tuple[str, int], str, str, List[Tuple[str, str]], Optional[bytes]]
 
-TOO_LARGE = 6_291_457  # bytes: one more than a response may have
+TOO_LARGE = 6_291_557  # bytes: one more than Lambda takes, which is 100 more than the quota
 NEVER = "00000000-0000-4000-8000-00000000dead"  # an identifier that no service gave
 EVENTS = {"i": ["INVOKE"], "s": ["SHUTDOWN"], "is": ["INVOKE", "SHUTDOWN"], "-": []}
 ERROR_TYPE = "Function.Unknown"  # of each report's header; the report itself has its own

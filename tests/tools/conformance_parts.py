@@ -1,0 +1,398 @@
+"""Checks parts of lambda_local conformance by themselves: what is a leak, whose time a busy machine takes, what is
+compared with another service, and which FAILs are of one cause."""
+import contextlib
+import http.server
+import itertools
+import threading
+import time
+from types import SimpleNamespace
+from unittest import mock
+
+from lambda_local.conformance import again, causes, leaks, report, service, sometimes, watch
+from lambda_local.conformance.extension import delivery, stage
+from lambda_local.conformance.kit import FAIL, NOTE, PASS
+from lambda_local.conformance.manners import Manner
+from lambda_local.conformance.messages import Message
+from lambda_local.conformance.process import Holds
+from lambda_local.conformance.runtime import first, payloads, refusals
+from lambda_local.conformance.service import course, judge, tested
+from lambda_local.conformance.service.known import KnownDifferences
+from lambda_local.conformance.service.oracle import FRESH, Oracle
+from lambda_local.conformance.service.sequences import plans_of, sequences_of
+from lambda_local.conformance.stage import Answer, Stage
+from lambda_local.history.words import Word
+from lambda_local.program import Fault
+from lambda_local.service import program_path
+from tests.library.cases import Case
+
+PART = leaks.PART
+STARVED = 3.0  # seconds in which a service does nothing: longer than an answer may take
+IDENTIFIER = "00000000-0000-4000-8000-000000000001"
+
+
+def held(memory):
+    return Holds(int(memory), 10, 4, 1, 0)
+
+
+def grown(memory_after, requests):
+    """How many bytes for each request a process has kept that holds so much after so many requests."""
+    process = SimpleNamespace(done=0)
+    process.holds = lambda: held(memory_after(process.done))
+    looks = leaks.Looks(process)
+    for process.done in range(PART, requests + 1, PART):
+        looks.look(process.done)
+    return looks.grows(leaks.AFTER_LONG if requests > 1000 else leaks.CERTAIN)
+
+
+class Leaks(Case):
+    def test_memory(self):
+        kept, block, filled = 4_500, 1 << 20, 60_000_000
+        for name, memory_after, requests in (
+                ("4,500 bytes of each request", lambda done: kept * done, 4000),
+                ("so many, which an allocator takes a megabyte at a time",
+                 lambda done: -(-kept * done // block) * block, 4000),
+                ("so many, beside what a collector frees now and then",
+                 lambda done: kept * done + done * 20_000 % 9_000_000, 4000),
+                ("so many, after a heap has been filled",
+                 lambda done: kept * done + min(12_000_000, 10_000 * done), 4000),
+                ("65,536 bytes of each request", lambda done: 65_536 * done, 1000)):
+            self.check(f"{name} is a leak", grown(memory_after, requests) > 3000)
+        for name, memory_after, requests in (
+                ("a heap that is filled before it is collected", lambda done: min(filled, 50_000 * done), 4000),
+                ("one that is filled and collected again and again", lambda done: done * 65_536 % filled, 4000),
+                ("one that grows until half of the requests", lambda done: 6_000 * min(done, 2000), 4000),
+                ("one that grows less and less", lambda done: 40_000_000 * (1 - 0.5 ** (done / 500)), 4000),
+                ("one that grows by little in all", lambda done: 900 * done, 4000),
+                ("one of few requests", lambda done: 65_536 * done, 300)):
+            self.check(f"{name} is no leak", grown(memory_after, requests), 0)
+
+
+class OwnTime(Case):
+    """On a machine that is eight times as slow as usual."""
+
+    def counted(self, asleep, worked, seconds):
+        """What is counted of a process that is looked at every tenth of a second."""
+        moments = (place / 10 for place in itertools.count())
+        had = (worked * place / 10 for place in itertools.count())
+        with contextlib.ExitStack() as patched:
+            for where, name, value in (
+                    (watch.time, "monotonic", lambda: next(moments)), (watch, "members", lambda _: [1]),
+                    (watch.CLOCK, "slowness", lambda: 8.0), (watch, "worked", lambda _: next(had)),
+                    (watch, "is_asleep", lambda _: asleep)):
+                patched.enter_context(mock.patch.object(where, name, value))
+            own = watch.OwnTime(1)
+            for _ in range(int(10 * seconds)):
+                own.look()
+        return round(own.seconds)
+
+    def test_own_time(self):
+        self.check("a process that sleeps is late by the real time", self.counted(True, 0.0, 20), 20)
+        self.check("one that works, by the time that it is given", self.counted(False, 0.25, 20), 5)
+        self.check("one that could work and is given none is not", self.counted(False, 0.0, 20), 0)
+        self.check("one of many threads, by no more than the real time", self.counted(False, 3.0, 20), 20)
+
+    def test_a_poll_that_waits(self):
+        def waiting(*ended):
+            environments = [SimpleNamespace(proxy=SimpleNamespace(of=lambda kind, one=one: [
+                SimpleNamespace(ended=None), SimpleNamespace(ended=one)])) for one in ended]
+            return SimpleNamespace(environments=environments, poll_kind="next")
+        self.check("a process that waits for what it has asked for is not late", Stage.waits(waiting(None)))
+        self.check("one that has it is", Stage.waits(waiting(1.0)), False)
+        self.check("so is one of two", Stage.waits(waiting(None, 1.0)), False)
+
+
+def exchange(kind, begun, end, request_id=None, delivered=None, status=None, by_rule=None):
+    return SimpleNamespace(kind=kind, begun=begun, asked=begun, end=end, request_id=request_id, delivered=delivered,
+                           status=status, by_rule=by_rule)
+
+
+def stage_of(*exchanges):
+    def of(*kinds):
+        return [one for one in exchanges if one.kind in kinds]
+    return SimpleNamespace(environment=SimpleNamespace(proxy=SimpleNamespace(of=of)))
+
+
+class Conduct(Case):
+    def test_answers(self):
+        poll, answer = exchange("next", 0, 1, delivered="a"), exchange("response", 2, 3, "a", status=202)
+        twice = stage_of(poll, answer, exchange("error", 4, 5, "a", status=403))
+        refused = stage_of(poll, exchange("response", 2, 3, "a", status=413), exchange("error", 4, 5, "a", status=202))
+        self.check("an answer after one that was accepted is told", bool(again.answered_twice(twice)))
+        self.check("one after a refusal is not", again.answered_twice(refused), None)
+        early = stage_of(poll, exchange("next", 1.5, 6), answer)
+        late = stage_of(poll, answer, exchange("next", 3, 6))
+        self.check("a Next before the response is told", bool(again.asked_early(early)))
+        self.check("one after it is not", again.asked_early(late), None)
+
+    def test_refused_responses(self):
+        response, same = exchange("response", 2, 3, "a", status=403), exchange("response", 4, 5, "a", status=403)
+        again_told = refusals.sent_again(stage_of(response, same), response)
+        self.check("a response that is sent again is told", bool(again_told))
+        self.check("one that is sent once is not", refusals.sent_again(stage_of(response), response), None)
+        response.asked = 3.5
+        self.check("nor is one whose refusal came before it was whole",
+                   refusals.sent_again(stage_of(response, same), response), None)
+
+    def test_outputs_that_are_lost(self):
+        def answers(*bodies):
+            return [Answer(200, {}, body) for body in bodies]
+        self.check("a runtime that gives nothing may have lost it",
+                   first.refuse_another_handler(answers(b"null", b"{}", b"")), None)
+        for name, came in (("the same", answers(b'"hello"', b'"hello"', b'"hello"')),
+                           ("each event", answers(*map(first.compact, (event for event, _ in first.PROBES))))):
+            with self.assertRaises(Fault) as fault:
+                first.refuse_another_handler(came)
+            self.check(f"a handler that gives {name} is another one", fault.exception.status, 2)
+
+    def test_numbers(self):
+        self.check("a number to 13 digits is near", payloads.is_near("9007199254740993", "9007199254740900"))
+        self.check("one to 12 is not", payloads.is_near("9007199254740993", "9007199254700000"), False)
+        self.check("nor is another small one", payloads.is_near("0.1", "0.10000000001"), False)
+
+    def test_manners(self):
+        reply = Message()
+        reply.feed(b"HTTP/1.1 200 OK\r\nOne: 1\r\nTwo: 2\r\nContent-Length: 2\r\n\r\nok")
+        (written,) = Manner(named=str.upper, backwards=True).parts(reply)
+        self.check("headers come in capitals and backwards", written,
+                   b"HTTP/1.1 200 OK\r\nCONTENT-LENGTH: 2\r\nTWO: 2\r\nONE: 1\r\n\r\nok")
+        (chunked,) = Manner(chunk=27).parts(reply)
+        self.check("the size of a chunk is in hexadecimal", b"\r\n\r\n2\r\nok\r\n0\r\n\r\n" in chunked)
+
+    def test_the_end_of_an_invocation(self):
+        for is_of_logs, kinds in ((False, ["platform.start", "platform.runtimeDone"]),
+                                  (True, ["platform.start", "platform.end", "platform.runtimeDone"])):
+            batch = delivery.end_of("a", "timeout", is_of_logs)
+            self.check(f"it is told as {', '.join(kinds)}", [event["type"] for event in batch], kinds)
+            self.check("with its request and status", batch[-1]["record"], {"requestId": "a", "status": "timeout"})
+
+
+class OneCause(Case):
+    def told(self, *fails):
+        """The checks whose FAILs are told, of those with what came and the cause that the connections show."""
+        found = causes.Causes()
+        return [name for name, came, cause in fails if found.first(name, came, cause) is None]
+
+    def test_fails_of_one_cause(self):
+        for name, fails, wanted in (
+                ("a program that never ends",
+                 (("ends_at_spindown", "it still ran", ""), ("crash_noticed", "it runs", ""),
+                  ("ends_at_500", "it runs on", ""), ("refused_next", "neither", "")),
+                 ["ends_at_spindown"]),
+                ("an answer that is sent twice", (("responds_once", "responses to each: [2]", ""),
+                                                  ("after_error", "an invocation is answered twice: POST", "")),
+                 ["responds_once"]),
+                ("a second poll", (("one_poll", "a second Next", "there is a second Next while one waits"),
+                                   ("many_events", "it took none", "there is a second Next while one waits")),
+                 ["one_poll"]),
+                ("telemetry that it cannot read", (("takes_telemetry", "it has ended", ""),
+                                                   ("takes_dropped", "alone it is not answered", "")),
+                 ["takes_telemetry"]),
+                ("the same words with other numbers", (("one", "it ended with status 1", ""),
+                                                       ("two", "it ended with status 2", "")), ["one"]),
+                ("two causes", (("utf8", "the caller received ?", ""), ("ends_at_sigterm", "it runs", "")),
+                 ["utf8", "ends_at_sigterm"])):
+            self.check(f"{name}: one FAIL for each cause", self.told(*fails), wanted)
+
+    def test_what_a_busy_machine_may_be_the_reason_of(self):
+        for came, is_its_own in (("the caller received 17", True), ("GET ../next -> 400", True),
+                                 ("its Next is refused: GET ../event/next -> 403", False),
+                                 ("the caller received no answer within 12 s", False),
+                                 ("it ended with status 1", False), ("no Next within 10 s", False),
+                                 ("in place of an output the caller received the error Function.Timeout", False)):
+            verdict = SimpleNamespace(outcome=FAIL, came=came)
+            self.check(f"{came!r} is {'' if is_its_own else 'not '}what the program did",
+                       sometimes.shows_what_it_did(verdict), is_its_own)
+
+    def test_many_lines(self):
+        self.check("lines that are the same are one line", report.shortened(["a", "b", "b", "b", "a"]),
+                   ["a", "b (3 times)", "a"])
+        told = report.shortened(map(str, range(5000)))
+        self.check("of many there are the first and the last", (len(told), told[0], told[-1]), (25, "0", "4999"))
+
+    def test_what_is_seen_once(self):
+        class Verdict(SimpleNamespace):
+            def _replace(self, **changes):
+                return Verdict(**{**self.__dict__, **changes})
+        failed, passed = Verdict(outcome=FAIL, came="the caller received 1"), Verdict(outcome=PASS, came="")
+        own = sometimes.judged(failed, passed, 5, True)
+        self.check("what shows once is a FAIL that says so", (own.outcome, own.came),
+                   (FAIL, "in 1 of 6 runs: the caller received 1"))
+        self.check("what others disturb is a NOTE", sometimes.judged(failed, passed, 5, False).outcome, NOTE)
+
+
+class Starved(http.server.BaseHTTPRequestHandler):
+    """A service that takes one request after the other. It does nothing for a while as it takes a registration, or
+    never answers that one."""
+    protocol_version, loses, registered = "HTTP/1.1", False, 1
+
+    def do_POST(self):
+        self.rfile.read(int(self.headers.get("Content-Length", 0)))
+        if not self.path.endswith("/register"):
+            return self.answer(202, b'{"status":"OK"}')
+        if self.loses:
+            return self.server.lost.wait()
+        with self.server.processor:
+            time.sleep(STARVED)
+        return self.answer(200, b'{"functionName":"f","functionVersion":"$LATEST","handler":"h"}')
+
+    def do_GET(self):
+        self.answer(404, b"{}")
+
+    def answer(self, status, body):
+        with self.server.processor:
+            self.send_response(status)
+            for name, value in (("Content-Type", "application/json"), ("Content-Length", len(body)),
+                                ("Lambda-Extension-Identifier", f"{IDENTIFIER[:-1]}{self.registered}")):
+                self.send_header(name, str(value))
+            self.end_headers()
+            self.wfile.write(body)
+
+    def log_message(self, *_):
+        pass
+
+
+class Delivering(http.server.BaseHTTPRequestHandler):
+    """A service that has an invocation for each Next after a while."""
+    protocol_version, asked = "HTTP/1.1", 0
+
+    def do_GET(self):
+        type(self).asked += 1
+        time.sleep(0.1)
+        with contextlib.suppress(OSError):
+            self.answer(200)
+
+    def do_POST(self):
+        self.rfile.read(int(self.headers["Content-Length"]))
+        self.answer(202)
+
+    def answer(self, status):
+        self.send_response(status)
+        self.send_header("Lambda-Runtime-Aws-Request-Id", IDENTIFIER)
+        self.send_header("Content-Length", "1")
+        self.end_headers()
+        self.wfile.write(b"1")
+
+    def log_message(self, *_):
+        pass
+
+
+class PlayedRuntime(Case):
+    def test_its_end(self):
+        server = http.server.ThreadingHTTPServer(("127.0.0.1", 0), Delivering)
+        server.daemon_threads = True
+        threading.Thread(target=server.serve_forever, daemon=True).start()
+        runtime = stage.PlayedRuntime(server.server_port)
+        while Delivering.asked < 3:
+            time.sleep(0.01)
+        runtime.end()
+        seen = Delivering.asked
+        time.sleep(0.3)
+        server.shutdown()
+        server.server_close()
+        self.check("a played runtime that is ended asks for nothing more",
+                   (runtime.is_alive(), Delivering.asked - seen), (False, 0))
+
+
+class RefusesLateFailures(Starved):
+    """A service whose Init cannot fail any more once its runtime has asked; what asks waits."""
+    asked, registered = False, 0
+
+    def do_GET(self):
+        if not self.path.endswith("/next"):
+            return super().do_GET()
+        type(self).asked = True
+        return self.server.lost.wait()
+
+    def do_POST(self):
+        self.rfile.read(int(self.headers.get("Content-Length", 0)))
+        if self.path.endswith("/register"):
+            type(self).registered += 1
+            return self.answer(200, b'{"functionName":"f","functionVersion":"$LATEST","handler":"h"}')
+        return self.answer(403 if self.asked else 202, b'{"errorType":"State","errorMessage":"not now"}')
+
+
+def course_played(difference):
+    return course.Played(difference or None, True, 1.0, True)
+
+
+class Service(Case):
+    def difference(self, handler, calls="register x =probe -"):
+        """What is found in a sequence with these calls, which a service of this kind takes."""
+        server = http.server.ThreadingHTTPServer(("127.0.0.1", 0), handler)
+        server.daemon_threads, server.processor, server.lost = True, threading.Lock(), threading.Event()
+        threading.Thread(target=server.serve_forever, daemon=True).start()
+        try:
+            place = f"127.0.0.1:{server.server_port}"
+            played = course.Course(tested.tested_by(f"http://{place}", place, "f"), KnownDifferences(None), 3)
+            lines = "".join(f"\n  {call}" for call in calls.split("; "))
+            plan, = plans_of(sequences_of(f"one{lines}\n", FRESH), Oracle(program_path(None), 3))
+            found = played.play(plan).difference
+            played.close()
+            return found and found.words
+        finally:
+            server.lost.set()
+            server.shutdown()
+            server.server_close()
+
+    def test_a_service_that_is_starved(self):
+        self.check("what a service answers late with all else is no difference", self.difference(Starved), None)
+        self.check("what alone has no answer is one", self.difference(type("Lost", (Starved,), {"loses": True})),
+                   ("register", "registered", "connection"))
+
+    def test_an_init_that_fails_late(self):
+        calls = "register x =probe s; register y =other -; ext-next x; next; init-failure REPORT; next"
+        self.check("what follows from an answer that the pages leave open is no difference",
+                   self.difference(RefusesLateFailures, calls), None)
+
+    def test_deadlines_on_a_busy_machine(self):
+        given, begun = SimpleNamespace(remaining=3000), 100.0
+
+        def fits(told, took):
+            """Whether a deadline fits that is told so many milliseconds after the call's, and takes so long."""
+            one = judge.Judge(SimpleNamespace())
+            one.since = begun
+            wall = 1_000_000.0
+            value = str(int(wall + 3000 + told))
+            came = SimpleNamespace(wall=wall + 1000 * took, answered=begun + took)
+            _, theirs, ours = one._deadline(value, given, came)
+            return theirs == ours
+        for told, took, wanted in ((0, 0.0, True), (0, 3.0, True), (2000, 3.0, True), (1000, 0.1, False),
+                                   (-1000, 0.1, False), (-1000, 3.0, False)):
+            self.check(f"a deadline that is {told} ms late, after {took} s, {'fits' if wanted else 'does not'}",
+                       fits(told, took), wanted)
+
+    def test_timeouts_on_a_busy_machine(self):
+        given = SimpleNamespace(call=0, answer=SimpleNamespace(word=Word.TIMEOUT))
+        plan = SimpleNamespace(sequence=SimpleNamespace(calls=[SimpleNamespace(label="a")]))
+        for late, is_strict, wanted in ((100, False, (True, False)), (1200, False, (True, True)),
+                                        (2500, False, (False, True)), (1200, True, (False, True)),
+                                        (100, True, (True, False)), (-1200, False, (False, False))):
+            one = judge.Judge(plan, is_strict)
+            one.deadlines["a"] = 1_000_000
+            came = SimpleNamespace(wall=1_000_000.0 + late, headers={}, body=b"{}")
+            with mock.patch.object(judge.CLOCK, "slowness", lambda: 6.0):
+                pairs = {name: theirs == ours for name, theirs, ours in one._timeout(given, came)}
+            self.check(f"one that is {late} ms late {'strictly ' if is_strict else ''}fits, and is late",
+                       (pairs["moment"], one.is_late), wanted)
+
+    def test_timeouts_that_are_late_each_time(self):
+        for name, times, wanted in (("each time", itertools.repeat(True), 1), ("once more", iter([True, False]), 0)):
+            whole, looked = service.Run.__new__(service.Run), []
+            difference = SimpleNamespace(words=service.LATE)
+            whole.reported, whole.report, whole.options = set(), SimpleNamespace(differences=0), SimpleNamespace(most=5)
+            whole.course = SimpleNamespace(is_strict=False)
+            whole.course.play = lambda plan, times=times, course=whole.course: course_played(
+                course.is_strict and next(times) and difference)
+            whole._look_into = lambda *_: looked.append(1)
+            whole._play(SimpleNamespace())
+            self.check(f"a timeout that is late {name} is {'' if wanted else 'not '}looked into", len(looked), wanted)
+
+    def test_what_the_pages_leave_open(self):
+        known = KnownDifferences(None)
+        for words, wanted in ((("init-failure", "accepted-after-next", "status"), True),
+                              (("init-failure", "accepted", "status"), False),
+                              (("ext-next", "Container", "refusal"), True),
+                              (("ext-next", "Container", "status"), False),
+                              (("next", "Replaced", "connection"), False)):
+            self.check(f"{' '.join(words)} is {'' if wanted else 'not '}accepted", known.accepts(words), wanted)
+        self.check("a response of Lambda's greatest size is not called too large", tested.TOO_LARGE, 6_291_556 + 1)
