@@ -2,9 +2,11 @@
 """Measures how long a caller of 100 B waits for its answers, alone and while readers get `/_local/history` in a loop:
 p50, p99 and the longest. First, it fills the history with N entries of 6 MiB: invocations whose payload a runtime
 sends back. Caller, runtimes and readers are separate processes. Needs Linux, and the proved program
-(./lambda_local build) or the path of another one.
+(./lambda_local build) or the path of another one. `--path` names what else is read: `/_local/trace`, or
+`/_local/trace?follow=1`, which each reader reads once, and to its end.
 
-usage: bench/serve/history_beside_callers.py [--program PROGRAM] [--entries N] [--readers N] [--seconds S]"""
+usage: bench/serve/history_beside_callers.py [--program PROGRAM] [--entries N] [--readers N] [--seconds S]
+                                             [--path PATH]"""
 import argparse
 import http.client
 import multiprocessing
@@ -46,14 +48,14 @@ def send_back(port):
         ask(connection, "POST", f"/2018-06-01/runtime/invocation/{name}/response", payload)
 
 
-def read_histories(port, count):
-    """Reads the history again and again, and counts its bytes."""
+def read_again(port, path, count):
+    """Reads what is there again and again, and counts its bytes."""
     into = bytearray(1 << 20)
     while True:
         connection = connect(port)
-        connection.request("GET", "/_local/history")
+        connection.request("GET", path)
         answer = connection.getresponse()
-        while got := answer.readinto(into):
+        while got := answer.readinto1(into):
             with count.get_lock():
                 count.value += got
         connection.close()
@@ -100,7 +102,7 @@ def measure(name, processes, port, seconds):
     print(f"| {name} | {len(took)} | {p50:.2f} | {p99:.2f} | {took[-1]:.2f} |", flush=True)
 
 
-def run(service, processes, entries, readers, seconds):
+def run(service, processes, entries, path, readers, seconds):
     for place in range(ENVIRONMENTS):
         processes.begin(send_back, service.port + 1 + place)
     caller = connect(service.port)
@@ -110,26 +112,27 @@ def run(service, processes, entries, readers, seconds):
     print("| | calls | p50 ms | p99 ms | longest ms |\n|---|---|---|---|---|")
     measure("alone", processes, service.port, seconds)
     count = multiprocessing.Value("Q", 0)
-    reading = [processes.begin(read_histories, service.port, count) for _ in range(readers)]
+    reading = [processes.begin(read_again, service.port, path, count) for _ in range(readers)]
     time.sleep(0.5)
     before, start = count.value, time.monotonic()
-    measure(f"beside {readers} of the history", processes, service.port, seconds)
+    measure(f"beside {readers} of {path}", processes, service.port, seconds)
     rate = (count.value - before) / (time.monotonic() - start) / 1e6
     if not all(it.is_alive() for it in reading):
-        raise Trouble("a reader of the history has ended")
-    print(f"\nThe history was read at {rate:.0f} MB/s.")
+        raise Trouble(f"a reader of {path} has ended")
+    print(f"\n{path} was read at {rate:.1f} MB/s.")
 
 
 def main():
     parser = argparse.ArgumentParser(description=__doc__, formatter_class=argparse.RawDescriptionHelpFormatter)
     parser.add_argument("--program", default=BUILT)
     parser.add_argument("--entries", type=int, default=100)
+    parser.add_argument("--path", default="/_local/history")
     parser.add_argument("--readers", type=int, default=1)
     parser.add_argument("--seconds", type=float, default=20)
     given = parser.parse_args()
     try:
         with Service(Kind("lambda_local", given.program, True), ENVIRONMENTS) as service, Processes() as processes:
-            run(service, processes, given.entries, given.readers, given.seconds)
+            run(service, processes, given.entries, given.path, given.readers, given.seconds)
     except (Trouble, OSError, http.client.HTTPException) as trouble:
         print("bench:", trouble, file=sys.stderr)
         return 1

@@ -44,6 +44,7 @@ class Commands:
                text_of(ROOT, "examples", "first_call.txt"))
         yield ("trace", [launcher, "trace"], '"moment":1200,"phases":[],"released":[],"ticket":2}\n',
                text_of(ROOT, "examples", "first_call.txt"))
+        yield "explain", [launcher, "explain"], "", text_of(ROOT, "examples", "service.json")
         yield "serve", [self.python, SERVE_ONCE, launcher, self.folder], "stopped in order\n", ""
         yield "check", [launcher, "check", timeout], " answers\n", ""
         yield "timeline", [launcher, "timeline", timeout], "\n", ""

@@ -48,7 +48,8 @@ class Explained(Case):
                 ("a call that is none", f"{opening}\n0 nextt 1\n", "script: line 2",
                  "line 2 is not a call: `0 nextt 1`: after its moment it must have one of invoke, next"),
                 ("a configuration", json.dumps(bad) + "\n0 next 1\n", "configuration: BadTimeout",
-                 "line 1, the configuration: function f: timeout must be from 1 to 900 seconds, not 0")):
+                 "line 1, the configuration: function f: timeout must be from 1 to 900 seconds, not 0 (the program "
+                 "says BadTimeout at functions[0].timeout)")):
             with open(path, "w") as file:
                 file.write(text)
             with open(path) as file:
@@ -66,6 +67,17 @@ class Explained(Case):
                                                                    told in (said[-1] if said else "")),
                            (2, True, own[2], True))
         self.long_pipes(opening)
+
+    def test_configurations(self):
+        """`explain` is the program's own."""
+        bad = {**CONFIGURATION, "functions": [{**CONFIGURATION["functions"][0], "timeout": 0}]}
+        for launcher, words in LAUNCHERS.items():
+            for name, given, wanted in (
+                    ("a fault", json.dumps(bad, indent=1), (2, "configuration: BadTimeout\nfunctions[0].timeout\n")),
+                    ("none", json.dumps(CONFIGURATION), (0, "")), ("no JSON", "{", (2, "configuration: NotJson\n")),
+            ):
+                done = subprocess.run([*words, "explain"], input=given, capture_output=True, env=environ(), text=True)
+                self.check(f"{launcher}: explain: {name}", (done.returncode, done.stderr, done.stdout), (*wanted, ""))
 
     def long_pipes(self, opening):
         """A fault far behind what is kept of the beginning, and a script without one."""

@@ -20,9 +20,8 @@ from lambda_local.from_template import command as template_command
 from lambda_local.from_template.messages import Fault as TemplateFault
 from lambda_local.front.events import in_json
 from lambda_local.front.payload import Unmappable, reply_of
-from lambda_local.history import comparison, followed, reader, script, text as history
+from lambda_local.history import comparison, reader, running, script
 from lambda_local.history.entries import Answer
-from lambda_local.history.opening import Configuration
 from lambda_local.history.shapes import NotTrace
 from lambda_local.json_reader import NotJson, read_json
 from lambda_local.life import Life
@@ -51,10 +50,27 @@ HISTORY = (b'form 2\n{"account":"123456789012","accountLimit":1000,"functions":[
            b'# 0 0 registered 00000000-0000-8000-a001-000000000001\n2 next 1\n3 invoke f - =Root=1 ={}\n'
            b'# 2 1 deliver ' + REQUEST.encode() + b' 4000 ={}\n9 response 1 1 =1\n# 3 2 output =1\n# 3 3 accepted\n'
            b'## 4000 expire 1\n4001 stop\n# 5 5 accepted\n')
-TRACE = (b'{"answers":[{"answer":"deliver","body":"{}","deadline":4000,"invoke":1,"request":"' + REQUEST.encode()
-         + b'","ticket":0}],"call":{"bodyBase64":"e30=","function":"f","kind":"invoke","qualified":false,"trace":'
-         b'"Root=1"},"charged":1,"moment":1000,"phases":[{"deadline":4000,"environment":1,"invoke":1,"phase":"busy"}],'
-         b'"place":1,"released":[],"request":"' + REQUEST.encode() + b'","ticket":0}')
+TRACE = (b'{"answers":[{"answer":"registered","extension":"00000000-0000-8000-a001-000000000001","ticket":0}],'
+         b'"call":{"account":true,"environment":1,"invoke":true,"kind":"register","name":"x","shutdown":true},'
+         b'"moment":1,"phases":[{"deadline":10001,"environment":1,"phase":"starting"}],"released":[],'
+         b'"ticket":0}\n'
+         b'{"answers":[],"call":{"environment":1,"extension":1,"kind":"ext-next"},"moment":1,"phases":[],'
+         b'"released":[],"ticket":1}\n'
+         b'{"answers":[],"call":{"environment":1,"kind":"next"},"moment":2,"phases":[{"environment":1,'
+         b'"phase":"idle"}],"released":[],"ticket":2}\n'
+         b'{"answers":[{"answer":"tell","deadline":3003,"event":"00000000-0000-8000-b001-000000000001",'
+         b'"invoke":3,"request":"REQ","ticket":1},{"answer":"deliver","body":"{}","deadline":3003,"invoke":3,'
+         b'"request":"REQ","ticket":2}],"call":{"body":"{}","function":"f","kind":"invoke","qualified":false,'
+         b'"trace":"Root=1"},"charged":3,"moment":3,"phases":[{"deadline":3003,"environment":1,"invoke":3,'
+         b'"phase":"busy"}],"place":1,"released":[],"request":"REQ","ticket":3}\n'
+         b'{"answers":[{"answer":"output","bodyBase64":"/w==","source":4,"ticket":3},{"answer":"accepted",'
+         b'"ticket":4}],"call":{"bodyBase64":"/w==","environment":1,"id":1,"kind":"response"},"moment":9,'
+         b'"phases":[],"released":[],"ticket":4}\n'
+         b'{"answers":[],"call":{"environment":1,"kind":"expire"},"expires":1,"moment":4001,'
+         b'"phases":[{"deadline":6001,"environment":1,"phase":"closing","reason":"TIMEOUT"}],"released":[3],'
+         b'"ticket":5}\n'
+         b'{"answers":[{"answer":"accepted","ticket":6}],"call":{"kind":"stop"},"moment":4001,"phases":[],'
+         b'"released":[],"ticket":6}\n').replace(b"REQ", REQUEST.encode())
 UP = (b'{"functions":[{"name":"f","command":["true"],"environments":2,"timeout":5,"variables":{"A":"b"},"extensions":'
       b'{"x":"true"},"url":{"cors":{"allowOrigins":["*"]}}}],"routes":{"GET /a/{id}":"f"},"asynchronous":'
       b'{"retries":1,"onFailure":"f"},"account":"123456789012","salt":7}')
@@ -83,7 +99,7 @@ def of_up(data):
             is_a_line(mistake)
         if isinstance(whole, dict) and not list(mistakes(whole)):
             for name in ("BadTimeout", "BadPort", "DuplicatePort", "BadExtension", "RemainderTooSmall"):
-                is_a_line(explained(name, whole))
+                is_a_line(explained(name, whole, "functions[0]"))
 
 
 def of_reports(data):
@@ -95,27 +111,24 @@ def of_reports(data):
 
 
 def of_histories(data):
-    """As a file, and by what follows a service."""
     given = script.Script("a history", data)
     with contextlib.suppress(Fault):
         given.leave_out_cut_line()
         list(comparison.answers_of(given))
-        is_a_line(reasons.sentence("script: line 3", given.line))
+        is_a_line(reasons.of_call(3, given.line))
         list(with_refusals(given, ()))
     given.close()
-    with contextlib.suppress(history.NotHistory, NotJson):
-        configuration, entries = history.opened(data.decode("latin-1"))
-        members = json.loads(HISTORY.split(b"\n")[1])
-        life, follows = Life(members), followed.Followed(Configuration(members))
-        for entry in entries:
-            for event in life.take(follows.take(entry)):
-                str(event)
 
 
 def of_traces(data):
+    """As that of a service comes, in pieces, and what follows it."""
+    life = Life(json.loads(HISTORY.split(b"\n")[1]))
+    pieces = (data[at:at + 70] for at in range(0, len(data), 70))
     with contextlib.suppress(NotTrace):
-        for entry in reader.entries_of(data.split(b"\n"), 2):
+        for entry in reader.entries_of(running.lines_in((*pieces, b"\n")), len(life.environments)):
             assert isinstance(entry.own, (Answer, type(None)))
+            for event in life.take(entry):
+                str(event)
 
 
 def of_templates(data):

@@ -1,97 +1,120 @@
-"""Checks tools/lambda_local/history.py: entries of a text, and of a service as it goes on. The program is
-LAMBDA_LOCAL_PROGRAM, else ./lambda_local."""
-import http.server
+"""Checks tools/lambda_local/history: recorded histories, the entries of a text, and those of a service as they come,
+also of one that breaks off, is silent or answers otherwise. The program is LAMBDA_LOCAL_PROGRAM, else
+./lambda_local."""
+import contextlib
+import itertools
+import json
+import socket
 import threading
+import time
 
-from lambda_local.history.text import (
-    Answer, Entry, Follower, NotHistory, entries_of, opened)
-from lambda_local.json_reader import NotJson
+from lambda_local.history.entries import Answer, Call, Entry
+from lambda_local.history.running import Lost, Running
+from lambda_local.history.shapes import NotTrace
+from lambda_local.history.words import Word
 from lambda_local.rerun.record import parsed
 from lambda_local.service import Fault, Service, ask
 from tests.library.cases import Case
+from tests.library.fake_trace import HEAD, LAST, Fake, chunks, line
 from tests.library.timelines import PROGRAM
+from tests.library.traces import entries_in
 
 REQUEST = "00000000-0000-8000-8001-000000000001"
+CONFIGURATION = ('{"account":"123456789012","accountLimit":1000,"functions":[{"extensions":[EXTENSIONS],'
+                 '"handler":"a.b","name":"NAME","ports":[1],"timeout":3}],"invokePort":9,"leastRemainder":100,'
+                 '"maxEntries":1000,"region":"us-east-1","salt":0}')
+OPENING = "form 2\n" + CONFIGURATION.replace("EXTENSIONS", "").replace("NAME", "f") + "\n"
 # One function, one environment: a poll, an invocation, its response, and the end of a Busy whose runtime does not ask
-# again.
-LINES = ['1 next 1', '5 invoke f - =Root=1%20 ={"a":%201}', f'# 1 0 deliver {REQUEST} 4000 ={{"a":%201}}',
-         '9 response 1 1 ="ok"', '# 2 1 output ="ok"', '# 2 2 accepted', '## 4000 expire 1']
+# again, with a comment between them.
+TEXT = OPENING + f"""1 next 1
+5 invoke f - =Root=1 ={{"a":%201}}
+# 1 0 deliver {REQUEST} 3005 ={{"a":%201}}
+# x y z
+9 response 1 1 ="ok"
+# 2 1 output ="ok"
+# 2 2 accepted
+## 3005 expire 1
+3005 tick
+# 4 4 done
+"""
+# Lines that no history has, each by what is wrong with it, and what is said of it.
+WRONG_LINES = {"a call that is none": "1 dance 1", "no moment": "x next 1", "a field too few": "1 response 1",
+               "a field too many": "1 stop 2", "an environment of 5,000 digits": "1 next " + "9" * 5000,
+               "a number of another script": "1 next \u0661", "an environment that is not there": "1 next 2"}
+WRONG_ANSWERS = {"an answer that is none": "0 0 dances", "a delivery without its body": "0 0 deliver 1",
+                 "an identifier that is none": "0 0 registered x", "an answer to a poll that waits": "0 0 accepted"}
 
 
 def refused(read, *words):
     """The fault of a reader over something, which must be its own."""
     try:
         read(*words)
-    except (NotHistory, NotJson, Fault) as fault:
+    except Fault as fault:
         return str(fault)
     return "is read"
 
 
-CONFIGURATION = ('{"account":"123456789012","accountLimit":1000,"functions":[{"extensions":[EXTENSIONS],'
-                 '"handler":"a.b","name":"NAME","ports":[1],"timeout":3}],"invokePort":9,"leastRemainder":100,'
-                 '"maxEntries":1000,"region":"us-east-1","salt":0}')
-# Lines that no history has, each by a word of what is wrong.
-WRONG_LINES = {"a call that is none": "1 dance 1", "no moment": "x next 1", "a field too few": "1 response 1",
-               "a field too many": "1 stop 2", "an environment of 5,000 digits": "1 next " + "9" * 5000,
-               "a number of another script": "1 next \u0661", "an expiry without an environment": "## 1 expire",
-               "an answer that is none": "1 next 1\n# 0 0 dances",
-               "a delivery without its body": "1 next 1\n# 0 0 deliver 1",
-               "an identifier that is none": "1 next 1\n# 0 0 registered x"}
-
-
-def recorded(line="", extensions='"x"', name="f"):
-    """What is said of a recorded history with this line, or this configuration."""
+def recorded(lines="", extensions='"x"', name="f"):
+    """What is said of a recorded history with these lines, or this configuration."""
     opening = CONFIGURATION.replace("EXTENSIONS", extensions).replace("NAME", name)
-    return refused(parsed, f"form 2\n{opening}\n{line}\n", "F", PROGRAM)
+    return refused(parsed, f"form 2\n{opening}\n{lines}\n", "F", PROGRAM)
 
 
-class Fake(http.server.BaseHTTPRequestHandler):
-    """A service of these lines that knows `from`, or does not."""
-    protocol_version = "HTTP/1.1"
+def entry(ticket):
+    return Entry(ticket, ticket, Call("next", environment=1))
 
-    def do_GET(self):
-        entries = [at for at, line in enumerate(self.server.lines) if not line.startswith("# ")]
-        self.server.asked.append(self.path)
-        if self.path == "/_local/stats":
-            body = f'{{"entries":{len(entries)}}}'
-        elif self.server.knows_from:
-            start = int(self.path.partition("from=")[2] or 0)
-            body = "".join(line + "\n" for line in self.server.lines[entries[start]:]) if start < len(entries) else ""
-        else:
-            body = "form 2\n{}\n" + "".join(line + "\n" for line in self.server.lines)
-        self.send_response(200)
-        self.send_header("Content-Length", str(len(body)))
-        self.end_headers()
-        self.wfile.write(body.encode())
 
-    def log_message(self, *_):
-        pass
+def taken(running):
+    """The tickets of the entries that come, and how it ends."""
+    tickets = []
+    try:
+        for one in running.entries():
+            tickets.append(one.ticket)
+    except (Lost, NotTrace) as fault:
+        return tickets, str(fault)
+    return tickets, ""
+
+
+@contextlib.contextmanager
+def following(*answers, pieces=1 << 20, silent=False, **more):
+    server = Fake(*answers, pieces=pieces, silent=silent)
+    running = Running(server.port, 1, **more)
+    try:
+        yield running, server
+    finally:
+        running.close()
+        server.close()
+
+
+TARGET = "/_local/trace?follow=1&from="
 
 
 class History(Case):
     def test_texts(self):
-        first, second, third, fourth = entries_of(LINES)
-        self.check("a poll that waits", (first, first.own, first.environment), (Entry(0, 1, "next", ("1",), ()), None,
-                                                                                1))
-        self.check("an invocation's name and payload", (second.function, second.body, second.environment),
-                   ("f", b'{"a": 1}', None))
-        self.check("its delivery", (second.answers, second.answers[0].body),
-                   ((Answer(0, "deliver", (REQUEST, "4000", '={"a":%201}')),), b'{"a": 1}'))
-        self.check("a response", (third.environment, third.count, third.body, third.own.kind),
-                   (1, 1, b'"ok"', "accepted"))
-        self.check("an expiry", (fourth.number, fourth.kind, fourth.environment, fourth.answers), (3, "expire", 1, ()))
-        self.check("the entries from a number on", [entry.number for entry in entries_of(LINES[3:], 2)], [2, 3])
-        configuration, entries = opened("\n".join(["form 2", '{"functions":[]}', *LINES, ""]))
-        self.check("a whole history", (configuration, len(list(entries))), ({"functions": []}, 4))
+        poll, invoke, response, expiry, tick = entries_in(TEXT)
+        self.check("a poll that waits", (poll.call, poll.own, poll.answers), (Call("next", 1), None, ()))
+        self.check("an invocation's name, payload and trace", invoke.call,
+                   Call("invoke", function="f", body=b'{"a": 1}', trace="Root=1"))
+        self.check("its delivery", invoke.answers,
+                   (Answer(0, Word.DELIVER, 3005, REQUEST, source=1, body=b'{"a": 1}'),))
+        self.check("a response", (response.call, response.own and response.own.word),
+                   (Call("response", 1, id=1, body=b'"ok"'), Word.ACCEPTED))
+        self.check("an expiry", (expiry.ticket, expiry.call, expiry.expires, expiry.answers),
+                   (3, Call("expire", 1), 1, ()))
+        self.check("what follows it", (tick.ticket, tick.call), (4, Call("tick")))
+        self.check("it is a recording", refused(parsed, TEXT, "F", PROGRAM), "is read")
 
     def test_wrong_histories(self):
-        for name, line in WRONG_LINES.items():
-            seen = refused(lambda text: list(entries_of(text.split("\n"))), line)
-            self.check(f"{name} is refused", seen.startswith("this is not a"), True)
-        self.check("a comment is none", [entry.number for entry in entries_of(["# 1", "1 next 1", "# 0", "#",
-                                                                               "# x y z"])], [0])
+        for name, wrong in WRONG_LINES.items():
+            seen = recorded(wrong)
+            self.check(f"{name} is refused", seen.startswith("F: line 3 "), shown=seen)
+        for name, wrong in WRONG_ANSWERS.items():
+            seen = recorded(f"1 next 1\n# {wrong}", extensions="")
+            self.check(f"{name} is refused", seen.startswith(f"F: line 4: the history has `{wrong}`, and the replay "),
+                       shown=seen)
+        self.check("a comment is no answer", recorded("# 1\n1 next 1\n# 0\n#\n# x y z", extensions=""), "is read")
         for name, text in {"nothing": "", "5,000 levels": "form 2\n" + "[" * 5000, "a list": "form 2\n[]"}.items():
-            self.check(f"an opening of {name} is refused", refused(opened, text) != "is read", True)
+            self.check(f"an opening of {name} is refused", refused(parsed, text, "F", PROGRAM) != "is read")
 
     def test_wrong_recordings(self):
         self.check("a recording with a trace", recorded("1 invoke f - =Root=1-2;Sampled=0 ={}"), "is read")
@@ -107,49 +130,77 @@ class History(Case):
                    "edited, or is of another version of lambda_local")
 
     def test_follows(self):
-        for knows_from in (True, False):
-            server = http.server.ThreadingHTTPServer(("127.0.0.1", 0), Fake)
-            server.daemon_threads = True
-            server.lines, server.knows_from, server.asked = LINES[:1], knows_from, []
-            threading.Thread(target=server.serve_forever, args=(0.05,)).start()
-            word = "a service that knows from" if knows_from else "a service that gives the whole"
-            try:
-                follower = Follower(server.server_address[1])
-                self.check(f"{word}: the first entry", [entry.number for entry in follower.read()], [0])
-                self.check(f"{word}: nothing new", follower.read(), [])
-                server.lines = LINES
-                self.check(f"{word}: what is new", follower.read(), list(entries_of(LINES))[1:])
-                self.check(f"{word}: nothing new again", (follower.read(), follower.next), ([], 4))
-                histories = [path for path in server.asked if path != "/_local/stats"]
-                self.check(f"{word}: what it is asked", histories,
-                           [f"/_local/history?from={n}" for n in ((0, 1, 1, 4) if knows_from else (0, 1))])
-                follower.close()
-            finally:
-                server.shutdown()
-                server.server_close()
+        body = line(0) + line(1) + line(2)
+        for size, pieces in itertools.product((1, 7, 1000), (1, 5, 1000)):
+            with following(HEAD + chunks(body, size) + LAST, pieces=pieces) as (running, _):
+                self.check(f"chunks of {size} bytes in pieces of {pieces}", list(running.entries()),
+                           [entry(0), entry(1), entry(2)])
+        with following(HEAD + chunks(line(0)), HEAD + chunks(line(1) + line(2)[:20]), HEAD + chunks(line(2)) + LAST
+                       ) as (running, server):
+            self.check("a connection that breaks", taken(running), ([0], "the connection ends within a message"))
+            self.check("in a line", taken(running), ([1], "the connection ends within a message"))
+            self.check("it goes on with the next entry", (taken(running), running.next), (([2], ""), 3))
+            self.check("what was asked", server.asked, [f"{TARGET}{n}" for n in (0, 1, 2)])
+
+    def test_silent(self):
+        """A service that is silent is asked again, and one that does not answer is lost."""
+        answers = (HEAD + chunks(line(0)), HEAD + chunks(line(1) + line(2)[:9]), HEAD, HEAD + chunks(line(2)) + LAST)
+        with following(*answers, silent=True, silence=1.0) as (running, server):
+            self.check("each entry once", taken(running), ([0, 1, 2], ""))
+            self.check("what was asked", server.asked, [f"{TARGET}{n}" for n in (0, 1, 2, 2)])
+        with following(b"", silent=True, silence=1.0) as (running, _):
+            self.check("no answer", taken(running), ([], "no answer within 1 s"))
+        with following(HEAD, silent=True) as (running, server):
+            thread = threading.Thread(target=lambda: came.append(taken(running)))
+            came = []
+            thread.start()
+            while not server.held:
+                time.sleep(0.01)
+            running.close()
+            thread.join(10)
+            self.check("one that is closed ends", came, [([], "")])
+            self.check("and is over", taken(running), ([], ""))
+
+    def test_wrong_services(self):
+        for name, answer, wanted in (
+            ("an answer that is none", b"HTTP/1.1 500 No\r\ncontent-length: 5\r\n\r\nworse",
+             f"GET {TARGET}0: 500 worse"),
+            ("another service", b"HTTP/1.1 404 No\r\ncontent-length: 0\r\n\r\n", f"GET {TARGET}0: 404 "),
+            ("no HTTP", b"hello\r\n\r\n", "a response begins with HTTP/1.1 STATUS REASON"),
+            ("no answer", b"", "it has closed the connection"),
+            ("a line that is cut off", HEAD + chunks(line(0)[:-1]) + LAST, "its last line is cut off"),
+            ("a line that is none", HEAD + chunks(b"{}\n") + LAST, "entry 0 of the trace: {} is not an entry"),
+            ("another entry", HEAD + chunks(line(1)) + LAST, "entry 0 of the trace: its ticket is 1, and not 0"),
+            ("another environment", HEAD + chunks(line(0).replace(b'"environment":1', b'"environment":2')) + LAST,
+             "entry 0 of the trace: it names an environment that the configuration does not have"),
+        ):
+            with following(answer) as (running, _):
+                self.check(name, taken(running), ([], wanted))
+        with socket.create_server(("127.0.0.1", 0)) as free:
+            port = free.getsockname()[1]
+        self.check("no service", taken(Running(port, 1)), ([], "Connection refused"))
 
     def test_real(self):
         service = Service({"account": "123456789012", "region": "us-east-1",
                            "functions": [{"name": "f", "ports": [0]}]})
+        running = Running(service.port, 1)
         try:
-            follower = Follower(service.port)
-            self.check("a new service has no entry", follower.read(), [])
+            entries = running.entries()
             answer = ask(service.port, "PUT", "/2017-10-31/functions/f/concurrency",
-                         '{"ReservedConcurrentExecutions":0}')
+                         json.dumps({"ReservedConcurrentExecutions": 0}))
             self.check("a reservation", answer[0], 200)
-            self.check("is an entry", [(entry.number, entry.kind, entry.fields, entry.own.kind)
-                                       for entry in follower.read()],
-                       [(0, "reserve", ("f", "0"), "reserved")])
+            first = next(entries)
+            self.check("is an entry", (first.ticket, first.call, first.own and first.own.reserved),
+                       (0, Call("reserve", function="f", reserved=0), 0))
             for _ in range(3):
                 ask(service.port, "POST", "/2015-03-31/functions/f/invocations", "{}")
-            self.check("throttled invocations", [(entry.number, entry.function, entry.own.kind)
-                                                 for entry in follower.read()],
-                       [(n, "f", "throttled") for n in (1, 2, 3)])
-            self.check("nothing else", follower.read(), [])
-            configuration, entries = opened(service.history())
-            self.check("all of it at once", (configuration["functions"][0]["name"],
-                                             [entry.number for entry in entries]),
-                       ("f", [0, 1, 2, 3]))
+            came = [first, *(next(entries) for _ in range(3))]
+            self.check("throttled invocations", [(one.ticket, one.call.function, one.own and one.own.word)
+                                                 for one in came[1:]], [(n, "f", Word.THROTTLED) for n in (1, 2, 3)])
+            self.check("as the history has them", came, entries_in(service.history()))
+            self.check("how many", (running.next, service.stats()["entries"]), (4, 4))
+            status, _ = service.stop()
+            self.check("the stop, and the end", ([one.call.kind for one in entries], status), (["stop"], 0))
         finally:
-            service.stop()
-        follower.close()
+            running.close()
+            service.kill()

@@ -24,7 +24,7 @@ UNPACKED = "unpacked the released program of these sources, once"
 NO_PROGRAM = "there is no program of these sources"
 OTHER_LOGIC = "has another logic"
 TOOLS = ("check", "conformance", "from_template", "rerun", "timeline", "up")
-COMMANDS = ("serve", "replay", "trace", "path", "build", "stamp", *TOOLS)
+COMMANDS = ("serve", "replay", "trace", "explain", "path", "build", "stamp", *TOOLS)
 
 
 def run(root, *words, cwd=None, launcher="lambda_local", **more):

@@ -211,7 +211,7 @@ class TimelineLive(TimelineCase):
             page.service.stop()
             drawn = page.until(lambda drawn: "has gone" in drawn)
             self.check("the page says that the service has gone",
-                       "The service has gone at" in drawn and "Connection refused" in drawn, shown=drawn[:300])
+                       "The service has gone at" in drawn and "it was stopped" in drawn, shown=drawn[:300])
             self.check("its last calls stay", "\noutput" in drawn)
             page.service.kill()
             page.service = Service(dict(CONFIGURATION, invokePort=port))

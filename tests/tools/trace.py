@@ -1,15 +1,12 @@
 """Checks the trace of random scripts (`./lambda_local trace`), of all kinds of calls: the script and the answers of its
 replay can be written again from the trace, so nothing is lost; what is charged is released once, later; without bodies
-all else is the same; the phases are those that `./lambda_local timeline` draws; and what follows a service by the text
-of its history finds each entry as it is. TRACES=N in the environment takes N random scripts (default: 40)."""
+all else is the same; the phases are those that `./lambda_local timeline` draws; and the tools read each entry as it is.
+TRACES=N in the environment takes N random scripts (default: 40)."""
 import base64
 import json
 import os
 import subprocess
 
-from lambda_local.history.followed import Followed
-from lambda_local.history.opening import Configuration
-from lambda_local.history.text import entries_of
 from tests.library.timelines import ONE, PROGRAM, TimelineCase, events, phases, run
 from tests.library.traces import entries_in
 from tests.tools.timeline import random_script
@@ -41,7 +38,11 @@ def traced(script, *words):
 
 def text_field(item):
     """The bytes of an object as a script has them."""
-    whole = item["body"].encode() if "body" in item else base64.b64decode(item["bodyBase64"], validate=True)
+    return shown_bytes(item["body"].encode() if "body" in item
+                       else base64.b64decode(item["bodyBase64"], validate=True))
+
+
+def shown_bytes(whole):
     return "=" + "".join(chr(byte) if 0x21 <= byte <= 0x7E and byte != 0x25 else f"%{byte:02X}" for byte in whole)
 
 
@@ -86,6 +87,38 @@ def canonical(script):
     return form, configuration, again, room
 
 
+# The members of a trace that the tools name otherwise, by what has them.
+NAMED = {"call": {"reserved": "count"}, "answer": {"word": "answer", "source": "invoke", "reserved": "count"},
+         "phase": {"name": "phase"}}
+OF_REGISTER, OF_INVOKE = ("invoke", "shutdown", "account"), ("qualified",)  # that others do not have
+
+
+def object_of(made, what):
+    """What the tools have read, as the trace has it. (Bytes are shown as a script has them.)"""
+    names = {**NAMED[what], **({"source": "source"} if getattr(made, "word", "") in ("output", "error") else {})}
+    found = {names.get(name, name): value for name, value in made._asdict().items() if value is not None}
+    if what == "call":
+        for kind, flags in (("register", OF_REGISTER), ("invoke", OF_INVOKE)):
+            for name in flags if made.kind != kind else ():
+                assert not found.pop(name)
+    return {name: str(value) if name == "answer" else shown_bytes(value) if name == "body" else value
+            for name, value in found.items()}
+
+
+def with_shown_bytes(item):
+    """An object of a trace with its bytes in one form."""
+    body = {"body": text_field(item)} if "body" in item or "bodyBase64" in item else {}
+    return {**{name: value for name, value in item.items() if not name.startswith("body")}, **body}
+
+
+def entry_again(entry):
+    """The object of an entry that the tools have read."""
+    found = {name: value for name, value in entry._asdict().items() if value is not None}
+    return {**found, "call": object_of(entry.call, "call"), "released": list(entry.released),
+            "answers": [object_of(answer, "answer") for answer in entry.answers],
+            "phases": [object_of(phase, "phase") for phase in entry.phases]}
+
+
 def once(names):
     """Names without "closing", each run of equal ones once."""
     names = [name for name in names if name != "closing"]
@@ -100,7 +133,7 @@ class Traces(TimelineCase):
             self.nothing_lost(seed, script, trace)
             self.in_flight(seed, trace)
             self.same_phases(seed, script, trace)
-            self.followed(seed, script, trace)
+            self.as_read(seed, script, trace)
             self.without_bodies(seed, script, trace)
 
     def test_bodies(self):
@@ -157,17 +190,13 @@ class Traces(TimelineCase):
             self.check(f"{seed}: the phases of environment {environment}", once(seen), once(wanted))
         self.check(f"{seed}: a span a call", len(events(drawn, "call")) <= len(trace) + script.count("\n"))
 
-    def followed(self, seed, script, trace):
-        """What a text of the history's form leads to, entry by entry."""
-        lines = []
-        for entry in trace:
-            lines += line_again(entry) or [f"## {entry['moment']} expire {entry['expires']}"]
-            lines += [f"# {line}" for line in answers_again(entry)]
-        follows = Followed(Configuration(json.loads(script.splitlines()[1])))
-        for given, wanted in zip(entries_of(lines), entries_in(script)):
-            seen = follows.take(given)
+    def as_read(self, seed, script, trace):
+        """What the tools read, entry by entry."""
+        for made, given in zip(entries_in(script), trace):
+            seen, wanted = entry_again(made), {**given, "call": with_shown_bytes(given["call"]),
+                                               "answers": [with_shown_bytes(answer) for answer in given["answers"]]}
             if seen != wanted:
-                return self.check(f"{seed}, ticket {wanted.ticket}: as the trace has it", seen, wanted)
+                return self.check(f"{seed}, ticket {made.ticket}: as the trace has it", seen, wanted)
         self.check(f"{seed}: as the trace has it", True)
 
     def without_bodies(self, seed, script, trace):

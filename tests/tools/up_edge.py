@@ -5,13 +5,14 @@ import json
 import os
 import resource
 import signal
-import threading
+import socket
 import time
 import urllib.request
 
 from lambda_local.service import Fault, Service, ask
 from lambda_local.up.watch import Watch
 from tests.library.cases import Case
+from tests.library.fake_trace import HEAD, LAST, Fake, chunks, line
 from tests.library.pipe_log import pipe_log
 from tests.library.ports import free_range
 from tests.library.up_kit import RUNTIME, Up, children, command_of, lives, until
@@ -224,24 +225,55 @@ class UpEdge(Case):
         service = Service({"account": "123456789012", "region": "us-east-1",
                            "functions": [{"name": "f", "ports": [0]}]})
         log, stream = pipe_log()
-        watch = Watch(service, log, threading.Event())
+        watch = Watch(service, log)
+        watch.start()
+
+        def reserve(count):
+            ask(service.port, "PUT", "/2017-10-31/functions/f/concurrency",
+                json.dumps({"ReservedConcurrentExecutions": count}))
+        reserve(0)
         watch.refresh()
-        ask(service.port, "PUT", "/2017-10-31/functions/f/concurrency", '{"ReservedConcurrentExecutions":0}')
-        watch.follower._connection.close()
+        self.check("what the service has is here", watch.running.next, 1)
         limits = resource.getrlimit(resource.RLIMIT_NOFILE)
         resource.setrlimit(resource.RLIMIT_NOFILE, (3, limits[1]))
         try:
-            for _ in range(3):
-                watch.refresh()
+            watch.running._socket.shutdown(socket.SHUT_RDWR)
+            self.check("without a descriptor it is lost", until(lambda: "descriptors" in watch.warnings, 60))
+            time.sleep(1)
         finally:
             resource.setrlimit(resource.RLIMIT_NOFILE, limits)
-        self.check("without a descriptor it takes nothing", watch.follower.next, 0)
-        watch.refresh()
-        self.check("with one it takes what has come", watch.follower.next, 1)
+        reserve(1)
+        self.check("with one it takes what has come", until(lambda: watch.running.next == 2, 60))
+        self.check("it goes on", watch.is_alive())
+        service.process.kill()
+        watch.join(60)
+        self.check("and ends with the service", not watch.is_alive())
         log.close()
         log.writer.join(10)
         log.stream.close()
         lines = stream.read().decode().splitlines()
         self.check("what it lacks is told once", [line.count("no descriptor to read the history by") for line in lines],
                    [1])
-        service.stop()
+        service.kill()
+
+    def test_history_that_is_none(self):
+        """A service that gives no history is asked again, and that is told once."""
+        service = Service({"account": "123456789012", "region": "us-east-1",
+                           "functions": [{"name": "f", "ports": [0]}]})
+        other = Fake(*[HEAD + chunks(b"{}\n") + LAST] * 2, *[b""] * 7, HEAD + chunks(line(0)) + LAST)
+        log, stream = pipe_log()
+        watch = Watch(service, log)
+        watch.running.port = other.port
+        watch.start()
+        watch.join(60)
+        self.check("it goes on until it has its entry", (watch.is_alive(), watch.running.next), (False, 1))
+        log.close()
+        log.writer.join(10)
+        log.stream.close()
+        told = stream.read().decode()
+        self.check("each cause is told once", [told.count(words) for words in (
+            "the service's history cannot be read: NotTrace: entry 0 of the trace: {} is not an entry",
+            "the service does not give its history: it has closed the connection: it is asked again")], [1, 1],
+            shown=told)
+        other.close()
+        service.kill()

@@ -170,6 +170,17 @@ class UpFailures(Case):
         self.check("a change starts it again", until(lambda: isinstance(up.invoke()[0], int), 10))
         self.check("nothing is left of mended ones", up.end(), (0, []))
 
+    def test_stop(self):
+        """What a stop ends is told before the end."""
+        up = Up(timeout=60)
+        up.until("[up] ready")
+        caller = threading.Thread(target=up.invoke, kwargs={"do": "hang"})
+        caller.start()
+        until(lambda: '"inFlight":1' in up.get("/_local/stats"), 60)
+        self.check("a stop ends an invocation", up.end(), (0, []))
+        caller.join(60)
+        self.check("and that is told", [" ended by the stop" in line for line in up.lines[-2:]], [True, False])
+
     def test_pauses(self):
         restarts, seen = Restarts(False), []
         for _ in range(6):

@@ -7,6 +7,7 @@ import subprocess
 import tempfile
 
 from lambda_local.configuration import SENTENCES, explained
+from lambda_local.program import place_of_fault
 from tests import ROOT
 from tests.library.cases import Case
 from tests.library.up_kit import LAUNCHER
@@ -78,12 +79,14 @@ OF_FUNCTION = {
     "a NUL in a path": ({"watch": ["a\0"]}, 'watch: "a\\u0000": no path has a NUL, or half a character'),
     # These the service refuses, and its word for it is explained.
     "a long timeout": ({"timeout": 1000},
-                       "timeout must be from 1 to 900 seconds, not 1000 (the service says BadTimeout)"),
+                       "timeout must be from 1 to 900 seconds, not 1000 (the service says BadTimeout at "
+                       "functions[0].timeout)"),
     "a reservation": ({"reserved": 5, "environments": 4},
                       "it reserves 5 and has 4 environments: reserve at most as many, or give it more "
-                      "(the service says ReservationAboveEnvironments)"),
+                      "(the service says ReservationAboveEnvironments at functions[0].reserved)"),
     "a handler": ({"handler": ""},
-                  'handler must have 1 to 128 printable ASCII characters, not "" (the service says BadHandler)'),
+                  'handler must have 1 to 128 printable ASCII characters, not "" (the service says BadHandler at '
+                  'functions[0].handler)'),
 }
 # What UP.json says instead of one function `a`, and what is said after "up: up.json: ".
 OF_SERVICE = {
@@ -93,17 +96,20 @@ OF_SERVICE = {
     "a function that is a text": ({"functions": ["greet"]}, 'function number 1 must be an object, not "greet"'),
     "functions by name": ({"functions": {"greet": {}}}, 'functions must be a list of objects, not {"greet": {}}'),
     "a name with a space": ({"functions": [{"name": "a b"}]},
-                            'function "a b": a name has 1 to 64 of A-Z, a-z, 0-9, - and _ (the service says BadName)'),
+                            'function "a b": a name has 1 to 64 of A-Z, a-z, 0-9, - and _ (the service says BadName at '
+                            'functions[0].name)'),
     "a name twice": ({"functions": [{"name": "a"}, {"name": "a"}]},
-                     "two functions have the name a: each must have its own (the service says DuplicateName)"),
-    "an account": ({"account": "12"}, 'account must be 12 digits, not "12" (the service says BadAccount)'),
-    "a region": ({"region": "EU"}, 'region must have 1 to 32 of a-z, 0-9 and -, not "EU" (the service says BadRegion)'),
+                     "two functions have the name a: each must have its own (the service says DuplicateName at "
+                     "functions[1].name)"),
+    "an account": ({"account": "12"}, 'account must be 12 digits, not "12" (the service says BadAccount at account)'),
+    "a region": ({"region": "EU"},
+                 'region must have 1 to 32 of a-z, 0-9 and -, not "EU" (the service says BadRegion at region)'),
     "a small account": ({"accountLimit": 50},
                         "leastRemainder must be at most accountLimit, which is 50, not 100, the default "
-                        "(the service says BadLeastRemainder)"),
+                        "(the service says BadLeastRemainder at leastRemainder)"),
     "a small history": ({"maxEntries": 1},
                         "maxEntries must be from 2, one more than there are environments, to 4294967296, not 1 "
-                                           "(the service says EntriesOutOfRange)"),
+                        "(the service says EntriesOutOfRange at maxEntries)"),
 }
 
 
@@ -141,6 +147,16 @@ FAULTS = {
     "BadShape": ({"functions": [{"name": "a", "ports": [1], "timeout": "5"}]},
                  "function a: timeout must be a whole number"),
 }
+# Where they are.
+PLACES = {
+    "BadAccount": "account", "BadRegion": "region", "BadAccountLimit": "accountLimit",
+    "BadLeastRemainder": "leastRemainder", "TooManyFunctions": "functions[64]", "BadName": "functions[0].name",
+    "DuplicateName": "functions[1].name", "BadHandler": "functions[1].handler", "BadTimeout": "functions[1].timeout",
+    "NoEnvironment": "functions[0].ports", "TooManyEnvironments": "functions[1].ports",
+    "BadPort": "functions[0].ports", "DuplicatePort": "functions[0].ports",
+    "TooManyExtensions": "functions[0].extensions", "BadExtension": "functions[0].extensions",
+    "DuplicateExtension": "functions[0].extensions", "ReservationAboveEnvironments": "functions[0].reserved",
+    "RemainderTooSmall": "functions[0].reserved", "EntriesOutOfRange": "maxEntries", "BadShape": ""}
 
 
 class UpMembers(Case):
@@ -205,7 +221,11 @@ class UpMembers(Case):
                     json.dump(whole, file)
                 done = subprocess.run([program, "serve", path], capture_output=True, text=True, timeout=60)
                 self.check(f"the service says {name}", done.stderr.splitlines()[-1:], [f"configuration: {name}"])
-                self.check(f"{name} is explained", words in explained(name, whole), shown=explained(name, whole))
+                with open(path, "rb") as file:
+                    place = place_of_fault(program, file.read())
+                told = explained(name, whole, place)
+                self.check(f"{name} is explained", words in told, shown=told)
+                self.check(f"{name} has its place", place, PLACES[name])
         self.check("all of them", set(FAULTS), set(SENTENCES))
         self.check("a name that nobody knows is not explained", explained("Other", {"functions": []}), "")
 

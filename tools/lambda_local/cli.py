@@ -19,7 +19,8 @@ TOOLS = {
     "up": ".up",
 }
 SAME = {"help": ["--help"], **dict.fromkeys(("-V", "-v", "version"), ["--version"])}
-SHAPES: Tuple[List[str], ...] = ([], ["replay"], ["trace"], ["trace", "--bodies", "none"], ["path"], ["--version"])
+SHAPES: Tuple[List[str], ...] = ([], ["replay"], ["trace"], ["trace", "--bodies", "none"], ["explain"], ["path"],
+                                 ["--version"])
 
 
 def start(program: str, words: List[str]) -> int:
@@ -31,7 +32,7 @@ def start(program: str, words: List[str]) -> int:
     os.environ.pop("LAMBDA_LOCAL_PROGRAM", None)
     if words[:1] == ["serve"]:
         explain.before_serving(program, words[1])
-    elif explain.is_file(0) or explain.is_pipe(0):
+    elif words != ["explain"] and (explain.is_file(0) or explain.is_pipe(0)):
         return explain.replayed(program, words)
     os.execv("/bin/sh", ["/bin/sh", "-c", '. "$0" && begin "$@"', LIMITS, program, *words])
 

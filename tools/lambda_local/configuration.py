@@ -1,7 +1,7 @@
 """What a service's configuration may contain (docs/formats.md), and in words what is wrong with one that is refused.
 
-The service decides; this finds the member that it means. `mistakes` finds members that are unknown or have another
-type; `explained` says which function one of the service's own faults, such as `BadTimeout`, is about."""
+`mistakes` finds members that are unknown or have another type. All else the program decides, and says where:
+`explained` has a sentence for one of its faults, such as `BadTimeout`, at its place, such as `functions[3].timeout`."""
 import difflib
 import json
 import re
@@ -117,130 +117,120 @@ def repeated(values: Iterable[Hashable]) -> Optional[Hashable]:
     return next((value for value, count in Counter(values).items() if count > 1), None)
 
 
-def first(functions: List[Members], is_wrong: Callable[[Members], bool]) -> Tuple[Members, str]:
-    """The first function of which this holds, and its name in a sentence."""
-    function = next(member for member in functions if is_wrong(member))
-    return function, f"function {function['name']}: "
+class Refused(NamedTuple):
+    """A configuration, its functions, and the function that its fault is about."""
+    whole: Members
+    functions: List[Members]
+    number: Optional[int]  # from 0; none if it is about the account
+
+    @property
+    def function(self) -> Members:
+        if self.number is None:
+            raise IndexError
+        return self.functions[self.number]
+
+    @property
+    def where(self) -> str:
+        """The function's name in a sentence."""
+        return f"function {self.function['name']}: "
 
 
-def bad_least_remainder(whole: Members, functions: List[Members]) -> str:
-    limit, least = whole.get("accountLimit", 1000), whole.get("leastRemainder", 100)
-    by_default = "" if "leastRemainder" in whole else ", the default"
+def bad_least_remainder(of: Refused) -> str:
+    limit, least = of.whole.get("accountLimit", 1000), of.whole.get("leastRemainder", 100)
+    by_default = "" if "leastRemainder" in of.whole else ", the default"
     return f"leastRemainder must be at most accountLimit, which is {limit}, not {least}{by_default}"
 
 
-def duplicate_name(whole: Members, functions: List[Members]) -> str:
-    name = repeated([member["name"] for member in functions])
-    return f"two functions have the name {name}: each must have its own"
+def bad_handler(of: Refused) -> str:
+    return f"{of.where}handler must have 1 to 128 printable ASCII characters, not {shown(of.function['handler'])}"
 
 
-def bad_name(whole: Members, functions: List[Members]) -> str:
-    function, _ = first(functions, lambda member: not re.fullmatch(r"[A-Za-z0-9_-]{1,64}", member["name"]))
-    return f"function {shown(function['name'])}: a name has 1 to 64 of A-Z, a-z, 0-9, - and _"
-
-
-def bad_handler(whole: Members, functions: List[Members]) -> str:
-    function, where = first(functions, lambda member: not is_label(member.get("handler", "index.handler")))
-    return f"{where}handler must have 1 to 128 printable ASCII characters, not {shown(function['handler'])}"
-
-
-def bad_timeout(whole: Members, functions: List[Members]) -> str:
-    function, where = first(functions, lambda member: not 1 <= member.get("timeout", 3) <= 900)
-    return f"{where}timeout must be from 1 to 900 seconds, not {function['timeout']}"
-
-
-def no_environment(whole: Members, functions: List[Members]) -> str:
-    return first(functions, lambda member: not member["ports"])[1] + "it has no environment: give it at least one port"
-
-
-def too_many_environments(whole: Members, functions: List[Members]) -> str:
-    most = max(functions, key=lambda member: len(member["ports"]))
+def too_many_environments(of: Refused) -> str:
+    most = max(of.functions, key=lambda member: len(member["ports"]))
     of_most = f"{len(most['ports'])} of them of function {most['name']}"
-    return f"{environments_of(functions)} environments in all, {of_most}: 256 is the most"
+    return f"{environments_of(of.functions)} environments in all, {of_most}: 256 is the most"
 
 
 def environments_of(functions: List[Members]) -> int:
     return sum(len(member["ports"]) for member in functions)
 
 
-def owners_of(port: int, whole: Members, functions: List[Members]) -> List[str]:
+def owners_of(port: int, of: Refused) -> List[str]:
     """Returns the owners of a port: the callers, or functions."""
-    return (["invokePort"] if whole.get("invokePort", 9000) == port else []) + [
-        f"function {member['name']}" for member in functions for other in member["ports"] if other == port]
+    return (["invokePort"] if of.whole.get("invokePort", 9000) == port else []) + [
+        f"function {member['name']}" for member in of.functions for other in member["ports"] if other == port]
 
 
-def bad_port(whole: Members, functions: List[Members]) -> str:
-    return f"{owners_of(0, whole, functions)[0]}: 0 is not a port: write one from 1 to 65535"
+def bad_port(of: Refused) -> str:
+    owner = "invokePort" if of.number is None else f"function {of.function['name']}"
+    return f"{owner}: 0 is not a port: write one from 1 to 65535"
 
 
-def duplicate_port(whole: Members, functions: List[Members]) -> str:
-    ports = [whole.get("invokePort", 9000), *(port for member in functions for port in member["ports"])]
+def duplicate_port(of: Refused) -> str:
+    ports = [of.whole.get("invokePort", 9000), *(port for member in of.functions for port in member["ports"])]
     port = next(port for port, count in Counter(ports).items() if count > 1)
-    return f"port {port} appears twice: {' and '.join(owners_of(port, whole, functions)[:2])} have it"
+    return f"port {port} appears twice: {' and '.join(owners_of(port, of)[:2])} have it"
 
 
-def too_many_extensions(whole: Members, functions: List[Members]) -> str:
-    function, where = first(functions, lambda member: len(member.get("extensions", [])) > 10)
-    return f"{where}{len(function['extensions'])} extensions: ten are the most"
+def bad_extension(of: Refused) -> str:
+    name = next(name for name in of.function["extensions"] if not is_label(name))
+    return f"{of.where}the name of an extension has 1 to 128 printable ASCII characters, not {shown(name)}"
 
 
-def bad_extension(whole: Members, functions: List[Members]) -> str:
-    function, where = first(functions, lambda member: not all(map(is_label, member.get("extensions", []))))
-    name = next(name for name in function["extensions"] if not is_label(name))
-    return f"{where}the name of an extension has 1 to 128 printable ASCII characters, not {shown(name)}"
-
-
-def duplicate_extension(whole: Members, functions: List[Members]) -> str:
-    function, where = first(functions, lambda member: repeated(member.get("extensions", [])) is not None)
-    return f"{where}the extension {shown(repeated(function['extensions']))} appears twice"
-
-
-def reservation_above_environments(whole: Members, functions: List[Members]) -> str:
-    function, where = first(functions, lambda member: bool(member.get("reserved", 0) > len(member["ports"])))
-    return (f"{where}it reserves {function['reserved']} and has {len(function['ports'])} environments: "
+def reservation_above_environments(of: Refused) -> str:
+    return (f"{of.where}it reserves {of.function['reserved']} and has {len(of.function['ports'])} environments: "
             "reserve at most as many, or give it more")
 
 
-def remainder_too_small(whole: Members, functions: List[Members]) -> str:
-    reserved = sum(member.get("reserved", 0) for member in functions)
-    limit, least = whole.get("accountLimit", 1000), whole.get("leastRemainder", 100)
+def remainder_too_small(of: Refused) -> str:
+    reserved = sum(member.get("reserved", 0) for member in of.functions)
+    limit, least = of.whole.get("accountLimit", 1000), of.whole.get("leastRemainder", 100)
     return (f"the functions reserve {reserved} of accountLimit {limit}: leastRemainder {least} must stay unreserved; "
             "reserve less, or write another accountLimit or leastRemainder")
 
 
-def entries_out_of_range(whole: Members, functions: List[Members]) -> str:
-    least = environments_of(functions) + 1
+def entries_out_of_range(of: Refused) -> str:
+    least = environments_of(of.functions) + 1
     return (f"maxEntries must be from {least}, one more than there are environments, to {1 << 32}, "
-            f"not {whole.get('maxEntries')}")
+            f"not {of.whole.get('maxEntries')}")
 
 
-SENTENCES: Dict[str, Callable[[Members, List[Members]], str]] = {
-    "BadAccount": lambda whole, functions: f"account must be 12 digits, not {shown(whole['account'])}",
-    "BadRegion": lambda whole, functions: f"region must have 1 to 32 of a-z, 0-9 and -, not {shown(whole['region'])}",
-    "BadAccountLimit": lambda whole, functions: f"accountLimit must be from 1 to 1000000, not {whole['accountLimit']}",
+SENTENCES: Dict[str, Callable[[Refused], str]] = {
+    "BadAccount": lambda of: f"account must be 12 digits, not {shown(of.whole['account'])}",
+    "BadRegion": lambda of: f"region must have 1 to 32 of a-z, 0-9 and -, not {shown(of.whole['region'])}",
+    "BadAccountLimit": lambda of: f"accountLimit must be from 1 to 1000000, not {of.whole['accountLimit']}",
     "BadLeastRemainder": bad_least_remainder,
-    "TooManyFunctions": lambda whole, functions: f"{len(functions)} functions: 64 are the most",
-    "BadName": bad_name,
-    "DuplicateName": duplicate_name,
+    "TooManyFunctions": lambda of: f"{len(of.functions)} functions: 64 are the most",
+    "BadName": lambda of: f"function {shown(of.function['name'])}: a name has 1 to 64 of A-Z, a-z, 0-9, - and _",
+    "DuplicateName": lambda of: f"two functions have the name {of.function['name']}: each must have its own",
     "BadHandler": bad_handler,
-    "BadTimeout": bad_timeout,
-    "NoEnvironment": no_environment,
+    "BadTimeout": lambda of: f"{of.where}timeout must be from 1 to 900 seconds, not {of.function['timeout']}",
+    "NoEnvironment": lambda of: of.where + "it has no environment: give it at least one port",
     "TooManyEnvironments": too_many_environments,
     "BadPort": bad_port,
     "DuplicatePort": duplicate_port,
-    "TooManyExtensions": too_many_extensions,
+    "TooManyExtensions": lambda of: f"{of.where}{len(of.function['extensions'])} extensions: ten are the most",
     "BadExtension": bad_extension,
-    "DuplicateExtension": duplicate_extension,
+    "DuplicateExtension":
+        lambda of: f"{of.where}the extension {shown(repeated(of.function['extensions']))} appears twice",
     "ReservationAboveEnvironments": reservation_above_environments,
     "RemainderTooSmall": remainder_too_small,
     "EntriesOutOfRange": entries_out_of_range,
-    "BadShape": lambda whole, functions: next(mistakes(whole)),
+    "BadShape": lambda of: next(mistakes(of.whole)),
 }
+OF_FUNCTION_AT = re.compile(r"functions\[([0-9]{1,9})\](\.\w+)?")
 
 
-def explained(name: str, configuration: Any) -> str:
-    """A sentence on what the service means by this name of a fault; nothing if this page knows no reason."""
+def explained(name: str, configuration: Any, place: str = "") -> str:
+    """A sentence on what the program means by this name of a fault, at the place that it gives; nothing if this page
+    knows no reason, or would need the place of it."""
+    found = OF_FUNCTION_AT.fullmatch(place)
     try:
-        return SENTENCES[name](configuration, configuration["functions"])
+        return SENTENCES[name](Refused(configuration, configuration["functions"], int(found[1]) if found else None))
     except (KeyError, IndexError, StopIteration, TypeError, ValueError, AttributeError):
         return ""
+
+
+def says(name: str, place: str) -> str:
+    """What the program says of a fault, in a sentence."""
+    return f"says {name} at {place}" if place else f"says {name}"

@@ -54,7 +54,7 @@ def of_configuration(program: str, path: str) -> Iterator[str]:
     with open(path, "rb") as file:
         script = script_of(file.read())
     said = said_of(program, ["replay"], script)
-    told = sentence(said, among(script.split(b"\n"))) if said is not None else said
+    told = sentence(said, among(script.split(b"\n")), program) if said is not None else said
     if told is not None and told != said:
         yield f"{path}: {told.partition(', the configuration: ')[2]}"
 
@@ -73,11 +73,11 @@ def of_script(program: str, path: str) -> Iterator[str]:
     with open(path, "rb") as file:
         script = file.read()
     said = said_of(program, ["replay"], script)
-    yield from of_said(said, among(script.split(b"\n")))
+    yield from of_said(said, among(script.split(b"\n")), program)
 
 
-def of_said(said: Optional[str], line_of: LineOf) -> Iterator[str]:
-    told = sentence(said, line_of) if said is not None else said
+def of_said(said: Optional[str], line_of: LineOf, program: str) -> Iterator[str]:
+    told = sentence(said, line_of, program) if said is not None else said
     if told is not None and told != said:
         yield told
 
@@ -131,9 +131,9 @@ class Piped:
             found = self.last.split(b"\n")
         return bytes(found[at]) if at < len(found) else None
 
-    def told(self) -> Iterator[str]:
+    def told(self, program: str) -> Iterator[str]:
         self.hearing.join()
-        yield from of_said(self.said.decode(errors="replace").strip().rpartition("\n")[2], self.line_of)
+        yield from of_said(self.said.decode(errors="replace").strip().rpartition("\n")[2], self.line_of, program)
 
 
 def is_pipe(descriptor: int) -> bool:
@@ -187,7 +187,7 @@ def replayed(program: str, words: List[str]) -> int:
             signal.signal(ended_by, signal.SIG_DFL)
         os.kill(os.getpid(), ended_by)
     if status == 2:
-        for line in of_script(program, "/proc/self/fd/0") if piped is None else piped.told():
+        for line in of_script(program, "/proc/self/fd/0") if piped is None else piped.told(program):
             tell(f"lambda_local: {line}")
     if piped is not None:
         piped.hearing.join()

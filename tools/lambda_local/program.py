@@ -58,3 +58,14 @@ def ask_launcher(launcher: str) -> str:
 def tell_unproved(program: str) -> None:
     print(f"lambda_local: {program} is not proved: './lambda_local build' proves and builds the program",
           file=sys.stderr)
+
+
+def place_of_fault(program: str, configuration: bytes) -> str:
+    """Where the first fault of a configuration is, as the program says it; nothing if it does not."""
+    try:
+        done = subprocess.run([program, "explain"], input=configuration, stdout=subprocess.DEVNULL,
+                              stderr=subprocess.PIPE)
+    except OSError:
+        return ""
+    lines = done.stderr.decode(errors="replace").splitlines()
+    return lines[1] if done.returncode == 2 and len(lines) == 2 and lines[0].startswith("configuration: ") else ""

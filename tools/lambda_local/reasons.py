@@ -2,8 +2,9 @@
 import re
 from typing import Callable, List, Optional
 
-from .configuration import explained
+from .configuration import explained, says
 from .json_reader import NotJson, read_json
+from .program import place_of_fault
 
 SCRIPT = re.compile(r"script: line ([1-9][0-9]{0,9})")
 CONFIGURATION = re.compile(r"configuration: (\w+)")
@@ -40,21 +41,29 @@ def among(lines: List[bytes]) -> LineOf:
     return lambda number: lines[number - 1] if number <= len(lines) else None
 
 
-def sentence(said: str, line_of: LineOf) -> str:
-    """A sentence for what the program said about these lines; the program's own words if none is known."""
+def of_call(number: int, line_of: LineOf) -> str:
+    """A sentence for a line of a script that is not a call."""
+    line, said = line_of(number), f"script: line {number}"
+    if line is None:
+        return said
+    return (f"line {number} is not a call: {shown(line)}: {of_line(line, line_of(1) == FORM_2)} "
+            f"(the program says {said})")
+
+
+def sentence(said: str, line_of: LineOf, program: str) -> str:
+    """A sentence for what this program said about these lines; the program's own words if none is known."""
     found = SCRIPT.fullmatch(said)
-    line = line_of(int(found[1])) if found else None
-    if found and line is not None:
-        return (f"line {found[1]} is not a call: {shown(line)}: {of_line(line, line_of(1) == FORM_2)} "
-                f"(the program says {said})")
+    if found:
+        return of_call(int(found[1]), line_of)
     found = CONFIGURATION.fullmatch(said)
     at = 2 if line_of(1) == FORM_2 else 1
     line = line_of(at) if found else None
     if found and line is not None:
         try:
-            told = explained(found[1], read_json(line))
+            place = place_of_fault(program, line)
+            told = explained(found[1], read_json(line), place)
         except NotJson as fault:
             told = f"this is not JSON: {fault}"
         if told:
-            return f"line {at}, the configuration: {told} (the program says {found[1]})"
+            return f"line {at}, the configuration: {told} (the program {says(found[1], place)})"
     return said

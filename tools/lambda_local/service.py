@@ -18,12 +18,12 @@ import threading
 import time
 from typing import Callable, Collection, Dict, Iterator, List, Mapping, Optional, Tuple, Union
 
-from .configuration import Members, explained
+from .configuration import Members, explained, says
 from .guard import GUARD
 from .history.comparison import compared
 from .history.script import Script
 from .paths import LIMITS
-from .program import Fault as Fault, program_path as program_path
+from .program import Fault as Fault, place_of_fault, program_path as program_path
 
 RUNTIME = "/2018-06-01/runtime/"
 EXTENSION = "/2020-01-01/extension/"
@@ -172,9 +172,12 @@ class Service:
     def _why_not(self) -> str:
         """Why it did not start, in words if it names a fault of the configuration."""
         told = self.lines[-1] if self.lines else f"ended with status {self.process.returncode}"
-        place, _, name = told.partition(": ")
-        reason = explained(name, self.given) if place == "configuration" else ""
-        return f"{self._place()}{reason} (the service says {name})" if reason else f"the service did not start: {told}"
+        of, _, name = told.partition(": ")
+        place = place_of_fault(self.program, json.dumps(self.configuration).encode()) if of == "configuration" else ""
+        reason = explained(name, self.given, place) if of == "configuration" else ""
+        if reason:
+            return f"{self._place()}{reason} (the service {says(name, place)})"
+        return f"the service did not start: {told}"
 
     def _choose(self) -> int:
         configuration = json.loads(json.dumps(self.given))

@@ -1,4 +1,4 @@
-mod Awaiting
+mod AnsweredInWay
 mod BeforeCalls
 mod Concerned
 mod EntryAnswers
@@ -29,6 +29,8 @@ mod TextParts
 mod GoingOn
 mod AnswersStay
 pub mod Reaching
+-- Its moments and names are in their ranges.
+pub mod Fitting
 mod Replaying
 mod WholeText
 -- What a reply is made of.

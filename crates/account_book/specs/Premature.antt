@@ -26,21 +26,21 @@ in_way ByEnvironments f reserved own = own == f
 
 -- Whether an environment in the way of an Invoke that is refused for this reason has answered its invocation and is
 -- not ready again.
-abbrev pub is_awaited : Config → List Entry → ℕ → Throttle → Bool
-is_awaited config h f reason =
+abbrev pub has_answered_in_way : Config → List Entry → ℕ → Throttle → Bool
+has_answered_in_way config h f reason =
     list_any (λ e. has_answered (stand config h e)
     && in_way reason f (reservation config h (function_of config e)) (function_of config e))
     (environments config)
 
 -- The same, given the verdict on the Invoke: only a refused one has an environment in its way.
-abbrev pub awaits : Config → List Entry → ℕ → Verdict → Bool
-awaits config h f (Refuses reason) = is_awaited config h f reason
-awaits config h f _ = false
+abbrev pub would_be_premature : Config → List Entry → ℕ → Verdict → Bool
+would_be_premature config h f (Refuses reason) = has_answered_in_way config h f reason
+would_be_premature config h f _ = false
 
 -- Whether a call is premature: it is an Invoke that would be throttled at this moment, while an environment in its way
 -- has answered its invocation and is not ready again. If an environment is due, no call is premature, since the expiry
 -- may clear the way.
 unfoldable pub premature : Config → List Entry → ℕ → Call → Bool
 premature config h now (Invoke f qualified trace body) =
-    is_none (first (due config h (moment_at h now))) && awaits config h f (verdict config h f)
+    is_none (first (due config h (moment_at h now))) && would_be_premature config h f (verdict config h f)
 premature config h now _ = false

@@ -17,6 +17,7 @@ ghost use Rattle.call_types.specs.Calls.{body_of};
 ghost use Rattle.script.specs.AnswerText.{entry_text};
 ghost use Rattle.call_model.specs.CallCounts.{call_counts};
 ghost use Rattle.call_types.specs.Within.{IsWithin};
+ghost use Rattle.env_phase.specs.Meeting.{known_at};
 ghost use Rattle.account_book.specs.Answering.{answers_in, most_answers, most_of_one};
 ghost use Rattle.account_book.specs.Books.{life};
 ghost use Rattle.account_book.specs.HistoryText.{opening_text};
@@ -32,9 +33,10 @@ use crate::journal::Journal;
 use crate::ranges::config_fits;
 use crate::rendering::render;
 use crate::room::Roomy;
-use arn_ids::{Checked, FnNo, MOST_EXTENSIONS};
+use arn_ids::{Checked, EnvNo, FnNo, MOST_EXTENSIONS};
 use call_model::{Answer, Call, Entry, Past, Stats, Ticket};
 use entry_blocks::Blocks;
+use env_phase::Environment;
 use lambda_wire::Reply;
 use script::{Draft, draft_entry};
 use std::alloc::{AllocError, Global};
@@ -386,7 +388,8 @@ impl Book {
             return false;
         };
         let last = self.journal.last_moment();
-        self.journal.first_due(now.max(last)).is_none() && self.journal.awaits(*function)
+        self.journal.first_due(now.max(last)).is_none()
+            && self.journal.would_be_premature(*function)
     }
 
     /// How far the shutdown of the service has come.
@@ -410,6 +413,15 @@ impl Book {
         ensures { result ≡ reservation self.now.config self.now.history function }
     {
         self.journal.reservation(function)
+    }
+
+    /// The environment with a number: its phase, its extensions and its parked polls after the history.
+    pub fn environment(&self, env: EnvNo) -> &Environment
+        requires from_one { 1 ≤ env }
+        requires there { env ≤ length (owners self.now.config) }
+        ensures { result.now ≡ known_at self.now.config self.now.history env }
+    {
+        self.journal.environment(env)
     }
 
     /// The text of the history before its first entry: the line `form 2`, and the configuration's line.

@@ -21,14 +21,14 @@ ghost use Rattle.account_book.specs.Fleets.{is_site_due, IsFew};
 ghost use Rattle.account_book.specs.Premature.{in_way};
 
 use crate::opening::open_sites;
-use crate::premature::is_any_awaited;
+use crate::premature::has_answered_in_way;
 use crate::room::Roomy;
 use crate::site::Site;
 use arn_ids::{Checked, EnvNo, FnNo};
 use call_model::{Answer, Call, Throttle, Ticket};
 use concurrency_pool::Pool;
 use deadlines::Due;
-use env_phase::Step;
+use env_phase::{Environment, Step};
 use extension_set::Moves;
 use placement::{Class, Places};
 use std::alloc::{AllocError, Global};
@@ -117,6 +117,15 @@ impl Fleet {
         self.sites.len() as u32
     }
 
+    /// The environment with a number.
+    pub fn environment(&self, env: EnvNo) -> &Environment
+        requires from_one { 1 ≤ env }
+        requires there { env ≤ length self.now.sites }
+        ensures { result.now ≡ (site_at self.now.sites env).environment }
+    {
+        &self.sites[env as usize - 1].environment
+    }
+
     /// The most extensions that any environment has had at once, at most `MOST_EXTENSIONS`.
     pub fn widest(&self) -> usize
         ensures value { result ≡ self.now.widest }
@@ -175,12 +184,12 @@ impl Fleet {
 
     /// Whether an environment in the way of an Invoke that is refused for this reason has answered its
     /// invocation and is not ready again.
-    pub fn is_awaited(&self, reason: Throttle, function: FnNo) -> bool
+    pub fn has_answered_in_way(&self, reason: Throttle, function: FnNo) -> bool
         ensures { result
             ≡ list_any (λ site. has_answered site.environment.stand
             && in_way reason function (usage_at self.now.pool site.function).reserved site.function) self.now.sites }
     {
-        is_any_awaited(&self.sites, &self.pool, reason, function)
+        has_answered_in_way(&self.sites, &self.pool, reason, function)
     }
 
     /// A function's reservation in force.

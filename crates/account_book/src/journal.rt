@@ -15,12 +15,13 @@ ghost use Rattle.call_model.specs.History.{answer_of, is_expiry, stopped};
 ghost use Rattle.call_model.specs.Life.{phase};
 ghost use Rattle.call_model.specs.Limits.{place_for, reservation, verdict, admitted_to};
 ghost use Rattle.call_model.specs.Next.{IsLegal, Follows, entry_of, entered, due, last_moment, expiries_at, first};
+ghost use Rattle.env_phase.specs.Meeting.{known_at};
 ghost use Rattle.env_phase.specs.Taking.{registered_name, is_off};
 ghost use Rattle.call_model.specs.CallCounts.{call_counts};
 ghost use Rattle.call_types.specs.Within.{IsWithin};
 ghost use Rattle.account_book.specs.Answering.{most_answers};
 ghost use Rattle.account_book.specs.Room.{first_or_zero, IsRoom, IsNarrow};
-ghost use Rattle.account_book.specs.Premature.{awaits};
+ghost use Rattle.account_book.specs.Premature.{would_be_premature};
 ghost use Rattle.account_book.specs.Reaches.{book_answer};
 ghost use Rattle.account_book.specs.Taking.{IsKnown, AllKnown};
 
@@ -32,6 +33,7 @@ use crate::room::Roomy;
 use arn_ids::{Checked, EnvNo, FnNo};
 use call_model::{Answer, Call, Entry, Rejection, Stats, Ticket};
 use entry_blocks::Blocks;
+use env_phase::Environment;
 use std::alloc::{AllocError, Global};
 use std::marker::Model;
 use std::sync::Arc;
@@ -180,6 +182,15 @@ impl Journal {
         u64::from(self.fleet.environments())
     }
 
+    /// The environment with a number.
+    pub fn environment(&self, env: EnvNo) -> &Environment
+        requires from_one { 1 ≤ env }
+        requires there { env ≤ length (owners self.now.config) }
+        ensures { result.now ≡ known_at self.now.config self.now.history env }
+    {
+        self.fleet.environment(env)
+    }
+
     /// The most extensions that any environment has had at once.
     pub fn widest(&self) -> usize
         ensures value { result ≡ self.now.widest }
@@ -283,18 +294,18 @@ impl Journal {
 
     /// Whether an Invoke of a function would be throttled, while an environment in its way has answered
     /// its invocation and is not ready again.
-    pub fn awaits(&self, function: FnNo) -> bool
+    pub fn would_be_premature(&self, function: FnNo) -> bool
         requires from_one { 1 ≤ function }
         requires there { function ≤ length self.now.config.functions }
         ensures { result
-            ≡ awaits self.now.config self.now.history function (verdict self.now.config self.now.history function) }
+            ≡ would_be_premature self.now.config self.now.history function (verdict self.now.config self.now.history function) }
     {
         if self.ledger.is_stopped() {
             return false;
         }
         match self.fleet.admit(function) {
             Ok(_) => false,
-            Err(reason) => self.fleet.is_awaited(reason, function),
+            Err(reason) => self.fleet.has_answered_in_way(reason, function),
         }
     }
 

@@ -28,7 +28,12 @@ fn is_in_way(pool: &Pool, reason: Throttle, function: FnNo, own: FnNo) -> bool
 
 /// Whether an environment in the way of such an Invoke has answered its invocation and is not ready
 /// again.
-pub(crate) fn is_any_awaited(sites: &[Site], pool: &Pool, reason: Throttle, function: FnNo) -> bool
+pub(crate) fn has_answered_in_way(
+    sites: &[Site],
+    pool: &Pool,
+    reason: Throttle,
+    function: FnNo,
+) -> bool
     requires owned { All (IsOwned (length pool.now.functions)) sites.now }
     ensures { result
         ≡ list_any (λ site. has_answered site.environment.stand

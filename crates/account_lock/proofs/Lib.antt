@@ -22,3 +22,5 @@ mod Agreeing
 mod Noting
 -- Where nothing is kept, and nothing need be, all that is kept is right.
 mod KeepingNothing
+-- A trail, as the history that it has seen grows.
+mod Trailing

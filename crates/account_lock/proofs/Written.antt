@@ -22,11 +22,11 @@ use Rattle.account_lock.specs.Bells.{given}
 use Rattle.account_lock.specs.Desks.{Opened}
 use Rattle.account_lock.specs.Shown.{Sees}
 use Rattle.account_lock.specs.Steps.{IsHandedBack, IsRefusal, IsStep}
-use Rattle.account_lock.specs.Submits.{IsDeclined, IsTurnedAway, Took}
+use Rattle.account_lock.specs.Submits.{IsNotTaken, IsTurnedAway, Took}
 use Rattle.account_lock.specs.declared.desk.Refused.{Refused as Back}
 use Rattle.account_lock.specs.declared.desk.Step.{Step}
-use Rattle.account_lock.specs.declared.offering.Declined.{Declined}
-use Rattle.account_lock.specs.declared.offering.Declined.TheVariants.{Premature, Refused}
+use Rattle.account_lock.specs.declared.unless_premature.NotTaken.{NotTaken}
+use Rattle.account_lock.specs.declared.unless_premature.NotTaken.TheVariants.{Premature, Refused}
 use Rattle.account_lock.proofs.Stepping.{next_is, one_call_within}
 
 -- the next history goes on where the one before it ends, which the pen wrote
@@ -103,13 +103,13 @@ turned_away {call = call} {back = back} desk c m shown seen refused = record {
 }
 
 -- a call that a desk handed back
-pub declined : {B : Type 0} {other : Config} {most : ℕ} {had token : List Entry} (now : ℕ) (call : Call) (bell : Option B)
-    (back : Declined B) (desk : Opened B) → desk.book.config ≡ other → desk.book.max_entries ≡ most
+pub not_taken : {B : Type 0} {other : Config} {most : ℕ} {had token : List Entry} (now : ℕ) (call : Call) (bell : Option B)
+    (back : NotTaken B) (desk : Opened B) → desk.book.config ≡ other → desk.book.max_entries ≡ most
     → desk.book.history ≡ token → Sees other most had token → IsHandedBack desk now call bell back
-    → IsDeclined other most had now call bell back token
-declined now call bell (Premature other its) desk c m shown seen back =
+    → IsNotTaken other most had now call bell back token
+not_taken now call bell (Premature other its) desk c m shown seen back =
     (back.0, back.1, seen, renamed (λ k n l. premature k l now call ≡ true) c m shown back.2)
-declined now call bell (Refused refused) desk c m shown seen back = (
+not_taken now call bell (Refused refused) desk c m shown seen back = (
   back.0.0,
   turned_away desk c m shown seen back.0,
   renamed (λ k n l. premature k l now call ≡ false) c m shown back.1,

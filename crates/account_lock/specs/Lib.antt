@@ -10,3 +10,4 @@ pub mod Settlement
 pub mod Steps
 pub mod Submits
 pub mod Tallying
+pub mod Trails

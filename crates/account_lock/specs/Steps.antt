@@ -11,8 +11,8 @@ use Rattle.account_lock.specs.Bells.{given}
 use Rattle.account_lock.specs.Desks.{Opened, added_to, after_step, is_premature, handed_out, held_after, is_full}
 use Rattle.account_lock.specs.declared.desk.Refused.{Refused as TheRefused}
 use Rattle.account_lock.specs.declared.desk.Step.{Step}
-use Rattle.account_lock.specs.declared.offering.Declined.{Declined}
-use Rattle.account_lock.specs.declared.offering.Declined.TheVariants.{Premature, Refused}
+use Rattle.account_lock.specs.declared.unless_premature.NotTaken.{NotTaken}
+use Rattle.account_lock.specs.declared.unless_premature.NotTaken.TheVariants.{Premature, Refused}
 
 -- A desk took a call at a moment, with this bell, from a caller whose tally held `had`. The book had room for the
 -- call, and has taken it; the newest entry is the call's, at its ticket. The bells of the tickets that were answered
@@ -35,9 +35,9 @@ abbrev pub IsRefusal : {B : Type 0} → Opened B → Call → Option B → TheRe
 IsRefusal desk call bell back =
     (back.bell ≡ bell) × ((back.refusal ≡ JournalFull) ↔ (is_full desk.book call ≡ true))
 
--- A desk did not take a call that was offered: the call is premature, and is returned with its bell; or it is not
--- premature, and was refused.
-abbrev pub IsHandedBack : {B : Type 0} → Opened B → ℕ → Call → Option B → Declined B → Type 0
+-- A desk did not take a call that it takes unless it is premature: the call is premature, and is returned with its
+-- bell; or it is not premature, and was refused.
+abbrev pub IsHandedBack : {B : Type 0} → Opened B → ℕ → Call → Option B → NotTaken B → Type 0
 IsHandedBack desk now call bell (Premature other back) =
     (other ≡ call) × (back ≡ bell) × (is_premature desk.book now call ≡ true)
 IsHandedBack desk now call bell (Refused back) =

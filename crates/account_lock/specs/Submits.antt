@@ -1,4 +1,4 @@
--- The result of a call that is submitted to an account, or offered.
+-- The result of a call that is submitted to an account.
 use Rattle.std.specs.Prelude.{◌≡◌, ◌+◌, ◌↔◌, ℕ, true, false, List, Option}
 use Rattle.account_book.specs.Premature.{premature}
 use Rattle.account_book.specs.declared.book.Refusal.{Refusal}
@@ -13,8 +13,8 @@ use Rattle.usage_ledger.specs.Keeping.{Kept}
 use Rattle.usage_ledger.specs.Tallies.{Held}
 use Rattle.account_lock.specs.Shown.{IsTaken, Sees}
 use Rattle.account_lock.specs.Tallying.{HasPartsOf, KeepsCall}
-use Rattle.account_lock.specs.declared.offering.Declined.{Declined}
-use Rattle.account_lock.specs.declared.offering.Declined.TheVariants.{Premature, Refused}
+use Rattle.account_lock.specs.declared.unless_premature.NotTaken.{NotTaken}
+use Rattle.account_lock.specs.declared.unless_premature.NotTaken.TheVariants.{Premature, Refused}
 
 -- A call was taken from a caller that had seen the history `had`, and whose tally held `before`: the call is in the
 -- history at its ticket. The tally counts one call more, has the same parts, and has noted some answers and then the
@@ -34,12 +34,13 @@ pub record IsTurnedAway (config : Config) (most : ℕ) (had : List Entry) (call 
   pub sees : Sees config most had h
   pub exactly : (refusal ≡ JournalFull) ↔ (full config most h call ≡ true)
 
--- A call that was offered was not taken, and its caller has then seen this history: the call is premature there, and
--- is returned with its bell; or it is not premature, and was refused, and its bell is returned.
-abbrev pub IsDeclined : {B : Type 0} → Config → ℕ → List Entry → ℕ → Call → Option B → Declined B → List Entry
+-- A call was not taken that is taken unless it is premature, and its caller has then seen this history: the
+-- call is premature there, and is returned with its bell; or it is not premature, and was refused, and its bell is
+-- returned.
+abbrev pub IsNotTaken : {B : Type 0} → Config → ℕ → List Entry → ℕ → Call → Option B → NotTaken B → List Entry
     → Type 0
-IsDeclined config most had now call bell (Premature other back) h =
+IsNotTaken config most had now call bell (Premature other back) h =
     (other ≡ call) × (back ≡ bell) × Sees config most had h × (premature config h now call ≡ true)
-IsDeclined config most had now call bell (Refused refused) h =
+IsNotTaken config most had now call bell (Refused refused) h =
     (refused.bell ≡ bell) × IsTurnedAway config most had call refused.refusal h
     × (premature config h now call ≡ false)

@@ -24,11 +24,11 @@ ghost use Rattle.account_lock.specs.Gathered.{counts_in, keeps_nothing};
 ghost use Rattle.account_lock.specs.Looks.{look_of};
 ghost use Rattle.account_lock.specs.Settlement.{IsSettled, IsFault};
 ghost use Rattle.account_lock.specs.Shown.{IsTextOf, Sees};
-ghost use Rattle.account_lock.specs.Submits.{IsDeclined, IsTurnedAway, Took};
+ghost use Rattle.account_lock.specs.Submits.{IsNotTaken, IsTurnedAway, Took};
 ghost use Rattle.account_lock.specs.declared.fault.SettleFault.TheVariants.{TallyMissing};
 
 use crate::locked::Locked;
-use crate::{Bell, Declined, Desk, Look, Refused, Settled, Step, Unsettled};
+use crate::{Bell, Desk, Look, NotTaken, Refused, Settled, Step, Unsettled};
 use account_book::{Book, Life, OpenFault};
 use arn_ids::{Checked, FnNo};
 use call_model::{Call, Stats, Ticket};
@@ -70,8 +70,8 @@ impl Identity for Brand {
 /// see one history: what each has seen is a beginning of it.
 #[derive(Drop)]
 pub struct Account<S: Identity, B> {
-    locked: Mutex<Locked<S, B>>,
-    spine: Spine<S>,
+    pub(crate) locked: Mutex<Locked<S, B>>,
+    pub(crate) spine: Spine<S>,
 }
 
 /// Rings the bells of a step after the lock is released, and returns the call's ticket.
@@ -181,9 +181,9 @@ impl<S: Identity, B: Bell> Account<S, B> {
     /// happen under one lock.
     ///
     /// # Errors
-    /// As `Desk::offer`, for the history that the token has then seen. The tally is unchanged, and the bell
+    /// As `Desk::apply_unless_premature`, for the history that the token has then seen. The tally is unchanged, and the bell
     /// is returned, with the call if that is premature.
-    pub fn offer<K: Keep>(
+    pub fn submit_unless_premature<K: Keep>(
         &self,
         rt: &impl Wait,
         tally: &mut Tally<K, S>,
@@ -191,23 +191,23 @@ impl<S: Identity, B: Bell> Account<S, B> {
         now: u64,
         call: Call,
         bell: Option<B>,
-    ) -> Result<(Ticket, Token<S>), Declined<B>>
+    ) -> Result<(Ticket, Token<S>), NotTaken<B>>
         requires moment { now < 2 ^ 53 }
         requires within { IsWithin S.config call }
         ensures taken { IfOk result (λ taken. (took : Took S.config S.most K.notes K.makes
             token.old tally.old.held now call taken.0 taken.1 tally.new.held)
             × (premature S.config took.taken.before now call ≡ false)) }
         ensures seen { IfOk result (λ taken. token.new ≡ taken.1) }
-        ensures declined { IfErr result (λ back. (tally.new.held ≡ tally.old.held)
-            × IsDeclined S.config S.most token.old now call bell back token.new) }
+        ensures not_taken { IfErr result (λ back. (tally.new.held ≡ tally.old.held)
+            × IsNotTaken S.config S.most token.old now call bell back token.new) }
     {
         let step = self
             .locked
             .lock(rt)
-            .offer(&self.spine, tally, token, now, call, bell);
+            .submit_unless_premature(&self.spine, tally, token, now, call, bell);
         match step {
             Ok((step, token)) => Ok((ring_out(step), token)),
-            Err(declined) => Err(declined),
+            Err(not_taken) => Err(not_taken),
         }
     }
 

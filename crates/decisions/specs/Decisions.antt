@@ -4,7 +4,7 @@ use Rattle.arn_ids.specs.Limits.{longest_body}
 use Rattle.arn_ids.specs.declared.config.Config.{Config}
 use Rattle.call_types.specs.Within.{IsWithin, IsFunction}
 use Rattle.decisions.specs.declared.decide.Shown.{Shown}
-use Rattle.decisions.specs.declared.decide.Shown.TheVariants.{Stats, History, Reservation}
+use Rattle.decisions.specs.declared.decide.Shown.TheVariants.{Stats, History, Trace, Environments, Reservation}
 use Rattle.decisions.specs.declared.decide.Decision.{Decision}
 use Rattle.decisions.specs.declared.decide.Decision.TheVariants.{Submit, Reply, Show}
 
@@ -12,6 +12,8 @@ use Rattle.decisions.specs.declared.decide.Decision.TheVariants.{Submit, Reply, 
 abbrev pub IsThere : Config → Shown → Type 0
 IsThere config Stats = Unit {0}
 IsThere config (History from) = Unit {0}
+IsThere config (Trace from follow bodies) = Unit {0}
+IsThere config Environments = Unit {0}
 IsThere config (Reservation f) = IsFunction config f
 
 -- A decision that an account can carry out: its call is within the limits of the configuration, as a book requires of

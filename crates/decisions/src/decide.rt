@@ -23,6 +23,17 @@ pub enum Shown {
         /// The ticket of the entry that the text begins with; none for the whole history.
         from: Option<Ticket>,
     },
+    /// The trace of the account's history: a line for each entry.
+    Trace {
+        /// The ticket of the entry that the trace begins with.
+        from: Ticket,
+        /// Whether it goes on with each entry that is made while it is sent.
+        follow: bool,
+        /// Whether it shows the bodies of requests and answers.
+        bodies: bool,
+    },
+    /// The account's environments.
+    Environments,
     /// A function's reservation in force (Lambda API, GetFunctionConcurrency).
     Reservation {
         /// The function's number, from 1.

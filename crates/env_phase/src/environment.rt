@@ -164,6 +164,20 @@ impl Environment {
         bound_of(self.phase)
     }
 
+    /// The ticket of the runtime's parked Next, if it has one.
+    pub fn runtime(&self) -> Option<Ticket>
+        ensures { result ≡ self.now.stand.runtime }
+    {
+        self.runtime
+    }
+
+    /// The extensions that are registered in the present generation.
+    pub fn extensions(&self) -> &ExtensionSet
+        ensures { result.now ≡ self.now.stand.members }
+    {
+        &self.extensions
+    }
+
     /// How many extensions are registered in the present generation, at most ten.
     pub fn members(&self) -> usize
         ensures count { result ≡ length self.now.stand.members }

@@ -8,6 +8,7 @@ mod register_fault;
 mod set;
 mod turn;
 
+pub use member::Member;
 pub use moves::Moves;
 pub use register_fault::RegisterFault;
 pub use set::ExtensionSet;

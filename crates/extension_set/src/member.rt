@@ -17,7 +17,7 @@ use std::marker::Model;
 
 /// The state of an extension.
 #[derive(Drop)]
-pub(crate) struct Member {
+pub struct Member {
     /// The count in its identifier, from 1 over all generations of its environment.
     count: u64,
     /// Its `Lambda-Extension-Name`.
@@ -68,6 +68,41 @@ impl Member {
             again: false,
             exited: false,
         }
+    }
+
+    /// Returns the count in its identifier, from 1 over all generations of its environment.
+    pub fn count(&self) -> u64
+        ensures { result ≡ self.now.extension.count }
+    {
+        self.count
+    }
+
+    /// Returns its name (Extensions API: `Lambda-Extension-Name`).
+    pub fn name(&self) -> &str
+        ensures { result.now ≡ self.now.extension.name }
+    {
+        self.name.as_str()
+    }
+
+    /// Whether it registered for the event INVOKE.
+    pub fn hears_invoke(&self) -> bool
+        ensures { result ≡ self.now.extension.invoke }
+    {
+        self.invoke
+    }
+
+    /// Whether it registered for the event SHUTDOWN.
+    pub fn hears_shutdown(&self) -> bool
+        ensures { result ≡ self.now.extension.shutdown }
+    {
+        self.shutdown
+    }
+
+    /// Returns the ticket of its parked Next, if it has one.
+    pub fn parked(&self) -> Option<Ticket>
+        ensures { result ≡ self.now.next }
+    {
+        self.next
     }
 
     /// Whether its identifier has this count.

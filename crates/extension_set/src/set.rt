@@ -1,6 +1,7 @@
 //! The extensions of one generation of an environment.
 
-ghost use Rattle.std.specs.Prelude.{◌≡◌, ◌+◌, ◌<◌, ◌≤◌, ◌^◌, ◌∷◌, length, [], map, Some, count_by, IfOk, OnOk, OnErr};
+ghost use Rattle.std.specs.Prelude.{◌≡◌, ◌+◌, ◌<◌, ◌≤◌, ◌^◌, ◌∷◌, length, [], map, reverse, Some, count_by};
+ghost use Rattle.std.specs.Prelude.{IfOk, OnOk, OnErr};
 ghost use Rattle.std.specs.List.{list_any, find};
 ghost use Rattle.arn_ids.specs.Limits.{most_extensions};
 ghost use Rattle.call_model.specs.Generation.{has_count, awaited, missing};
@@ -54,6 +55,13 @@ impl ExtensionSet {
         ensures few { length self.now ≤ most_extensions }
     {
         self.members.len()
+    }
+
+    /// Returns the extensions in the order in which they registered.
+    pub fn members(&self) -> &[Member]
+        ensures { result.now ≡ reverse self.now }
+    {
+        &self.members
     }
 
     /// Whether an extension with this name may be registered (Extensions API: Register).

@@ -199,8 +199,9 @@ impl<C: Turns, O: Park> Watched<C, O> {
         self.peer.begin_turn();
         match ending.conn.turn(cx) {
             Poll::Pending => {
-                self.peer.end_turn(&self.pulse);
-                if self.open.is_parked() && self.peer.poll_ended(cx).is_ready() {
+                let is_parked = self.open.is_parked();
+                self.peer.end_turn(&self.pulse, is_parked);
+                if is_parked && self.peer.poll_ended(cx).is_ready() {
                     return Poll::Ready(None);
                 }
                 Poll::Pending

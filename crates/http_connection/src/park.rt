@@ -1,9 +1,9 @@
-//! Whether an open request of a connection is parked.
+//! Whether an open request of a connection is parked, or the rest of its response.
 
-/// The place where a connection's service notes that its request is parked. A parked request waits
-/// without a limit, and if its peer ends, the connection ends (Runtime API, Next invocation;
-/// Extensions API, Next).
+/// The place where a connection's service notes that its request is parked, or that the rest of its
+/// response is. What is parked waits without a limit, and if its peer ends, the connection ends (Runtime
+/// API, Next invocation; Extensions API, Next; this service's trace).
 pub trait Park: Drop {
-    /// Returns whether a request is parked.
+    /// Returns whether a request is parked, or the rest of its response.
     fn is_parked(&self) -> bool;
 }

@@ -20,6 +20,8 @@ pub(crate) struct Stand {
     has_asked: bool,
     // Whether the last read of this turn asked the socket for more than was there.
     is_short: bool,
+    // Whether a request was parked at the end of the last turn, or the rest of its response.
+    is_parked: bool,
 }
 
 impl Stand {
@@ -34,6 +36,7 @@ impl Stand {
             has_begun: false,
             has_asked: false,
             is_short: false,
+            is_parked: false,
         }
     }
 
@@ -88,11 +91,20 @@ impl Stand {
         self.is_short = false;
     }
 
+    /// Notes at the end of a turn whether a request is parked, or the rest of its response.
+    pub(crate) fn note_parked(&mut self, is_parked: bool)
+        ensures { self.new ≡ spec.at_turns_end self.old is_parked }
+    {
+        self.is_parked = is_parked;
+    }
+
     /// Returns what the connection waits for at the end of a turn.
     fn awaited(&self) -> Awaited
         ensures { result ≡ spec.awaited_by self.now }
     {
-        if self.is_open {
+        if self.is_parked {
+            Awaited::Answer
+        } else if self.is_open {
             if self.is_short {
                 Awaited::Body
             } else {

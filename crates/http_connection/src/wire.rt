@@ -154,9 +154,11 @@ impl Holder {
         }
     }
 
-    /// Publishes the connection's state at the end of a turn.
-    pub(crate) fn end_turn(&self, pulse: &Pulse) {
-        if let Ok(socket) = self.socket.try_borrow_mut() {
+    /// Publishes the connection's state at the end of a turn, after which a request is parked, or the rest
+    /// of its response, or neither.
+    pub(crate) fn end_turn(&self, pulse: &Pulse, is_parked: bool) {
+        if let Ok(mut socket) = self.socket.try_borrow_mut() {
+            socket.stand.note_parked(is_parked);
             pulse.tell(socket.stand.told());
         }
     }

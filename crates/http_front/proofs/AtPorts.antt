@@ -1,13 +1,13 @@
 -- What answers a request on a connection of a port answers it at the port.
-use Rattle.std.proofs.Common.{◌≡◌, ◌<◌, ◌⊎◌, ℕ, List, [], length, Option, Some, None, Result, Ok, Err, MatchOption, subst, sym, ap, ◌∙◌, inl, inr}
+use Rattle.std.proofs.Common.{◌≡◌, ◌⊎◌, ℕ, List, [], Option, Some, None, Result, Ok, Err, MatchOption, subst, sym, ap, ◌∙◌, inl, inr}
 use Rattle.std.specs.Arc.{arc_value}
-use Rattle.arn_ids.specs.Limits.{longest_body}
 use Rattle.call_types.specs.declared.call.Call.{Call}
 use Rattle.call_types.specs.declared.call.Entry.{Entry}
 use Rattle.call_types.specs.declared.stats.Stats.{Stats as Counted}
 use Rattle.decisions.specs.declared.decide.Decide as Decide
 use Rattle.decisions.specs.declared.decide.Decision.{Decision}
 use Rattle.decisions.specs.declared.decide.Decision.TheVariants as decided
+use Rattle.decisions.specs.declared.decide.Shown.{Shown}
 use Rattle.decisions.specs.declared.decide.Shown.TheVariants as show
 use Rattle.futures.specs.Runs.{Runs}
 use Rattle.http.specs.declared.request.Parts.{Parts}
@@ -17,21 +17,21 @@ use Rattle.http_body_util.specs.declared.either.Either.{Either}
 use Rattle.http_body_util.specs.declared.full.Full.{Full}
 use Rattle.http_front.specs.Answered.{IsReplyTo, IsOutcomeOf, IsDecided, IsAnswerAt}
 use Rattle.http_front.specs.Exchanged.{ComesTo, IsAnswer}
-use Rattle.http_front.specs.Responses.{IsAnswerTo, IsRefusal, IsResponseTo}
+use Rattle.http_front.specs.Responses.{IsAnswerTo, IsRefusal}
 use Rattle.http_front.specs.declared.front.Front.{Front}
 use Rattle.http_routes.specs.Decisions.{Served, decision}
 use Rattle.lambda_wire.specs.declared.reply.Reply.{Reply}
 use Rattle.long_poll.specs.Exchanges.{IsOfBody, ComesOf, IsReply}
 use Rattle.long_poll.specs.Lengths.{declares_too_long}
-use Rattle.long_poll.specs.Outcomes.{ShowsFrom}
-use Rattle.long_poll.specs.Reads.{Counts, Reserves}
+use Rattle.long_poll.specs.Outcomes.{IsStreamOf}
+use Rattle.long_poll.specs.Reads.{Counts, Lists, Reserves}
 use Rattle.long_poll.specs.Replies.{IsReplyAt}
-use Rattle.long_poll.specs.Views.{stats_reply, reservation_reply}
+use Rattle.long_poll.specs.Views.{stats_reply, environments_reply, reservation_reply}
 use Rattle.long_poll.specs.declared.clock.Clock as Clock
 use Rattle.long_poll.specs.declared.connection.Connection.{Connection}
 use Rattle.long_poll.specs.declared.fault.ExchangeFault.{ExchangeFault}
 use Rattle.long_poll.specs.declared.fault.ExchangeFault.TheVariants.{BodyFailed, OutOfMemory, BellLost}
-use Rattle.long_poll.specs.declared.history_body.HistoryBody.{HistoryBody}
+use Rattle.long_poll.specs.declared.streamed_body.StreamedBody.{StreamedBody}
 use Rattle.long_poll.specs.declared.outcome.Outcome.{Outcome}
 use Rattle.long_poll.specs.declared.outcome.Outcome.TheVariants as outcome
 use Rattle.long_poll.specs.declared.service.Service as Service
@@ -49,9 +49,9 @@ of_body has source head held is less weaken (inl x) = inl (x.0, x.1, weaken x.0 
 of_body has source head held is less weaken (inr x) = inr (x.0, λ body long. weaken body (x.1 body long))
 
 -- On a connection of an account and a decider whose relations are those of the port.
-module _ {R S D N K L B P E : Type 0} {service : Service.Ghosts S K L} {decider : Decide.Ghosts D}
+module _ {R S D N K L B P E T : Type 0} {service : Service.Ghosts S K L T} {decider : Decide.Ghosts D}
     {keep : Keep.Ghosts K} (clock : Clock.Ghosts N) (yields : B → Runs (Result (Frame P) E))
-    (has : P → List ℕ → Type 0) (front : Front R S D N K L service decider keep) (served : Served)
+    (has : P → List ℕ → Type 0) (front : Front R S D N K L T service decider keep) (served : Served)
     (most : ℕ)
     (replies : (call : Call) (reply : Reply) (token : List Entry)
     → IsReply (arc_value front.connection) clock (decided.Submit call) reply token
@@ -59,17 +59,20 @@ module _ {R S D N K L B P E : Type 0} {service : Service.Ghosts S K L} {decider 
     (counts : (seen : List Entry) (stats : Counted) (then : List Entry)
     → service.counts (arc_value (arc_value front.connection).service) seen stats then
     → Counts served.config most seen stats then)
+    (lists : (seen : List Entry) (text : List ℕ) (then : List Entry)
+    → service.lists (arc_value (arc_value front.connection).service) seen text then
+    → Lists served.config most served.salt seen text then)
     (reserves : (seen : List Entry) (f : ℕ) (count : Option ℕ) (then : List Entry)
     → service.reserves (arc_value (arc_value front.connection).service) seen f count then
     → Reserves served.config most seen f count then)
     (decides : (head : Parts) (body : List ℕ) (made : Decision)
     → decider.decides (arc_value (arc_value front.connection).decider) head body made
     → made ≡ decision served head body) where
-  abbrev connection : Connection R S D N K L service decider keep
+  abbrev connection : Connection R S D N K L T service decider keep
   connection = arc_value front.connection
 
   abbrev H : Type 0
-  H = HistoryBody R S K L
+  H = StreamedBody R S T K L
 
   reply_to : (made : Decision) (reply : Reply) (token : List Entry) → IsReply connection clock made reply token
       → IsReplyTo served.config most served.salt made reply token
@@ -79,21 +82,27 @@ module _ {R S D N K L B P E : Type 0} {service : Service.Ghosts S K L} {decider 
       let counted = counts x.1.0 x.0 token x.1.1 in
       (counted.0.reached, x.2 ∙ ap stats_reply counted.1)
   reply_to (decided.Show (show.History from)) reply token x = x
+  reply_to (decided.Show (show.Trace from follow bodies)) reply token x = x
+  reply_to (decided.Show show.Environments) reply token x =
+      let listed = lists x.1.0 x.0 token x.1.1 in
+      (listed.0.reached, x.2 ∙ ap environments_reply listed.1)
   reply_to (decided.Show (show.Reservation f)) reply token x =
       let reserved = reserves x.1.0 f x.0 token x.1.1 in
       (reserved.0.reached, x.2 ∙ ap reservation_reply reserved.1)
 
-  outcome_of : (shows : Option ℕ → H → Type 0) (head : Parts) (body : List ℕ) (given : Outcome H L)
+  outcome_of : (shows : Shown → H → Type 0) (head : Parts) (body : List ℕ) (given : Outcome H L)
       → ComesOf connection clock shows head body (Ok given) → IsOutcomeOf L shows served most (decision served head body) given
   outcome_of shows head body (outcome.Reply reply token) x =
       subst (λ made. IsReplyTo served.config most served.salt made reply token) (decides head body x.0 x.1)
       (reply_to x.0 reply token x.2)
   outcome_of shows head body (outcome.History shown) x =
       (x.0, sym (decides head body (decided.Show (show.History x.0)) x.1), x.2)
+  outcome_of shows head body (outcome.Trace shown) x =
+      (x.0, x.1, x.2, sym (decides head body (decided.Show (show.Trace x.0 x.1 x.2)) x.3), x.4)
 
   module _ (hosts : List ℕ) (head : Parts) (response : Response (Either (Full (List ℕ)) H)) where
-    abbrev shows : Option ℕ → H → Type 0
-    shows = ShowsFrom (arc_value connection.service)
+    abbrev shows : Shown → H → Type 0
+    shows = IsStreamOf service (arc_value connection.service)
 
     abbrev Exchanged : Port → Type 0
     Exchanged at =
@@ -137,7 +146,7 @@ module _ {R S D N K L B P E : Type 0} {service : Service.Ghosts S K L} {decider 
 
     pub at_port : (account : S) → arc_value connection.service ≡ account → front.port ≡ served.port
         → arc_value front.hosts ≡ hosts → IsAnswer clock yields has front head response
-        → IsAnswerAt L (ShowsFrom account) served most yields has hosts head response
+        → IsAnswerAt L (IsStreamOf service account) served most yields has hosts head response
     at_port account same at listed x =
         let of_hosts : MatchOption (refusal_of hosts head) (IsRefusal front.port (declares_too_long head) refused.OutOfMemory response ⊎ Exchanged front.port)
         (λ refusal. IsRefusal front.port (declares_too_long head) refusal response)
@@ -150,5 +159,5 @@ module _ {R S D N K L B P E : Type 0} {service : Service.Ghosts S K L} {decider 
         = subst (λ a. MatchOption (refusal_of hosts head)
         (IsRefusal a (declares_too_long head) refused.OutOfMemory response ⊎ Exchanged a) (λ refusal. IsRefusal a (declares_too_long head) refusal response))
         at of_hosts in
-        subst (λ a. IsAnswerAt L (ShowsFrom a) served most yields has hosts head response) same
+        subst (λ a. IsAnswerAt L (IsStreamOf service a) served most yields has hosts head response) same
         (guarded (refusal_of hosts head) of_api)

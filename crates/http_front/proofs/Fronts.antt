@@ -1,5 +1,5 @@
 -- What a front gives answers the request that it was asked.
-use Rattle.std.proofs.Common.{◌≡◌, ◌⊎◌, ℕ, Bool, Box, List, [], Option, Some, None, Result, Ok, Err, IfOk, MatchOption, IsSomeAnd, subst, sym, inl, inr}
+use Rattle.std.proofs.Common.{◌≡◌, ◌⊎◌, ℕ, Bool, Box, List, Option, Some, None, Result, IfOk, MatchOption, IsSomeAnd, subst, inl, inr}
 use Rattle.std.specs.Arc.{arc_value}
 use Rattle.std.specs.declared.alloc.Global.{Global}
 use Rattle.decisions.specs.declared.decide.Decide as Decide
@@ -18,7 +18,7 @@ use Rattle.http_front.specs.Responses.{IsAnswerTo, IsRefusal}
 use Rattle.http_front.specs.declared.front.Front.{Front}
 use Rattle.http_front.specs.declared.responding.Responding.{Responding}
 use Rattle.long_poll.specs.Lengths.{declares_too_long}
-use Rattle.long_poll.specs.Outcomes.{ShowsFrom}
+use Rattle.long_poll.specs.Outcomes.{IsStreamOf}
 use Rattle.long_poll.specs.Stages.{GivesFrom}
 use Rattle.long_poll.specs.Standing.{Gives}
 use Rattle.long_poll.specs.declared.clock.Clock as Clock
@@ -26,7 +26,7 @@ use Rattle.long_poll.specs.declared.connection.Connection.{Connection}
 use Rattle.long_poll.specs.declared.exchange.Exchange.{Exchange}
 use Rattle.long_poll.specs.declared.exchange.Stage.{Stage}
 use Rattle.long_poll.specs.declared.fault.ExchangeFault.{ExchangeFault}
-use Rattle.long_poll.specs.declared.history_body.HistoryBody.{HistoryBody}
+use Rattle.long_poll.specs.declared.streamed_body.StreamedBody.{StreamedBody}
 use Rattle.long_poll.specs.declared.outcome.Outcome.{Outcome}
 use Rattle.long_poll.specs.declared.service.Service as Service
 use Rattle.request_guard.specs.Guarding.{refusal_of}
@@ -35,35 +35,35 @@ use Rattle.request_guard.specs.declared.refusal.Refusal.{Refusal}
 use Rattle.request_guard.specs.declared.refusal.Refusal.TheVariants.{OutOfMemory}
 use Rattle.usage_ledger.specs.declared.keep.Keep as Keep
 
-module _ {R S D N K L B P E : Type 0} {service : Service.Ghosts S K L} {decider : Decide.Ghosts D}
+module _ {R S D N K L B P E T : Type 0} {service : Service.Ghosts S K L T} {decider : Decide.Ghosts D}
     {keep : Keep.Ghosts K} (clock : Clock.Ghosts N) (yields : B → Runs (Result (Frame P) E))
-    (has : P → List ℕ → Type 0) (front : Front R S D N K L service decider keep) (head : Parts) (body : B)
-    (response : Response (Either (Full (List ℕ)) (HistoryBody R S K L))) where
+    (has : P → List ℕ → Type 0) (front : Front R S D N K L T service decider keep) (head : Parts) (body : B)
+    (response : Response (Either (Full (List ℕ)) (StreamedBody R S T K L))) where
   abbrev Ex : Type 0
-  Ex = Exchange R S D N B K L service decider keep
+  Ex = Exchange R S D N B K L T service decider keep
 
   abbrev Boxed : Type 0
   Boxed = Box Ex Global
 
   abbrev Answers : Port × Bool → Type 0
   Answers how =
-      (made : Result (Outcome (HistoryBody R S K L) L) ExchangeFault) × ComesTo clock yields has front head made
+      (made : Result (Outcome (StreamedBody R S T K L) L) ExchangeFault) × ComesTo clock yields has front head made
       × IsAnswerTo how.0 how.1 made response
 
   -- of an exchange that is the request's
-  of_exchange : (how : Port × Bool) (exchange : Ex) (made : Result (Outcome (HistoryBody R S K L) L) ExchangeFault)
+  of_exchange : (how : Port × Bool) (exchange : Ex) (made : Result (Outcome (StreamedBody R S T K L) L) ExchangeFault)
       → IsExchangeOf front head body exchange → Gives clock yields has exchange made → IsAnswerTo how.0 how.1 made response
       → Answers how
   of_exchange how exchange made is gives answer =
       let there : GivesFrom (arc_value front.connection) clock yields has
-      (ShowsFrom (arc_value (arc_value front.connection).service)) exchange.stage made
-      = subst (λ (c : Connection R S D N K L service decider keep).
-      GivesFrom c clock yields has (ShowsFrom (arc_value c.service)) exchange.stage made) is.0 gives in (
+      (IsStreamOf service (arc_value (arc_value front.connection).service)) exchange.stage made
+      = subst (λ (c : Connection R S D N K L T service decider keep).
+      GivesFrom c clock yields has (IsStreamOf service (arc_value c.service)) exchange.stage made) is.0 gives in (
         made,
         (
           body,
           subst (λ (stage : Stage B L). GivesFrom (arc_value front.connection) clock yields has
-              (ShowsFrom (arc_value (arc_value front.connection).service)) stage made) is.1 there,
+              (IsStreamOf service (arc_value (arc_value front.connection).service)) stage made) is.1 there,
         ),
         answer,
       )
@@ -75,14 +75,14 @@ module _ {R S D N K L B P E : Type 0} {service : Service.Ghosts S K L} {decider 
       (MatchOption exchange (refusal ≡ Some OutOfMemory) (λ e. (refusal ≡ None) × IsExchangeOf front head body e.value))
       (λ r. (refusal ≡ Some r) × (exchange ≡ None))
       → MatchOption refusal
-      (IsSomeAnd exchange (λ e. (made : Result (Outcome (HistoryBody R S K L) L) ExchangeFault)
+      (IsSomeAnd exchange (λ e. (made : Result (Outcome (StreamedBody R S T K L) L) ExchangeFault)
       × Gives clock yields has e.value made × IsAnswerTo given_how.0 given_how.1 made response))
       (λ r. IsRefusal given_how.0 given_how.1 r response)
       → MatchOption guard (IsRefusal how.0 how.1 OutOfMemory response ⊎ Answers how) (λ r. IsRefusal how.0 how.1 r response)
   answer_of (Some r) how given_how refusal exchange same took gave =
       subst (λ (a : Port × Bool). IsRefusal a.0 a.1 r response) same
       (subst (λ (o : Option Refusal). MatchOption o
-      (IsSomeAnd exchange (λ e. (made : Result (Outcome (HistoryBody R S K L) L) ExchangeFault)
+      (IsSomeAnd exchange (λ e. (made : Result (Outcome (StreamedBody R S T K L) L) ExchangeFault)
       × Gives clock yields has e.value made × IsAnswerTo given_how.0 given_how.1 made response))
       (λ r. IsRefusal given_how.0 given_how.1 r response)) took.0 gave)
   answer_of None how given_how refusal None same took gave =
@@ -90,24 +90,24 @@ module _ {R S D N K L B P E : Type 0} {service : Service.Ghosts S K L} {decider 
       (subst (λ (o : Option Refusal). MatchOption o ⊥ (λ r. IsRefusal given_how.0 given_how.1 r response)) took gave))
   answer_of None how given_how refusal (Some exchange) same took gave =
       let given = subst (λ (o : Option Refusal). MatchOption o
-      ((made : Result (Outcome (HistoryBody R S K L) L) ExchangeFault)
+      ((made : Result (Outcome (StreamedBody R S T K L) L) ExchangeFault)
       × Gives clock yields has exchange.value made × IsAnswerTo given_how.0 given_how.1 made response)
       (λ r. IsRefusal given_how.0 given_how.1 r response)) took.0 gave in
       inr (subst Answers same (of_exchange given_how exchange.value given.0 took.1 given.1 given.2))
 
 -- The responses that a front's futures give.
-module _ {R S D N K L B P E : Type 0} {service : Service.Ghosts S K L} {decider : Decide.Ghosts D}
+module _ {R S D N K L B P E T : Type 0} {service : Service.Ghosts S K L T} {decider : Decide.Ghosts D}
     {keep : Keep.Ghosts K} (clock : Clock.Ghosts N) (yields : B → Runs (Result (Frame P) E)) (has : P → List ℕ → Type 0)
-    (X : Type 0) (front : Front R S D N K L service decider keep) where
-  abbrev Given : Responding R S D N B K L service decider keep
-      → Result (Response (Either (Full (List ℕ)) (HistoryBody R S K L))) X → Type 0
+    (X : Type 0) (front : Front R S D N K L T service decider keep) where
+  abbrev Given : Responding R S D N B K L T service decider keep
+      → Result (Response (Either (Full (List ℕ)) (StreamedBody R S T K L))) X → Type 0
   Given future answer = IfOk answer (λ response. MatchOption future.refusal
-      (IsSomeAnd future.exchange (λ exchange. (made : Result (Outcome (HistoryBody R S K L) L) ExchangeFault)
+      (IsSomeAnd future.exchange (λ exchange. (made : Result (Outcome (StreamedBody R S T K L) L) ExchangeFault)
       × Gives clock yields has exchange.value made × IsAnswerTo future.port future.is_unread made response))
       (λ refusal. IsRefusal future.port future.is_unread refusal response))
 
-  pub answers : (head : Parts) (response : Response (Either (Full (List ℕ)) (HistoryBody R S K L)))
-      → Gave (λ (front : Front R S D N K L service decider keep) (request : Request B) (future : Responding R S D N B K L service decider keep).
+  pub answers : (head : Parts) (response : Response (Either (Full (List ℕ)) (StreamedBody R S T K L)))
+      → Gave (λ (front : Front R S D N K L T service decider keep) (request : Request B) (future : Responding R S D N B K L T service decider keep).
       Takes front (head_of request) (body_of request) future) Given front head response
       → IsAnswer clock yields has front head response
   answers head response x =

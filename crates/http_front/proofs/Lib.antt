@@ -1,4 +1,5 @@
 mod PortLemmas
 mod Answering
 mod Fronts
+mod Responded
 mod AtPorts

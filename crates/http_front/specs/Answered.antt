@@ -1,6 +1,6 @@
 -- The answer to a request at a port of the service: at a port, in a configuration, with the salt of its identifiers.
 -- `most` is the limit of the account, the greatest number of entries of its history.
-use Rattle.std.specs.Prelude.{◌≡◌, ◌⊎◌, ℕ, List, [], Option, Result, MatchOption}
+use Rattle.std.specs.Prelude.{◌≡◌, ◌⊎◌, ℕ, Bool, List, [], Option, Result, MatchOption}
 use Rattle.account_book.specs.Reached.{IsReached}
 use Rattle.arn_ids.specs.declared.config.Config.{Config}
 use Rattle.call_model.specs.Counts.{stats}
@@ -8,6 +8,7 @@ use Rattle.call_model.specs.Limits.{reservation}
 use Rattle.call_types.specs.declared.call.Entry.{Entry}
 use Rattle.decisions.specs.declared.decide.Decision.{Decision}
 use Rattle.decisions.specs.declared.decide.Decision.TheVariants as decided
+use Rattle.decisions.specs.declared.decide.Shown.{Shown}
 use Rattle.decisions.specs.declared.decide.Shown.TheVariants as shown
 use Rattle.futures.specs.Runs.{Runs}
 use Rattle.http.specs.declared.request.Parts.{Parts}
@@ -21,11 +22,12 @@ use Rattle.lambda_wire.specs.declared.reply.Reply.{Reply}
 use Rattle.long_poll.specs.Exchanges.{IsOfBody}
 use Rattle.long_poll.specs.Lengths.{declares_too_long}
 use Rattle.long_poll.specs.Replies.{IsReplyAt}
-use Rattle.long_poll.specs.Views.{stats_reply, reservation_reply}
+use Rattle.long_poll.specs.Views.{stats_reply, environments_reply, reservation_reply}
 use Rattle.long_poll.specs.declared.outcome.Outcome.{Outcome}
 use Rattle.long_poll.specs.declared.outcome.Outcome.TheVariants as outcome
 use Rattle.request_guard.specs.Guarding.{refusal_of}
 use Rattle.request_guard.specs.declared.refusal.Refusal.TheVariants.{BrokenBody, OutOfMemory}
+use Rattle.trace.specs.EnvironmentObject.{environments_text}
 
 module _ (config : Config) (most salt : ℕ) where
   -- The reply to a decision: that of the call, or of why the call was not taken; the reply that was decided; or what is
@@ -35,16 +37,22 @@ module _ (config : Config) (most salt : ℕ) where
   IsReplyTo (decided.Reply own) reply h = reply ≡ own
   IsReplyTo (decided.Show shown.Stats) reply h = IsReached config most h × (reply ≡ stats_reply (stats config h))
   IsReplyTo (decided.Show (shown.History from)) reply h = ⊥
+  IsReplyTo (decided.Show (shown.Trace from follow bodies)) reply h = ⊥
+  IsReplyTo (decided.Show shown.Environments) reply h =
+      IsReached config most h × (reply ≡ environments_reply (environments_text config salt h))
   IsReplyTo (decided.Show (shown.Reservation f)) reply h =
       IsReached config most h × (reply ≡ reservation_reply (reservation config h f))
 
--- In what follows, `shows` says which bodies show the account's history from which ticket on.
-module _ {H : Type 0} (L : Type 0) (shows : Option ℕ → H → Type 0) (served : Served) (most : ℕ) where
-  -- The outcome of a decision: a reply, or the history if that is to be shown.
+-- In what follows, `shows` says which bodies show what is asked for, the account's history or its trace.
+module _ {H : Type 0} (L : Type 0) (shows : Shown → H → Type 0) (served : Served) (most : ℕ) where
+  -- The outcome of a decision: a reply, or the history or its trace if that is to be shown.
   abbrev pub IsOutcomeOf : Decision → Outcome H L → Type 0
   IsOutcomeOf made (outcome.Reply reply token) = IsReplyTo served.config most served.salt made reply token
   IsOutcomeOf made (outcome.History body) =
-      (from : Option ℕ) × (made ≡ decided.Show (shown.History from)) × shows from body
+      (from : Option ℕ) × (made ≡ decided.Show (shown.History from)) × shows (shown.History from) body
+  IsOutcomeOf made (outcome.Trace body) =
+      (from : ℕ) × (follow : Bool) × (bodies : Bool) × (made ≡ decided.Show (shown.Trace from follow bodies))
+      × shows (shown.Trace from follow bodies) body
 
   -- Of the bodies of requests: which frames each yields, and which bytes the data of a frame has.
   module _ {B P E : Type 0} (yields : B → Runs (Result (Frame P) E)) (has : P → List ℕ → Type 0)

@@ -13,10 +13,10 @@ use Rattle.request_guard.specs.Guarding.{refusal_of}
 use Rattle.request_guard.specs.declared.refusal.Refusal.TheVariants.{OutOfMemory}
 use Rattle.usage_ledger.specs.declared.keep.Keep as Keep
 
-module _ {R S D N B K L : Type 0} {service : Service.Ghosts S K L} {decider : Decide.Ghosts D}
-    {keep : Keep.Ghosts K} (front : Front R S D N K L service decider keep) (head : Parts) (body : B) where
+module _ {R S D N B K L T : Type 0} {service : Service.Ghosts S K L T} {decider : Decide.Ghosts D}
+    {keep : Keep.Ghosts K} (front : Front R S D N K L T service decider keep) (head : Parts) (body : B) where
   -- The exchange is that of this request, on the port's connection.
-  abbrev pub IsExchangeOf : Exchange R S D N B K L service decider keep → Type 0
+  abbrev pub IsExchangeOf : Exchange R S D N B K L T service decider keep → Type 0
   IsExchangeOf exchange =
       (arc_value exchange.connection ≡ arc_value front.connection)
       × (exchange.stage ≡ Collecting head
@@ -27,7 +27,7 @@ module _ {R S D N B K L : Type 0} {service : Service.Ghosts S K L} {decider : De
   -- Any other request has an exchange, or is refused because an allocation fails. Both are answered in the form of the
   -- port's API. If the head declares a body that is too long, the body is left unread, and the answer is the
   -- connection's last.
-  abbrev pub Takes : Responding R S D N B K L service decider keep → Type 0
+  abbrev pub Takes : Responding R S D N B K L T service decider keep → Type 0
   Takes future =
       (future.port ≡ front.port) × (future.is_unread ≡ declares_too_long head)
       × MatchOption (refusal_of (arc_value front.hosts) head)

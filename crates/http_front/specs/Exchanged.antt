@@ -12,10 +12,10 @@ use Rattle.http_front.specs.Responses.{IsAnswerTo, IsRefusal}
 use Rattle.http_front.specs.declared.front.Front.{Front}
 use Rattle.long_poll.specs.Exchanges.{Exchanges}
 use Rattle.long_poll.specs.Lengths.{declares_too_long}
-use Rattle.long_poll.specs.Outcomes.{ShowsFrom}
+use Rattle.long_poll.specs.Outcomes.{IsStreamOf}
 use Rattle.long_poll.specs.declared.clock.Clock as Clock
 use Rattle.long_poll.specs.declared.fault.ExchangeFault.{ExchangeFault}
-use Rattle.long_poll.specs.declared.history_body.HistoryBody.{HistoryBody}
+use Rattle.long_poll.specs.declared.streamed_body.StreamedBody.{StreamedBody}
 use Rattle.long_poll.specs.declared.outcome.Outcome.{Outcome}
 use Rattle.long_poll.specs.declared.service.Service as Service
 use Rattle.request_guard.specs.Guarding.{refusal_of}
@@ -23,20 +23,20 @@ use Rattle.request_guard.specs.declared.refusal.Refusal.TheVariants.{OutOfMemory
 use Rattle.usage_ledger.specs.declared.keep.Keep as Keep
 
 -- Of the bodies of requests: which frames each yields, and which bytes the data of a frame has.
-module _ {R S D N K L B P E : Type 0} {service : Service.Ghosts S K L} {decider : Decide.Ghosts D}
+module _ {R S D N K L B P E T : Type 0} {service : Service.Ghosts S K L T} {decider : Decide.Ghosts D}
     {keep : Keep.Ghosts K} (clock : Clock.Ghosts N) (yields : B → Runs (Result (Frame P) E))
-    (has : P → List ℕ → Type 0) (front : Front R S D N K L service decider keep) (head : Parts) where
+    (has : P → List ℕ → Type 0) (front : Front R S D N K L T service decider keep) (head : Parts) where
   -- What an exchange of a request with this head, and some body, may come to on the port's connection.
-  abbrev pub ComesTo : Result (Outcome (HistoryBody R S K L) L) ExchangeFault → Type 0
+  abbrev pub ComesTo : Result (Outcome (StreamedBody R S T K L) L) ExchangeFault → Type 0
   ComesTo made =
       (came : B) × Exchanges (arc_value front.connection) clock
-      (ShowsFrom (arc_value (arc_value front.connection).service)) has (yields came) head [] made
+      (IsStreamOf service (arc_value (arc_value front.connection).service)) has (yields came) head [] made
 
   -- The response to a request with this head. If the head is refused, it is that of the refusal. Otherwise it is that
   -- of its exchange, or of an allocation that failed.
-  abbrev pub IsAnswer : Response (Either (Full (List ℕ)) (HistoryBody R S K L)) → Type 0
+  abbrev pub IsAnswer : Response (Either (Full (List ℕ)) (StreamedBody R S T K L)) → Type 0
   IsAnswer response = MatchOption (refusal_of (arc_value front.hosts) head)
       (IsRefusal front.port (declares_too_long head) OutOfMemory response
-      ⊎ ((made : Result (Outcome (HistoryBody R S K L) L) ExchangeFault) × ComesTo made
+      ⊎ ((made : Result (Outcome (StreamedBody R S T K L) L) ExchangeFault) × ComesTo made
       × IsAnswerTo front.port (declares_too_long head) made response))
       (λ refusal. IsRefusal front.port (declares_too_long head) refusal response)

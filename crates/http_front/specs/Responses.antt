@@ -1,5 +1,5 @@
 -- The response that carries an outcome.
-use Rattle.std.specs.Prelude.{◌≡◌, ℕ, Bool, true, false, ◌||◌, List, [], ◌==◌, if◌then◌else◌, length, codes}
+use Rattle.std.specs.Prelude.{◌≡◌, ℕ, Bool, true, false, ◌||◌, List, ◌==◌, if◌then◌else◌, length, codes}
 use Rattle.std.specs.Prelude.{Option, Some, None, Result, Ok, Err}
 use Rattle.http.specs.Response.{head_of, body_of}
 use Rattle.http.specs.declared.response.Response.{Response}
@@ -11,11 +11,11 @@ use Rattle.http_header.specs.FieldValue.{FieldValue, plain_value}
 use Rattle.http_header.specs.HeaderMap.{Entries, append}
 use Rattle.lambda_wire.specs.HeaderFields.{fields}
 use Rattle.lambda_wire.specs.declared.reply.Reply.{Reply as Replied}
-use Rattle.long_poll.specs.Views.{history_headers}
+use Rattle.long_poll.specs.Views.{history_headers, trace_headers}
 use Rattle.long_poll.specs.declared.fault.ExchangeFault.{ExchangeFault}
 use Rattle.long_poll.specs.declared.fault.ExchangeFault.TheVariants as fault
 use Rattle.long_poll.specs.declared.outcome.Outcome.{Outcome}
-use Rattle.long_poll.specs.declared.outcome.Outcome.TheVariants.{Reply, History}
+use Rattle.long_poll.specs.declared.outcome.Outcome.TheVariants.{Reply, History, Trace}
 use Rattle.request_guard.specs.Refusals.{closes, refusal_reply}
 use Rattle.service_port.specs.declared.port.Port.{Port}
 use Rattle.request_guard.specs.declared.refusal.Refusal.{Refusal}
@@ -26,12 +26,16 @@ abbrev pub said_closing : Bool → Entries FieldValue → Entries FieldValue
 said_closing false map = map
 said_closing true map = append map (codes "connection") (plain_value (codes "close"))
 
--- A response has this status and these header fields, says whether it is the last, and has no other field.
-pub record HasHead {B : Type 0} (is_last : Bool) (status : ℕ) (headers : List (List ℕ × FieldValue))
-    (response : Response B) : Type 0 where
+-- A response has this status and these header fields, in a map, says whether it is the last, and has no other field.
+pub record HasMap {B : Type 0} (is_last : Bool) (status : ℕ) (map : Entries FieldValue) (response : Response B)
+    : Type 0 where
   pub status_is : (head_of response).status ≡ status
   pub version_is : (head_of response).version ≡ HTTP_11
-  pub headers_are : (head_of response).headers ≡ said_closing is_last (fields headers)
+  pub headers_are : (head_of response).headers ≡ said_closing is_last map
+
+-- A response has this status and these header fields, says whether it is the last, and has no other field.
+abbrev pub HasHead : {B : Type 0} → Bool → ℕ → List (List ℕ × FieldValue) → Response B → Type 0
+HasHead is_last status headers = HasMap is_last status (fields headers)
 
 -- A body in one piece, or without a piece if there are no bytes.
 abbrev pub whole : List ℕ → Option (List ℕ)
@@ -48,12 +52,14 @@ abbrev pub IsResponseOf : {H : Type 0} → Bool → Replied → Response (Either
 IsResponseOf is_last reply response =
     HasHead is_last reply.status reply.headers response × IsWhole reply.body (body_of response)
 
--- A response is that of an outcome, and the connection's last or not: that of its reply; or, if it is a history, one
--- with status 200 and the headers of a text, which shows the history as its body.
+-- A response is that of an outcome, and the connection's last or not: that of its reply; or, if it is a history,
+-- one with status 200 and the headers of a text, which shows the history as its body; a trace is shown as lines of JSON.
 abbrev pub IsResponseTo : {H L : Type 0} → Bool → Outcome H L → Response (Either (Full (List ℕ)) H) → Type 0
 IsResponseTo is_last (Reply reply token) response = IsResponseOf is_last reply response
 IsResponseTo is_last (History body) response =
     HasHead is_last 200 history_headers response × (body_of response ≡ Right body)
+IsResponseTo is_last (Trace body) response =
+    HasHead is_last 200 trace_headers response × (body_of response ≡ Right body)
 
 -- A response is that of a refusal, in the form of its port's API. It is the connection's last if the body is left
 -- unread, or if the refusal itself ends the connection.

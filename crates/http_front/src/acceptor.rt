@@ -263,7 +263,7 @@ impl<R: Wait + Threads + time::Clock + Copy + Drop, S: Identity + Drop, N: Drop,
 
     /// Notes that the service is over, ends every connection, and joins all threads.
     pub(crate) fn finish(&mut self) {
-        self.common.beat.end();
+        self.common.beat.end(&self.rt);
         self.slots.dismiss(&self.rt);
         self.end_connections();
         self.slots.join_all(&self.rt);

@@ -4,21 +4,23 @@ ghost use Rattle.std.specs.Prelude.{◌≡◌, IfOk};
 ghost use Rattle.std.specs.Arc.{arc_value};
 
 use account_lock::{Account, Identity};
-use lambda_wire::HeaderMaps;
+use lambda_wire::{HeaderMaps, LongScratches};
 use long_poll::{Alarm, Beat, Line, OneShotBell};
 use request_guard::KnownHosts;
 use std::alloc::{AllocError, Global};
 use std::sync::Arc;
 
 /// What the threads of a host have in common: the account that is served, the clock, the hosts that
-/// are listed in addition to the local ones, the maps of the headers that most replies have, and what
-/// they and the ticker tell each other; and the line of the callers whose Invokes are held back.
+/// are listed in addition to the local ones, the maps of the headers that most replies have, the memory
+/// in which long payloads are read, and what they and the ticker tell each other; and the line of the
+/// callers whose Invokes are held back.
 #[derive(Drop)]
 pub(crate) struct Common<S: Identity, N> {
     pub(crate) account: Arc<Account<S, OneShotBell>>,
     pub(crate) clock: Arc<N>,
     pub(crate) hosts: Arc<KnownHosts>,
     pub(crate) maps: Arc<HeaderMaps>,
+    pub(crate) long: Arc<LongScratches>,
     pub(crate) beat: Arc<Beat>,
     pub(crate) line: Arc<Line>,
 }
@@ -48,13 +50,15 @@ impl<S: Identity + Drop, N: Drop> Common<S, N> {
         let clock = shared(alloc, clock)?;
         let hosts = shared(alloc, hosts)?;
         let maps = shared(alloc, HeaderMaps::open(alloc)?)?;
-        let beat = shared(alloc, Beat::new(shared(alloc, Alarm::new())?))?;
+        let long = shared(alloc, LongScratches::new(alloc))?;
+        let beat = shared(alloc, Beat::new(alloc, shared(alloc, Alarm::new())?))?;
         let line = shared(alloc, Line::new(alloc))?;
         Ok(Common {
             account,
             clock,
             hosts,
             maps,
+            long,
             beat,
             line,
         })
@@ -69,6 +73,7 @@ impl<S: Identity + Drop, N: Drop> Common<S, N> {
         let clock = Arc::try_clone(&self.clock)?;
         let hosts = Arc::try_clone(&self.hosts)?;
         let maps = Arc::try_clone(&self.maps)?;
+        let long = Arc::try_clone(&self.long)?;
         let beat = Arc::try_clone(&self.beat)?;
         let line = Arc::try_clone(&self.line)?;
         Ok(Common {
@@ -76,6 +81,7 @@ impl<S: Identity + Drop, N: Drop> Common<S, N> {
             clock,
             hosts,
             maps,
+            long,
             beat,
             line,
         })

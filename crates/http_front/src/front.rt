@@ -14,7 +14,7 @@ use http_body::Body;
 use http_body_util::{Either, Full};
 use hyper::body::Incoming;
 use hyper::service;
-use long_poll::{Clock, Connection, Exchange, HistoryBody, Service, declares_too_long};
+use long_poll::{Clock, Connection, Exchange, Service, StreamedBody, declares_too_long};
 use request_guard::{KnownHosts, Refusal};
 use std::alloc::Global;
 use std::sync::{Arc, Wait};
@@ -117,7 +117,7 @@ impl<
     K: Keep,
     L: Ledgers,
 > service::Service<Request<Incoming<I>>> for Front<R, A, D, N, K, L> {
-    type Response = Response<Either<Full<Bytes>, HistoryBody<R, A, K, L>>>;
+    type Response = Response<Either<Full<Bytes>, StreamedBody<R, A, A::Trail, K, L>>>;
 
     type Error = ResponseFault;
 

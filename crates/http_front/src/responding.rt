@@ -13,7 +13,7 @@ use http::Response;
 use http_body::Body;
 use http_body_util::{Either, Full};
 use lambda_wire::HeaderMaps;
-use long_poll::{Clock, Exchange, ExchangeFault, HistoryBody, Outcome, Service};
+use long_poll::{Clock, Exchange, ExchangeFault, Outcome, Service, StreamedBody};
 use request_guard::{Refusal, refusal_reply};
 use std::alloc::Global;
 use std::sync::Wait;
@@ -89,7 +89,10 @@ where
     ghost use Rattle.std.specs.Prelude.{IfOk, IfSome, IsSomeAnd, MatchOption};
     ghost use Rattle.http_front.specs.Responses.{IsAnswerTo, IsRefusal};
 
-    type Output = Result<Response<Either<Full<Bytes>, HistoryBody<R, A, K, L>>>, ResponseFault>;
+    type Output = Result<
+        Response<Either<Full<Bytes>, StreamedBody<R, A, A::Trail, K, L>>>,
+        ResponseFault,
+    >;
 
     ghost can_poll = { λ r. IfSome r.exchange (λ e. ⟦<Exchange<R, A, D, N, B, K, L> as Future>⟧.can_poll e.value) };
 

@@ -2,8 +2,9 @@
 
 ghost use Rattle.std.specs.Prelude.{◌≡◌, IfOk, OnOk};
 ghost use Rattle.http.specs.Response.{body_of};
-ghost use Rattle.http_front.specs.Responses.{said_closing, HasHead, IsResponseOf, IsResponseTo};
+ghost use Rattle.http_front.specs.Responses.{said_closing, HasHead, HasMap, IsResponseOf, IsResponseTo};
 ghost use Rattle.lambda_wire.specs.HeaderFields.{fields};
+ghost use Rattle.long_poll.specs.Views.{trace_headers};
 
 use crate::ResponseFault;
 use bytes::Bytes;
@@ -45,6 +46,40 @@ fn say_closing(is_last: bool, map: &mut HeaderMap) -> Result<(), AllocError>
     }
 }
 
+/// Returns the header fields of a trace, whose lines are JSON.
+fn trace_map(alloc: Global) -> Result<HeaderMap, AllocError>
+    ensures { IfOk result (λ map. map ≡ fields trace_headers) }
+{
+    let mut map = HeaderMap::new(alloc);
+    let value = HeaderValue::from_static("application/x-ndjson");
+    match map.append("content-type", value) {
+        Ok(_) => Ok(map),
+        Err(_) => Err(AllocError),
+    }
+}
+
+/// Returns the response with this status, these header fields, in a map, and this body.
+fn with_map<B: Drop>(
+    is_last: bool,
+    status: u16,
+    map: HeaderMap,
+    body: B,
+) -> Result<Response<B>, ResponseFault>
+    ensures head { IfOk result (HasMap is_last status map) }
+    ensures body { IfOk result (λ response. body_of response ≡ body) }
+{
+    let Ok(status) = StatusCode::from_u16(status) else {
+        return Err(ResponseFault::BadStatus);
+    };
+    let mut parts = Parts {
+        status,
+        version: Version::HTTP_11,
+        headers: map,
+    };
+    say_closing(is_last, &mut parts.headers)?;
+    Ok(Response::from_parts(parts, body))
+}
+
 /// Returns the response with this status, these header fields and this body.
 fn with_head<B: Drop>(
     alloc: Global,
@@ -57,16 +92,7 @@ fn with_head<B: Drop>(
     ensures head { IfOk result (HasHead is_last status headers) }
     ensures body { IfOk result (λ response. body_of response ≡ body) }
 {
-    let Ok(status) = StatusCode::from_u16(status) else {
-        return Err(ResponseFault::BadStatus);
-    };
-    let mut parts = Parts {
-        status,
-        version: Version::HTTP_11,
-        headers: map_of(alloc, maps, headers)?,
-    };
-    say_closing(is_last, &mut parts.headers)?;
-    Ok(Response::from_parts(parts, body))
+    with_map(is_last, status, map_of(alloc, maps, headers)?, body)
 }
 
 /// Returns the response that carries a reply; it is the connection's last or not. It has the
@@ -99,7 +125,7 @@ pub(crate) fn reply_response<H: Drop>(
 }
 
 /// Returns the response that carries an outcome; it is the connection's last or not. It is that of
-/// the reply; or, if the outcome is a history, a text, which is streamed.
+/// the reply; or, if the outcome is a history or its trace, a text or lines of JSON, which are streamed.
 ///
 /// # Errors
 /// As [`reply_response`]; the outcome is then dropped.
@@ -121,5 +147,6 @@ pub(crate) fn response_to<H: Drop, L: Ledgers>(
             history_headers(alloc)?,
             Either::Right(body),
         ),
+        Outcome::Trace(body) => with_map(is_last, 200, trace_map(alloc)?, Either::Right(body)),
     }
 }

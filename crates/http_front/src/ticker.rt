@@ -159,8 +159,11 @@ fn tick_on<R: Wait + time::Clock, S: Identity, N: Clock, K: Keep>(
         refused = refused_after(refused, tick(rt, account, clock, &mut tally, &mut token));
         let entries = account.stats(rt, &mut token).entries;
         notices.note(entries);
+        if entries != before {
+            beat.note_own_step(rt);
+        }
         if has_ended(account.life(rt, &mut token), refused) {
-            beat.end();
+            beat.end(rt);
         }
         beat.note_look();
         if beat.is_over() {

@@ -17,7 +17,7 @@ use crate::front::Front;
 use crate::served_port::ServedPort;
 use crate::{Port, Rousing, Side};
 use account_book::Refusal;
-use account_lock::{Account, Identity};
+use account_lock::{Account, Identity, Trail};
 use arn_ids::FnNo;
 use bytes::Bytes;
 use call_model::{Call, Ticket};
@@ -28,7 +28,7 @@ use http_body::Body;
 use http_body_util::{Either, Full};
 use http_connection::{Ended, Ends, EventLoop, Machine, Park, Wire};
 use hyper::body::Incoming;
-use long_poll::{Clock, Connection, HistoryBody, OneShotBell, OpenPoll, Service, laws, moment};
+use long_poll::{Clock, Connection, OneShotBell, OpenPoll, Service, StreamedBody, laws, moment};
 use socket_loop::{Accepted, Unused};
 use std::alloc::{AllocError, AllocGlobal};
 use std::sync::{Arc, Mutex, Wait};
@@ -38,7 +38,8 @@ use usage_ledger::{Keep, Ledgers, Tally, Token};
 /// The stack of a thread, in bytes. The deepest chain of calls takes some 80 KB.
 const STACK: usize = 512 * 1024;
 
-/// The note of a connection's open Next, by which its socket's end is watched.
+/// The note of a connection's open Next, or that the trace that it sends waits for an entry, by which its
+/// socket's end is watched.
 #[derive(Drop)]
 struct OpenNext {
     open: Arc<OpenPoll>,
@@ -46,7 +47,7 @@ struct OpenNext {
 
 impl Park for OpenNext {
     fn is_parked(&self) -> bool {
-        self.open.ticket().is_some()
+        self.open.waits()
     }
 }
 
@@ -133,7 +134,7 @@ fn serve_by<
     pulse: Arc<Pulse>,
 ) -> Ended<Wire>
     requires { IsFresh ends.wire }
-    ensures written { Written ⟦<Either<Full<Bytes>, HistoryBody<R, A, K, L>> as Body>⟧.yields ⟦<Bytes as Into<Bytes>>⟧.converts
+    ensures written { Written ⟦<Either<Full<Bytes>, StreamedBody<R, A, A::Trail, K, L>> as Body>⟧.yields ⟦<Bytes as Into<Bytes>>⟧.converts
         (IsAnswer N.Clock ⟦<Incoming<Wire> as Body>⟧.yields ⟦<Bytes as Into<Bytes>>⟧.converts front)
         result.io (outcome_of result.outcome) }
     ensures same { name_of result.io ≡ name_of ends.wire }
@@ -204,7 +205,8 @@ impl<R: Machine, S: Identity + Drop, N: Clock + Drop, K: Keep> Worker<R, S, N, K
     /// # Errors
     /// If the connection cannot be served. Its socket is then closed, and nothing was written to it.
     fn serve(&self, tools: &mut Tools<S>, job: Job<S>) -> Result<Ended<Wire>, Unused>
-        ensures { IsServed ⟦<Either<Full<Bytes>, HistoryBody<R, Account<S, OneShotBell>, K, S>> as Body>⟧.yields
+        ensures { IsServed ⟦<Account<S, OneShotBell> as Service<K, S>>⟧
+            ⟦<Either<Full<Bytes>, StreamedBody<R, Account<S, OneShotBell>, Trail<S>, K, S>> as Body>⟧.yields
             ⟦<Incoming<Wire> as Body>⟧.yields ⟦<Bytes as Into<Bytes>>⟧.converts
             self.now.common job.served S.most (name_of_accepted job.pending.socket) result }
     {
@@ -215,7 +217,7 @@ impl<R: Machine, S: Identity + Drop, N: Clock + Drop, K: Keep> Worker<R, S, N, K
         if let Some(ticket) = open.ticket() {
             let _ = self.withdraw(&mut tools.token, ticket);
         }
-        self.common.beat.note_step();
+        self.common.beat.note_step(&self.rt);
         ended
     }
 
@@ -229,7 +231,8 @@ impl<R: Machine, S: Identity + Drop, N: Clock + Drop, K: Keep> Worker<R, S, N, K
         job: Job<S>,
         open: &Arc<OpenPoll>,
     ) -> Result<Ended<Wire>, Unused>
-        ensures { IsServed ⟦<Either<Full<Bytes>, HistoryBody<R, Account<S, OneShotBell>, K, S>> as Body>⟧.yields
+        ensures { IsServed ⟦<Account<S, OneShotBell> as Service<K, S>>⟧
+            ⟦<Either<Full<Bytes>, StreamedBody<R, Account<S, OneShotBell>, Trail<S>, K, S>> as Body>⟧.yields
             ⟦<Incoming<Wire> as Body>⟧.yields ⟦<Bytes as Into<Bytes>>⟧.converts
             self.now.common job.served S.most (name_of_accepted job.pending.socket) result }
     {
@@ -334,6 +337,7 @@ impl<
             account,
             clock,
             maps,
+            long,
             beat,
             line,
             ..
@@ -354,6 +358,7 @@ impl<
             line,
             function,
             maps,
+            long,
             self.patience,
         );
         Arc::new(alloc, connection).map_err(AllocError::from)

@@ -21,7 +21,7 @@ use Rattle.decisions.specs.declared.decide.Decision.{Decision}
 use Rattle.decisions.specs.declared.decide.Decision.TheVariants.{Submit, Show}
 use Rattle.decisions.specs.declared.decide.Shown.TheVariants as shown
 use Rattle.http_routes.specs.Routes.{environment_rows, account_rows, route_in, is_environment_method, environment_methods, is_account_method, account_methods, is_put}
-use Rattle.http_routes.specs.Paths.{name_of, qualifier_of, from_of}
+use Rattle.http_routes.specs.Paths.{name_of, qualifier_of, from_of, follow_of, bodies_of}
 use Rattle.http_routes.specs.Heads.{header, extension_name, trace_of, asks_for_account, is_synchronous}
 use Rattle.http_routes.specs.Identifiers.{request_of, extension_of}
 use Rattle.http_routes.specs.Names.{invoked, reserved}
@@ -30,7 +30,7 @@ use Rattle.lambda_wire.specs.declared.body_writer.InvokeFault.{InvokeFault}
 use Rattle.http_routes.specs.declared.refusals.Cause.{Cause}
 use Rattle.http_routes.specs.declared.refusals.Cause.TheVariants as cause
 use Rattle.http_routes.specs.EnvironmentDecisions.{submitted, response, failure, registered, register, ext_next, ext_report, has_error_type, on_environment_route, at_environment, environment_decision}
-use Rattle.http_routes.specs.AccountDecisions.{about, by_payload, invoke, reserve, set_reservation, show_reservation, show_from, show_history, environment_of, with_method, spindown, at_account, account_decision}
+use Rattle.http_routes.specs.AccountDecisions.{about, by_payload, invoke, reserve, set_reservation, show_reservation, show_from, show_history, first_of, is_said, show_trace_with, show_trace, environment_of, with_method, spindown, at_account, account_decision}
 use Rattle.http_routes.specs.Decisions.{Served, IsPortOf, decision_on, decision}
 use Rattle.http_routes.specs.declared.names.Target.{Target}
 use Rattle.http_routes.specs.declared.names.Target.TheVariants as target
@@ -183,6 +183,12 @@ show_history-allowed : (config : Config) (from : Option (List ℕ)) → IsAllowe
 show_history-allowed config None = tt
 show_history-allowed config (Some text) = show_from-allowed config (number_in greatest_ticket text)
 
+show_trace_with-allowed : (config : Config) (from : Option ℕ) (follow bare : Option Bool) → IsAllowed config (show_trace_with from follow bare)
+show_trace_with-allowed config None follow bare = refused-allowed config cause.WrongTicket
+show_trace_with-allowed config (Some from) None bare = refused-allowed config cause.WrongFollow
+show_trace_with-allowed config (Some from) (Some follow) None = refused-allowed config cause.WrongBodies
+show_trace_with-allowed config (Some from) (Some follow) (Some bare) = tt
+
 at_account-allowed : (config : Config) (p : Parts) (body : List ℕ) (o : Option AccountRoute) → IsAllowed config (at_account config p body o)
 at_account-allowed config p body None = refused-allowed config cause.NotFound
 at_account-allowed config p body (Some account.Invoke) =
@@ -199,6 +205,10 @@ at_account-allowed config p body (Some account.Spindown) = spindown-allowed conf
 at_account-allowed config p body (Some account.Stats) = with_method-allowed config account.Stats p (Show shown.Stats) tt
 at_account-allowed config p body (Some account.History) =
     with_method-allowed config account.History p (show_history (from_of p)) (show_history-allowed config (from_of p))
+at_account-allowed config p body (Some account.Trace) =
+    with_method-allowed config account.Trace p (show_trace p)
+    (show_trace_with-allowed config (first_of (from_of p)) (is_said (codes "1") (follow_of p)) (is_said (codes "none") (bodies_of p)))
+at_account-allowed config p body (Some account.Environments) = with_method-allowed config account.Environments p (Show shown.Environments) tt
 
 account_decision-allowed : (config : Config) (p : Parts) (body : List ℕ) → IsAllowed config (account_decision config p body)
 unfolding account_decision

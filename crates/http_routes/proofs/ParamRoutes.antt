@@ -9,7 +9,7 @@ use Rattle.matchit.specs.Rows.{param_token}
 use Rattle.matchit.specs.Router.{RouteOf}
 use Rattle.matchit.specs.Seek.{step, seek, param_step, has_slash, segment, cuts}
 use Rattle.matchit.proofs.OnLiterals.{matchit_on_literals}
-use Rattle.http_routes.specs.Routes.{RowsFor, route_in, with_route, with_runtime_rows, with_extension_rows, environment_rows, with_lambda_rows, with_local_rows, account_rows}
+use Rattle.http_routes.specs.Routes.{RowsFor, route_in, with_route, with_runtime_rows, with_extension_rows, environment_rows, with_lambda_rows, with_view_rows, with_local_rows, account_rows}
 use Rattle.http_routes.specs.declared.routes.EnvironmentRoute.TheVariants.{Response}
 use Rattle.http_routes.specs.declared.routes.AccountRoute.TheVariants.{Invoke}
 
@@ -112,7 +112,7 @@ module _ {R : Type 0} where
 
 pub invoke_route : (b : ℕ) (xs : List ℕ) → b < 256 → NoSlash (b ∷ xs)
     → route_in account_rows (codes "/2015-03-31/functions/" ++ (b ∷ (xs ++ codes "/invocations"))) ≡ Some Invoke
-unfolding matchit_on_literals account_rows with_local_rows with_lambda_rows with_route
+unfolding matchit_on_literals account_rows with_local_rows with_view_rows with_lambda_rows with_route
 invoke_route b xs small h =
     let found = through (codes "/2015-03-31/functions/") account_rows (b ∷ (xs ++ codes "/invocations")) Invoke
     (one (codes "invocations") _ b xs small h (_, refl, refl)) in

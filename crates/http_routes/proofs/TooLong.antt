@@ -111,6 +111,8 @@ module _ (a b : List ℕ) (la : longest_body < length a) (lb : longest_body < le
   at_account_alike config p (Some account.Spindown) = refl
   at_account_alike config p (Some account.Stats) = refl
   at_account_alike config p (Some account.History) = refl
+  at_account_alike config p (Some account.Trace) = refl
+  at_account_alike config p (Some account.Environments) = refl
 
   on_alike : (config : Config) (salt : ℕ) (port : Port) (p : Parts) → decision_on config salt port p a ≡ decision_on config salt port p b
   unfolding account_decision environment_decision

@@ -1,6 +1,7 @@
 -- The decision on a request on the account's port (Lambda API, and this service's own routes).
 -- A refusal is for the first of these at fault: its path, its method, the function that it names, a header, its body.
-use Rattle.std.specs.Prelude.{ℕ, Bool, if◌then◌else◌, List, Option, Some, None, Result, Ok, Err, option_and_then}
+use Rattle.std.specs.Prelude.{ℕ, Bool, true, false, if◌then◌else◌, List, codes, bytes_eq, Option, Some, None, Result, Ok, Err}
+use Rattle.std.specs.Prelude.{not, option_and_then}
 use Rattle.http.specs.Uri.{uri_path}
 use Rattle.http.specs.declared.request.Parts.{Parts}
 use Rattle.arn_ids.specs.declared.config.Config.{Config}
@@ -14,7 +15,7 @@ use Rattle.decisions.specs.declared.decide.Decision.{Decision}
 use Rattle.decisions.specs.declared.decide.Decision.TheVariants.{Submit, Show}
 use Rattle.decisions.specs.declared.decide.Shown.TheVariants as shown
 use Rattle.http_routes.specs.Routes.{account_rows, route_in, is_account_method, account_methods, is_put}
-use Rattle.http_routes.specs.Paths.{path_part, name_of, qualifier_of, from_of}
+use Rattle.http_routes.specs.Paths.{path_part, name_of, qualifier_of, from_of, follow_of, bodies_of}
 use Rattle.http_routes.specs.Heads.{trace_of, is_synchronous}
 use Rattle.http_routes.specs.Names.{invoked, reserved}
 use Rattle.http_routes.specs.Refusals.{refused, wrong_method}
@@ -23,7 +24,7 @@ use Rattle.http_routes.specs.declared.names.Target.{Target}
 use Rattle.http_routes.specs.declared.names.Target.TheVariants.{Malformed, Unknown, Function}
 use Rattle.http_routes.specs.declared.routes.AccountRoute.{AccountRoute}
 use Rattle.http_routes.specs.declared.routes.AccountRoute.TheVariants.{Invoke, Concurrency, ReadConcurrency, Stop}
-use Rattle.http_routes.specs.declared.routes.AccountRoute.TheVariants.{Spindown, Stats, History}
+use Rattle.http_routes.specs.declared.routes.AccountRoute.TheVariants.{Spindown, Stats, History, Trace, Environments}
 
 -- The decision about a function: a malformed or unknown one is refused.
 abbrev pub about : Target → (ℕ → Bool → Decision) → Decision
@@ -88,6 +89,27 @@ abbrev pub show_history : Option (List ℕ) → Decision
 show_history None = Show (shown.History None)
 show_history (Some text) = show_from (number_in greatest_ticket text)
 
+-- The ticket from which a trace begins: that in the query's first `from`, or 0 if the query has none.
+abbrev pub first_of : Option (List ℕ) → Option ℕ
+first_of None = Some 0
+first_of (Some text) = number_in greatest_ticket text
+
+-- Whether a parameter is absent, or has the one value that it can have.
+abbrev pub is_said : List ℕ → Option (List ℕ) → Option Bool
+is_said value None = Some false
+is_said value (Some text) = if bytes_eq text value then Some true else None
+
+-- The trace, given what its query says: refused for the first of `from`, `follow` and `bodies` that is wrong.
+abbrev pub show_trace_with : Option ℕ → Option Bool → Option Bool → Decision
+show_trace_with None follow bare = refused cause.WrongTicket
+show_trace_with (Some from) None bare = refused cause.WrongFollow
+show_trace_with (Some from) (Some follow) None = refused cause.WrongBodies
+show_trace_with (Some from) (Some follow) (Some bare) = Show (shown.Trace from follow (not bare))
+
+-- The trace, from `from` on, which goes on if `follow` is `1`, without bodies if `bodies` is `none`.
+abbrev pub show_trace : Parts → Decision
+show_trace p = show_trace_with (first_of (from_of p)) (is_said (codes "1") (follow_of p)) (is_said (codes "none") (bodies_of p))
+
 -- The decision on a route. The bodies of requests on this service's own routes are ignored.
 abbrev pub at_account : Config → Parts → List ℕ → Option AccountRoute → Decision
 at_account config p body None = refused cause.NotFound
@@ -101,6 +123,8 @@ at_account config p body (Some Stop) = with_method Stop p (Submit call.Stop)
 at_account config p body (Some Spindown) = spindown p (environment_of config p)
 at_account config p body (Some Stats) = with_method Stats p (Show shown.Stats)
 at_account config p body (Some History) = with_method History p (show_history (from_of p))
+at_account config p body (Some Trace) = with_method Trace p (show_trace p)
+at_account config p body (Some Environments) = with_method Environments p (Show shown.Environments)
 
 -- The decision on a request on the account's port.
 unfoldable pub account_decision : Config → Parts → List ℕ → Decision

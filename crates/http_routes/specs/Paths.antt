@@ -34,9 +34,19 @@ qualifier_in query = first_named (codes "Qualifier") (raw_pairs query)
 abbrev pub qualifier_of : Parts → Option (List ℕ)
 qualifier_of p = option_and_then qualifier_in (uri_query p.uri)
 
--- The first `from` of a request for the history (an operation of this service alone).
+-- The first value of a name in a request's query (operations of this service alone).
+abbrev pub asked_of : List ℕ → Parts → Option (List ℕ)
+asked_of name p = option_and_then (λ query. first_named name (raw_pairs query)) (uri_query p.uri)
+
+-- The first `from` of a request for the history or its trace, and the first `follow` and `bodies` of one for a trace.
 abbrev pub from_of : Parts → Option (List ℕ)
-from_of p = option_and_then (λ query. first_named (codes "from") (raw_pairs query)) (uri_query p.uri)
+from_of = asked_of (codes "from")
+
+abbrev pub follow_of : Parts → Option (List ℕ)
+follow_of = asked_of (codes "follow")
+
+abbrev pub bodies_of : Parts → Option (List ℕ)
+bodies_of = asked_of (codes "bodies")
 
 -- The name of a function in a path of the Lambda API, after three slashes.
 abbrev pub name_of : Parts → Option (List ℕ)

@@ -8,7 +8,8 @@ use Rattle.lambda_wire.specs.declared.body_writer.InvokeFault.TheVariants as fau
 use Rattle.decisions.specs.declared.decide.Decision.{Decision}
 use Rattle.decisions.specs.declared.decide.Decision.TheVariants.{Reply}
 use Rattle.http_routes.specs.declared.refusals.Cause.{Cause}
-use Rattle.http_routes.specs.declared.refusals.Cause.TheVariants.{NotFound, WrongTicket, WrongRequest, UnknownExtension}
+use Rattle.http_routes.specs.declared.refusals.Cause.TheVariants.{NotFound, WrongTicket, WrongFollow, WrongBodies}
+use Rattle.http_routes.specs.declared.refusals.Cause.TheVariants.{WrongRequest, UnknownExtension}
 use Rattle.http_routes.specs.declared.refusals.Cause.TheVariants.{MissingHeader, TooLarge, UnreadableRegistration}
 use Rattle.http_routes.specs.declared.refusals.Cause.TheVariants.{WrongEvent, MalformedName, UnknownFunction}
 use Rattle.http_routes.specs.declared.refusals.Cause.TheVariants.{WrongInvocationType, PayloadTooLarge}
@@ -20,6 +21,8 @@ use Rattle.http_routes.specs.declared.refusals.Cause.TheVariants.{UnreadablePayl
 abbrev pub refusal_words : Cause → ℕ × List ℕ × List ℕ
 refusal_words NotFound = (404, codes "NotFound", codes "No such resource")
 refusal_words WrongTicket = (400, codes "InvalidTicket", codes "from is not a ticket")
+refusal_words WrongFollow = (400, codes "InvalidQuery", codes "follow is not 1")
+refusal_words WrongBodies = (400, codes "InvalidQuery", codes "bodies is not none")
 refusal_words WrongRequest = (400, codes "InvalidRequestID", codes "Not the open invocation")
 refusal_words UnknownExtension = (403, codes "Extension.UnknownIdentifier", codes "Extension is not registered here")
 refusal_words MissingHeader = (400, codes "MissingHeader", codes "A required header is missing")
@@ -40,6 +43,8 @@ refusal_words UnreadableReservation = (400, codes "InvalidRequestContentExceptio
 abbrev pub fault_of : Cause → Option InvokeFault
 fault_of NotFound = None
 fault_of WrongTicket = None
+fault_of WrongFollow = None
+fault_of WrongBodies = None
 fault_of WrongRequest = None
 fault_of UnknownExtension = None
 fault_of MissingHeader = None

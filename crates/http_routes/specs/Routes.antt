@@ -13,7 +13,7 @@ use Rattle.http_routes.specs.declared.routes.EnvironmentRoute.TheVariants.{Regis
 use Rattle.http_routes.specs.declared.routes.EnvironmentRoute.TheVariants.{ExtExitFailure}
 use Rattle.http_routes.specs.declared.routes.AccountRoute.{AccountRoute}
 use Rattle.http_routes.specs.declared.routes.AccountRoute.TheVariants.{Invoke, Concurrency, ReadConcurrency, Stop}
-use Rattle.http_routes.specs.declared.routes.AccountRoute.TheVariants.{Spindown, Stats, History}
+use Rattle.http_routes.specs.declared.routes.AccountRoute.TheVariants.{Spindown, Stats, History, Trace, Environments}
 
 -- The rows of a router.
 abbrev pub RowsFor : Type 0 → Type 0
@@ -56,13 +56,20 @@ with_lambda_rows rows =
     (with_route (codes "/2017-10-31/functions/{name}/concurrency") Concurrency
     (with_route (codes "/2015-03-31/functions/{name}/invocations") Invoke rows))
 
+-- These rows and those that show something of the account without a call, under `/_local`.
+unfoldable pub with_view_rows : RowsFor AccountRoute → RowsFor AccountRoute
+with_view_rows rows =
+    with_route (codes "/_local/environments") Environments
+    (with_route (codes "/_local/trace") Trace
+    (with_route (codes "/_local/history") History
+    (with_route (codes "/_local/stats") Stats rows)))
+
 -- These rows and those that this service adds for its operator, under `/_local`.
 unfoldable pub with_local_rows : RowsFor AccountRoute → RowsFor AccountRoute
 with_local_rows rows =
-    with_route (codes "/_local/history") History
-    (with_route (codes "/_local/stats") Stats
+    with_view_rows
     (with_route (codes "/_local/env/{n}/spindown") Spindown
-    (with_route (codes "/_local/stop") Stop rows)))
+    (with_route (codes "/_local/stop") Stop rows))
 
 -- The rows of the account's port.
 unfoldable pub account_rows : RowsFor AccountRoute
@@ -116,6 +123,8 @@ is_account_method Stop = is_post
 is_account_method Spindown = is_post
 is_account_method Stats = is_get
 is_account_method History = is_get
+is_account_method Trace = is_get
+is_account_method Environments = is_get
 
 -- The methods of a route of the account, as the field `Allow` lists them.
 abbrev pub account_methods : AccountRoute → FieldValue
@@ -126,3 +135,5 @@ account_methods Stop = plain_value (codes "POST")
 account_methods Spindown = plain_value (codes "POST")
 account_methods Stats = plain_value (codes "GET")
 account_methods History = plain_value (codes "GET")
+account_methods Trace = plain_value (codes "GET")
+account_methods Environments = plain_value (codes "GET")

@@ -9,7 +9,7 @@ ghost use Rattle.http_routes.specs.Routes.{account_rows, is_put};
 
 use crate::heads::{is_synchronous, trace};
 use crate::names::{Target, invoked, reserved};
-use crate::path::{from_of, path_part};
+use crate::path::{asked_of, from_of, path_part};
 use crate::refusals::{Cause, refused, wrong_method};
 use crate::routes::{AccountRoute, account_route};
 use arn_ids::{Checked, EnvNo, FnNo, read_environment, read_number};
@@ -166,6 +166,55 @@ fn show_history(alloc: Global, parts: &Parts) -> Result<Decision, AllocError>
     }
 }
 
+/// Returns the ticket from which a trace begins, or `None` if the query's first `from` is not a ticket.
+fn first_of(alloc: Global, parts: &Parts) -> Result<Option<u64>, AllocError>
+    ensures { IfOk result (λ first. first ≡ spec.first_of (paths.from_of parts.now)) }
+{
+    let Some(text) = from_of(alloc, parts)? else {
+        return Ok(Some(0));
+    };
+    Ok(read_number(text.as_str().as_bytes(), u64::MAX))
+}
+
+/// Returns whether the query has this parameter with this value, or `None` if it has it with another
+/// one.
+fn is_said(
+    alloc: Global,
+    parts: &Parts,
+    name: &str,
+    value: &str,
+) -> Result<Option<bool>, AllocError>
+    ensures { IfOk result (λ said. said ≡ spec.is_said value.now (paths.asked_of name.now parts.now)) }
+{
+    let Some(text) = asked_of(alloc, parts, name)? else {
+        return Ok(Some(false));
+    };
+    if text.as_str() == value {
+        return Ok(Some(true));
+    }
+    Ok(None)
+}
+
+/// Decides to show the trace, by the query's first `from`, `follow` and `bodies`.
+fn show_trace(alloc: Global, parts: &Parts) -> Result<Decision, AllocError>
+    ensures { IfOk result (λ d. d ≡ spec.show_trace parts.now) }
+{
+    let Some(from) = first_of(alloc, parts)? else {
+        return refused(alloc, Cause::WrongTicket);
+    };
+    let Some(follow) = is_said(alloc, parts, "follow", "1")? else {
+        return refused(alloc, Cause::WrongFollow);
+    };
+    let Some(bare) = is_said(alloc, parts, "bodies", "none")? else {
+        return refused(alloc, Cause::WrongBodies);
+    };
+    Ok(Decision::Show(Shown::Trace {
+        from,
+        follow,
+        bodies: !bare,
+    }))
+}
+
 /// Decides a request on a route. The bodies of requests on this service's own routes are ignored.
 fn on_route(
     alloc: Global,
@@ -191,6 +240,8 @@ fn on_route(
         AccountRoute::Spindown => unreachable!(),
         AccountRoute::Stats => Ok(Decision::Show(Shown::Stats)),
         AccountRoute::History => show_history(alloc, parts),
+        AccountRoute::Trace => show_trace(alloc, parts),
+        AccountRoute::Environments => Ok(Decision::Show(Shown::Environments)),
     }
 }
 

@@ -7,6 +7,7 @@ ghost use Rattle.http_routes.specs.declared.routes.EnvironmentRoute.TheVariants.
 ghost use Rattle.http_routes.specs.declared.routes.EnvironmentRoute.TheVariants.{ExtExitFailure};
 ghost use Rattle.http_routes.specs.declared.routes.AccountRoute.TheVariants.{Invoke, Concurrency, ReadConcurrency};
 ghost use Rattle.http_routes.specs.declared.routes.AccountRoute.TheVariants.{Stop, Spindown, Stats, History};
+ghost use Rattle.http_routes.specs.declared.routes.AccountRoute.TheVariants.{Trace, Environments};
 
 /// The tables are complete: each route has its row, and some path leads to it.
 pub fn routes()
@@ -21,7 +22,7 @@ pub fn routes()
         ≡ Some ExtInitFailure }
     ensures ext_exit_failure { route_in environment_rows (codes "/2020-01-01/extension/exit/error")
         ≡ Some ExtExitFailure }
-    ensures account_routes { length account_rows ≡ 7 }
+    ensures account_routes { length account_rows ≡ 9 }
     ensures invoke { route_in account_rows (codes "/2015-03-31/functions/f/invocations") ≡ Some Invoke }
     ensures concurrency { route_in account_rows (codes "/2017-10-31/functions/f/concurrency") ≡ Some Concurrency }
     ensures read_concurrency { route_in account_rows (codes "/2019-09-30/functions/f/concurrency")
@@ -30,4 +31,6 @@ pub fn routes()
     ensures spindown { route_in account_rows (codes "/_local/env/1/spindown") ≡ Some Spindown }
     ensures stats { route_in account_rows (codes "/_local/stats") ≡ Some Stats }
     ensures history { route_in account_rows (codes "/_local/history") ≡ Some History }
+    ensures trace { route_in account_rows (codes "/_local/trace") ≡ Some Trace }
+    ensures environments { route_in account_rows (codes "/_local/environments") ≡ Some Environments }
 {}

@@ -97,12 +97,23 @@ pub(crate) fn qualifier_of(alloc: Global, parts: &Parts) -> Result<Option<CowStr
     }
 }
 
-/// Returns the first `from` of a request for the history (an operation of this service alone).
+/// Returns the first value of this name in a request's query (operations of this service alone).
+pub(crate) fn asked_of<'p>(
+    alloc: Global,
+    parts: &'p Parts,
+    name: &str,
+) -> Result<Option<CowStr<'p>>, AllocError>
+    ensures { IfOk result (λ text. option_map cow_str_bytes text ≡ spec.asked_of name.now parts.now) }
+{
+    match parts.uri.query() {
+        Some(query) => first_named(alloc, query.as_bytes(), name),
+        None => Ok(None),
+    }
+}
+
+/// Returns the first `from` of a request for the history or its trace.
 pub(crate) fn from_of(alloc: Global, parts: &Parts) -> Result<Option<CowStr<'_>>, AllocError>
     ensures { IfOk result (λ text. option_map cow_str_bytes text ≡ spec.from_of parts.now) }
 {
-    match parts.uri.query() {
-        Some(query) => first_named(alloc, query.as_bytes(), "from"),
-        None => Ok(None),
-    }
+    asked_of(alloc, parts, "from")
 }

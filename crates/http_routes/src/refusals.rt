@@ -19,6 +19,10 @@ pub(crate) enum Cause {
     NotFound,
     /// The text from which the history is to begin is not a ticket.
     WrongTicket,
+    /// Whether a trace is to be followed is not said as it has to be.
+    WrongFollow,
+    /// Which bodies a trace is to show is not said as it has to be.
+    WrongBodies,
     /// The path does not name an invocation of this environment's function.
     WrongRequest,
     /// The head does not name an extension of this environment.
@@ -55,6 +59,8 @@ fn refusal_words(cause: Cause) -> (u16, &'static str, &'static str)
     match cause {
         Cause::NotFound => (404, "NotFound", "No such resource"),
         Cause::WrongTicket => (400, "InvalidTicket", "from is not a ticket"),
+        Cause::WrongFollow => (400, "InvalidQuery", "follow is not 1"),
+        Cause::WrongBodies => (400, "InvalidQuery", "bodies is not none"),
         Cause::WrongRequest => (400, "InvalidRequestID", "Not the open invocation"),
         Cause::UnknownExtension => (
             403,
@@ -102,6 +108,8 @@ fn fault_of(cause: Cause) -> Option<InvokeFault>
     match cause {
         Cause::NotFound
         | Cause::WrongTicket
+        | Cause::WrongFollow
+        | Cause::WrongBodies
         | Cause::WrongRequest
         | Cause::UnknownExtension
         | Cause::MissingHeader

@@ -4,7 +4,7 @@ ghost use Rattle.std.specs.Prelude.{◌≡◌, ◌≢◌, ◌<◌, ◌++◌, ◌
 ghost use Rattle.http_routes.specs.declared.routes.AccountRoute.TheVariants.{Invoke};
 ghost use Rattle.http_routes.specs.declared.routes.EnvironmentRoute.TheVariants.{Response};
 ghost use Rattle.http_routes.specs.Routes.{with_route, with_runtime_rows, with_extension_rows, environment_rows};
-ghost use Rattle.http_routes.specs.Routes.{with_lambda_rows, with_local_rows, account_rows, route_in};
+ghost use Rattle.http_routes.specs.Routes.{with_lambda_rows, with_view_rows, with_local_rows, account_rows, route_in};
 ghost use Rattle.http_routes.specs.Routes.{is_environment_method, environment_methods};
 ghost use Rattle.http_routes.specs.Routes.{is_account_method, account_methods};
 
@@ -59,6 +59,10 @@ pub enum AccountRoute {
     Stats,
     /// The text of the account's history.
     History,
+    /// The trace of the account's history.
+    Trace,
+    /// The account's environments.
+    Environments,
 }
 
 impl EnvironmentRoute {
@@ -101,9 +105,11 @@ impl AccountRoute {
         match self {
             AccountRoute::Invoke | AccountRoute::Stop | AccountRoute::Spindown => method == "POST",
             AccountRoute::Concurrency => method == "PUT" || method == "DELETE",
-            AccountRoute::ReadConcurrency | AccountRoute::Stats | AccountRoute::History => {
-                method == "GET"
-            }
+            AccountRoute::ReadConcurrency
+            | AccountRoute::Stats
+            | AccountRoute::History
+            | AccountRoute::Trace
+            | AccountRoute::Environments => method == "GET",
         }
     }
 
@@ -116,9 +122,11 @@ impl AccountRoute {
                 HeaderValue::from_static("POST")
             }
             AccountRoute::Concurrency => HeaderValue::from_static("DELETE, PUT"),
-            AccountRoute::ReadConcurrency | AccountRoute::Stats | AccountRoute::History => {
-                HeaderValue::from_static("GET")
-            }
+            AccountRoute::ReadConcurrency
+            | AccountRoute::Stats
+            | AccountRoute::History
+            | AccountRoute::Trace
+            | AccountRoute::Environments => HeaderValue::from_static("GET"),
         }
     }
 }
@@ -209,14 +217,23 @@ fn add_lambda(router: &mut Router<AccountRoute>) -> Result<(), InsertError>
     )
 }
 
+/// Adds this service's own routes that only show something.
+fn add_views(router: &mut Router<AccountRoute>) -> Result<(), InsertError>
+    ensures { OnOk result (router.new ≡ with_view_rows router.old) }
+{
+    add(router, "/_local/stats", AccountRoute::Stats)?;
+    add(router, "/_local/history", AccountRoute::History)?;
+    add(router, "/_local/trace", AccountRoute::Trace)?;
+    add(router, "/_local/environments", AccountRoute::Environments)
+}
+
 /// Adds this service's own routes.
 fn add_local(router: &mut Router<AccountRoute>) -> Result<(), InsertError>
     ensures { OnOk result (router.new ≡ with_local_rows router.old) }
 {
     add(router, "/_local/stop", AccountRoute::Stop)?;
     add(router, "/_local/env/{n}/spindown", AccountRoute::Spindown)?;
-    add(router, "/_local/stats", AccountRoute::Stats)?;
-    add(router, "/_local/history", AccountRoute::History)
+    add_views(router)
 }
 
 /// Makes the routes of the account's port. They do not conflict, so it fails only if an allocation

@@ -1,12 +1,14 @@
 //! A local Lambda service. `lambda_local`, or `lambda_local replay`, replays a script of calls from
 //! standard input and writes each call's answer to standard output. `lambda_local trace` writes the
 //! trace of the history that the script leads to instead: a JSON object for each entry, a line each;
-//! with `--bodies none`, without payloads, outputs and reports. `lambda_local serve PATH` serves the
-//! configuration in a file over HTTP until it is stopped, and then writes the account's counts.
+//! with `--bodies none`, without payloads, outputs and reports. `lambda_local explain` reads a
+//! configuration from standard input, and says which fault it has and where. `lambda_local serve PATH`
+//! serves the configuration in a file over HTTP until it is stopped, and then writes the account's counts.
 #![tactic(auto)]
 
 mod clock;
 mod closing;
+mod explain;
 mod hosts;
 mod log_writer;
 mod patience;
@@ -14,11 +16,14 @@ mod serve;
 mod serve_fault;
 mod setting_fault;
 
+use crate::explain::explain;
 use crate::hosts::read_hosts;
 use crate::patience::read_patience;
 use crate::serve::serve;
 use crate::serve_fault::ServeFault;
 use crate::setting_fault::SettingFault;
+use arn_ids::ConfigFault;
+use config_places::Place;
 use http_front::Machine;
 use log::Log;
 use script_replay::{ReplayFault, replay};
@@ -38,6 +43,8 @@ enum Asked {
     Replay,
     /// Write the trace of standard input, with or without bodies.
     Trace { bodies: bool },
+    /// Say where the fault of the configuration on standard input is.
+    Explain,
     /// Serve the configuration in the file with this path.
     Serve(String),
     /// Anything else: the program prints its usage.
@@ -53,6 +60,9 @@ enum ProgramFault {
     /// The replay ended before its input.
     #[error("{0}")]
     Replay(ReplayFault),
+    /// The configuration has a fault, at this place.
+    #[error("configuration: {0}\n{1}")]
+    At(ConfigFault, Place),
     /// The service did not come to a settled end.
     #[error("{0}")]
     Serve(ServeFault),
@@ -62,7 +72,7 @@ impl ProgramFault {
     /// Returns the exit status: 2 for a usage fault.
     fn status(self) -> u8 {
         match self {
-            ProgramFault::Usage => 2,
+            ProgramFault::Usage | ProgramFault::At(..) => 2,
             ProgramFault::Replay(fault) => fault.status(),
             ProgramFault::Serve(fault) => fault.status(),
         }
@@ -101,6 +111,7 @@ fn read_arguments<R: Env + AllocGlobal>(rt: &R) -> io::Result<Asked> {
         ("replay", None, None) => Ok(Asked::Replay),
         ("trace", None, None) => Ok(Asked::Trace { bodies: true }),
         ("trace", Some(option), Some(value)) => Ok(traced(option.as_str(), value.as_str())),
+        ("explain", None, None) => Ok(Asked::Explain),
         ("serve", Some(path), None) => Ok(Asked::Serve(path)),
         _ => Ok(Asked::Nothing),
     }
@@ -121,6 +132,11 @@ where
             let mut writer = io::writer(&rt);
             trace(rt.alloc(), &mut reader, &mut writer, bodies).map_err(ProgramFault::Replay)
         }
+        Ok(Asked::Explain) => match explain(rt.alloc(), rt.reader()) {
+            Ok(None) => Ok(()),
+            Ok(Some(place)) => Err(ProgramFault::At(place.fault, place)),
+            Err(fault) => Err(ProgramFault::Serve(fault)),
+        },
         Ok(Asked::Serve(path)) => {
             let patience = read_patience(&rt)?;
             let hosts = read_hosts(&rt)?;

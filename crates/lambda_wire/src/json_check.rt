@@ -137,7 +137,7 @@ fn is_readable_json(text: &str, scratch: &mut Scratch) -> Result<bool, AllocErro
 fn is_json(alloc: Global, room: &mut PayloadScratch, text: &str) -> Result<bool, AllocError>
     ensures { IfOk result (λ readable. readable ≡ is_some (read text.now)) }
 {
-    let mut scratch = room.take(alloc)?;
+    let mut scratch = room.take(alloc, text.len())?;
     let readable = is_readable_json(text, &mut scratch)?;
     room.keep(scratch, text.len());
     Ok(readable)

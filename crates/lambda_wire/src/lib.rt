@@ -9,6 +9,7 @@ mod header_map;
 mod header_set;
 mod header_writer;
 mod json_check;
+mod long_scratches;
 mod members;
 mod object_writer;
 mod payload_scratch;
@@ -28,6 +29,7 @@ pub use header_writer::{
     Headers, NO_TRACE, error_headers, event_headers, invoke_headers, json_headers, method_headers,
     next_headers, no_headers, registered_headers, text_headers,
 };
+pub use long_scratches::LongScratches;
 pub use payload_scratch::PayloadScratch;
 pub use reply::{Reply, fault_reply, invoke_fault_reply};
 pub use request_reader::{Events, read_invoke_body, read_register, read_reservation};

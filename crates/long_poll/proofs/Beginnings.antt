@@ -1,6 +1,6 @@
 -- What an exchange gives, from where it stands.
 use Rattle.std.proofs.lemmas.List.{length-replicate}
-use Rattle.std.proofs.Common.{◌≡◌, ℕ, Box, suc, ◌<◌, List, length, replicate, Option, Result, Ok, Err, IfOk, MatchResult, inl, inr, arith}
+use Rattle.std.proofs.Common.{◌≡◌, ℕ, Bool, Box, suc, ◌<◌, List, length, replicate, Option, Result, Ok, Err, IfOk, MatchResult, inl, inr, arith}
 use Rattle.std.specs.declared.alloc.Global.{Global}
 use Rattle.call_types.specs.declared.call.Call.{Call}
 use Rattle.call_types.specs.declared.call.Entry.{Entry}
@@ -10,28 +10,30 @@ use Rattle.futures.specs.declared.task.Poll.{Poll}
 use Rattle.futures.specs.declared.task.Poll.TheVariants.{Ready, Pending}
 use Rattle.http_body.specs.declared.frame.Frame.{Frame}
 use Rattle.decisions.specs.declared.decide.Decision.TheVariants as decision
+use Rattle.decisions.specs.declared.decide.Shown.{Shown}
+use Rattle.decisions.specs.declared.decide.Shown.TheVariants.{Trace}
 use Rattle.http.specs.declared.request.Parts.{Parts}
 use Rattle.lambda_wire.specs.declared.reply.Reply.{Reply}
 use Rattle.long_poll.specs.Bodies.{Collects}
 use Rattle.arn_ids.specs.Limits.{longest_body}
 use Rattle.long_poll.specs.Exchanges.{Awaits, ComesOfCall, Decides, Exchanges, IsOfBody, IsBegun, IsHeld, HasBegun, shown}
-use Rattle.long_poll.specs.Outcomes.{IsHistoryOf, ShowsFrom}
+use Rattle.long_poll.specs.Outcomes.{IsHistoryOf, IsTraceOf, IsStreamOf}
 use Rattle.long_poll.specs.Stages.{GivesFrom, StartsFrom}
 use Rattle.long_poll.specs.declared.bell.Heard.{Heard}
 use Rattle.long_poll.specs.declared.clock.Clock as Clock
 use Rattle.long_poll.specs.declared.connection.Begun.{Begun}
-use Rattle.long_poll.specs.declared.connection.Begun.TheVariants.{Replied, Dozes, AsksForHistory, Parked}
+use Rattle.long_poll.specs.declared.connection.Begun.TheVariants.{Replied, HeldBack, AsksForHistory, AsksForTrace, Parked}
 use Rattle.long_poll.specs.declared.connection.Connection.{Connection}
-use Rattle.long_poll.specs.declared.connection.Dozing.{Dozing}
+use Rattle.long_poll.specs.declared.connection.HeldBackCall.{HeldBackCall}
 use Rattle.decisions.specs.declared.decide.Decide as Decide
 use Rattle.long_poll.specs.declared.exchange.Stage.{Stage}
 use Rattle.long_poll.specs.declared.exchange.Stage.TheVariants.{Collecting, Holding, Submitting, Waiting}
 use Rattle.long_poll.specs.declared.fault.ExchangeFault.{ExchangeFault}
 use Rattle.long_poll.specs.declared.fault.ExchangeFault.TheVariants.{BodyFailed, OutOfMemory, BellLost}
-use Rattle.long_poll.specs.declared.history_body.HistoryBody.{HistoryBody}
 use Rattle.long_poll.specs.declared.outcome.Outcome.{Outcome}
 use Rattle.long_poll.specs.declared.outcome.Outcome.TheVariants as outcome
 use Rattle.long_poll.specs.declared.service.Service as Service
+use Rattle.long_poll.specs.declared.streamed_body.StreamedBody.{StreamedBody}
 use Rattle.usage_ledger.specs.declared.keep.Keep as Keep
 
 -- what holds while it is pending gives what else holds then
@@ -78,19 +80,20 @@ pub whatever_body : {P E : Type 0} (reads : P → List ℕ → Type 0) (source :
 whatever_body reads source head held is f (inl (body, read, h)) = f body h
 whatever_body reads source head held is f (inr (declared, h)) = some_longer longest_body (λ body long. f body (h body long))
 
-module _ {R S D N K L : Type 0} {service : Service.Ghosts S K L} {decider : Decide.Ghosts D} {keep : Keep.Ghosts K}
-    (connection : Connection R S D N K L service decider keep) (clock : Clock.Ghosts N) where
+module _ {R S D N K L T : Type 0} {service : Service.Ghosts S K L T} {decider : Decide.Ghosts D} {keep : Keep.Ghosts K}
+    (connection : Connection R S D N K L T service decider keep) (clock : Clock.Ghosts N) where
   -- a call was submitted, as was decided
   pub begun_submitted : (head : Parts) (body : List ℕ) (call : Call)
       → Decides connection head body (decision.Submit call)
       → (begun : Begun L) → IsBegun connection clock call begun → HasBegun connection clock head body begun
   begun_submitted head body call made (Replied reply token) h = (decision.Submit call, made, inr h)
-  begun_submitted head body call made (Dozes held) h = (rw h.0 made, h.1)
+  begun_submitted head body call made (HeldBack held) h = (rw h.0 made, h.1)
   begun_submitted head body call made (AsksForHistory from) h = absurd h
+  begun_submitted head body call made (AsksForTrace from follow bodies) h = absurd h
   begun_submitted head body call made (Parked ticket heard token) h = (call, made, h)
 
   module _ {B P E : Type 0} (yields : B → Runs (Result (Frame P) E)) (reads : P → List ℕ → Type 0)
-      {H : Type 0} (shows : Option ℕ → H → Type 0) where
+      {H : Type 0} (shows : Shown → H → Type 0) where
     -- what comes of a later body may come of this one
     pub exchanges_later : (parts : Parts) (new old : B) (later held : List ℕ)
         → ((r : Result (List ℕ) ExchangeFault) → Collects reads (yields new) later r → Collects reads (yields old) held r)
@@ -110,6 +113,7 @@ module _ {R S D N K L : Type 0} {service : Service.Ghosts S K L} {decider : Deci
         of_body reads (yields collecting.body) parts collecting.held _ _
         (λ body b. (decision.Submit b.0, b.1, inl (ticket, seen, b.2.0, rendered))) h
     gives_answer (Collecting parts collecting declared) ticket heard seen h (Ok (outcome.History body)) rendered = absurd rendered
+    gives_answer (Collecting parts collecting declared) ticket heard seen h (Ok (outcome.Trace body)) rendered = absurd rendered
     gives_answer (Collecting parts collecting declared) ticket heard seen h (Err BellLost) rendered =
         of_body reads (yields collecting.body) parts collecting.held _ _
         (λ body b. (b.0, b.1, (ticket, heard, seen, b.2, rendered))) h
@@ -117,6 +121,7 @@ module _ {R S D N K L : Type 0} {service : Service.Ghosts S K L} {decider : Deci
     gives_answer (Collecting parts collecting declared) ticket heard seen h (Err BodyFailed) rendered = absurd rendered.1
     gives_answer (Holding held) ticket heard seen h (Ok (outcome.Reply reply token)) rendered = inl (ticket, seen, h.0, rendered)
     gives_answer (Holding held) ticket heard seen h (Ok (outcome.History body)) rendered = absurd rendered
+    gives_answer (Holding held) ticket heard seen h (Ok (outcome.Trace body)) rendered = absurd rendered
     gives_answer (Holding held) ticket heard seen h (Err BellLost) rendered = (ticket, heard, seen, h, rendered)
     gives_answer (Holding held) ticket heard seen h (Err OutOfMemory) rendered = tt
     gives_answer (Holding held) ticket heard seen h (Err BodyFailed) rendered = absurd rendered.1
@@ -146,14 +151,15 @@ module _ {R S D N K L : Type 0} {service : Service.Ghosts S K L} {decider : Deci
     gives_fault (Waiting t heard token) fault h = absurd h
 
     -- its call is held back, and this came of it in the end
-    pub gives_held : (stage : Stage B L) (held : Box Dozing Global)
-        → StartsFrom connection clock yields reads stage (Ok (Dozes held))
+    pub gives_held : (stage : Stage B L) (held : Box HeldBackCall Global)
+        → StartsFrom connection clock yields reads stage (Ok (HeldBack held))
         → (r : Result (Outcome H L) ExchangeFault) → ComesOfCall connection clock held.value.call r
         → GivesFrom connection clock yields reads shows stage r
     gives_held (Collecting parts collecting declared) held h (Ok (outcome.Reply reply token)) came =
         of_body reads (yields collecting.body) parts collecting.held _ _
         (λ body b. (decision.Submit held.value.call, b.0, came)) h
     gives_held (Collecting parts collecting declared) held h (Ok (outcome.History body)) came = absurd came
+    gives_held (Collecting parts collecting declared) held h (Ok (outcome.Trace body)) came = absurd came
     gives_held (Collecting parts collecting declared) held h (Err BellLost) came =
         of_body reads (yields collecting.body) parts collecting.held _ _ (λ body b. (held.value.call, b.0, came)) h
     gives_held (Collecting parts collecting declared) held h (Err OutOfMemory) came = tt
@@ -164,8 +170,8 @@ module _ {R S D N K L : Type 0} {service : Service.Ghosts S K L} {decider : Deci
 
   module _ {B P E : Type 0} (yields : B → Runs (Result (Frame P) E)) (reads : P → List ℕ → Type 0) where
     -- a call that is held back can be submitted
-    pub holds_held : (stage : Stage B L) (held : Box Dozing Global)
-        → StartsFrom connection clock yields reads stage (Ok (Dozes held)) → IsHeld connection held.value
+    pub holds_held : (stage : Stage B L) (held : Box HeldBackCall Global)
+        → StartsFrom connection clock yields reads stage (Ok (HeldBack held)) → IsHeld connection held.value
     holds_held (Collecting parts collecting declared) held h =
         whatever_body reads (yields collecting.body) parts collecting.held _ (λ body b. b.1) h
     holds_held (Holding before) held h = h.1
@@ -176,13 +182,29 @@ module _ {R S D N K L : Type 0} {service : Service.Ghosts S K L} {decider : Deci
     -- it asks for the history, and this shows it
     pub gives_history : (stage : Stage B L) (from : Option ℕ)
         → StartsFrom connection clock yields reads stage (Ok (AsksForHistory from))
-        → (r : Result (Outcome (HistoryBody R S K L) L) ExchangeFault)
-        → MatchResult r (IsHistoryOf s from) (λ fault. fault ≡ OutOfMemory)
-        → GivesFrom connection clock yields reads (ShowsFrom s) stage r
+        → (r : Result (Outcome (StreamedBody R S T K L) L) ExchangeFault)
+        → MatchResult r (IsHistoryOf service s from) (λ fault. fault ≡ OutOfMemory)
+        → GivesFrom connection clock yields reads (IsStreamOf service s) stage r
     gives_history (Collecting parts collecting declared) from h (Ok (outcome.Reply reply token)) is = absurd is
     gives_history (Collecting parts collecting declared) from h (Ok (outcome.History body)) is =
         of_body reads (yields collecting.body) parts collecting.held _ _ (λ body b. (from, b, is)) h
+    gives_history (Collecting parts collecting declared) from h (Ok (outcome.Trace body)) is = absurd is
     gives_history (Collecting parts collecting declared) from h (Err fault) is = rw is tt
     gives_history (Holding held) from h r is = absurd h
     gives_history Submitting from h r is = absurd h
     gives_history (Waiting t heard token) from h r is = absurd h
+
+    -- it asks for the trace, and this shows it
+    pub gives_trace : (stage : Stage B L) (from : ℕ) (follow bodies : Bool)
+        → StartsFrom connection clock yields reads stage (Ok (AsksForTrace from follow bodies))
+        → (r : Result (Outcome (StreamedBody R S T K L) L) ExchangeFault)
+        → MatchResult r (IsTraceOf service s (Trace from follow bodies)) (λ fault. fault ≡ OutOfMemory)
+        → GivesFrom connection clock yields reads (IsStreamOf service s) stage r
+    gives_trace (Collecting parts collecting declared) from follow bodies h (Ok (outcome.Reply reply token)) is = absurd is
+    gives_trace (Collecting parts collecting declared) from follow bodies h (Ok (outcome.History body)) is = absurd is
+    gives_trace (Collecting parts collecting declared) from follow bodies h (Ok (outcome.Trace body)) is =
+        of_body reads (yields collecting.body) parts collecting.held _ _ (λ body b. (from, follow, bodies, b, is)) h
+    gives_trace (Collecting parts collecting declared) from follow bodies h (Err fault) is = rw is tt
+    gives_trace (Holding held) from follow bodies h r is = absurd h
+    gives_trace Submitting from follow bodies h r is = absurd h
+    gives_trace (Waiting t heard token) from follow bodies h r is = absurd h

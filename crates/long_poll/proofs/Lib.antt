@@ -8,3 +8,5 @@ mod StatsText
 mod Replying
 -- A reply that a history gives, each history that goes on there gives too.
 mod RepliesStay
+-- What a body that shows a trace yields, one step at a time.
+mod Tracing

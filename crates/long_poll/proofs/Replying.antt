@@ -23,8 +23,8 @@ use Rattle.usage_ledger.specs.Tallies.{Held}
 use Rattle.usage_ledger.specs.declared.keep.Keep as Keep
 
 -- Over a service whose relations are those of an account.
-module _ {R S D N K L : Type 0} {service : Service.Ghosts S K L} {decider : Decide.Ghosts D}
-    {keep : Keep.Ghosts K} (connection : Connection R S D N K L service decider keep) (clock : Clock.Ghosts N)
+module _ {R S D N K L T : Type 0} {service : Service.Ghosts S K L T} {decider : Decide.Ghosts D}
+    {keep : Keep.Ghosts K} (connection : Connection R S D N K L T service decider keep) (clock : Clock.Ghosts N)
     (config : Config) (most salt : ℕ)
     (takes : (had : List Entry) (before : Held) (now : ℕ) (call : Call) (bell : Option OneShotBell) (ticket : ℕ)
     (seen then : List Entry) (after : Held)

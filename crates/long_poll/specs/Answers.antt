@@ -10,7 +10,7 @@ use Rattle.account_lock.specs.declared.desk.Look.TheVariants.{Given, Waiting}
 
 -- What a poll finds when it looks: what its service shows of its ticket, to a token that has seen what the poll's
 -- token has seen.
-abbrev pub found : {R S H K L : Type 0} → Service.Ghosts S K L → Poll R S H K L → Look → Type 0
+abbrev pub found : {R S H K L T : Type 0} → Service.Ghosts S K L T → Poll R S H K L → Look → Type 0
 found service poll look =
     (then : List Entry) × service.looks (arc_value poll.service) poll.token poll.ticket look then
 

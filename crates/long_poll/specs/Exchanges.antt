@@ -1,5 +1,5 @@
 -- What an exchange may return.
-use Rattle.std.specs.Prelude.{◌≡◌, ◌≤◌, ◌<◌, ◌⊎◌, ℕ, true, List, length, Option, Some, None, Result, Ok, Err}
+use Rattle.std.specs.Prelude.{◌≡◌, ◌<◌, ◌⊎◌, ℕ, Bool, true, List, length, Option, Some, None, Result, Ok, Err}
 use Rattle.std.specs.Arc.{arc_value}
 use Rattle.arn_ids.specs.Limits.{longest_body}
 use Rattle.account_lock.specs.declared.desk.Refused.{Refused}
@@ -15,23 +15,23 @@ use Rattle.usage_ledger.specs.Tallies.{Held}
 use Rattle.long_poll.specs.Bodies.{Reads, Fails}
 use Rattle.long_poll.specs.Lengths.{declares_too_long}
 use Rattle.long_poll.specs.Moments.{moment_of}
-use Rattle.long_poll.specs.Offers.{CameBack}
+use Rattle.long_poll.specs.UnlessPremature.{CameBack}
 use Rattle.long_poll.specs.Ringing.{rings_at, hears_at}
 use Rattle.call_types.specs.Calls.{is_invoke}
 use Rattle.long_poll.specs.Refusals.{refusal_reply}
-use Rattle.long_poll.specs.Views.{stats_reply, reservation_reply}
+use Rattle.long_poll.specs.Views.{stats_reply, environments_reply, reservation_reply}
 use Rattle.long_poll.specs.declared.bell.Heard.{Heard}
 use Rattle.long_poll.specs.declared.bell.OneShotBell.{OneShotBell}
 use Rattle.long_poll.specs.declared.clock.Clock as Clock
 use Rattle.long_poll.specs.declared.connection.Begun.{Begun}
-use Rattle.long_poll.specs.declared.connection.Begun.TheVariants.{Replied, Dozes, AsksForHistory, Parked}
+use Rattle.long_poll.specs.declared.connection.Begun.TheVariants.{Replied, HeldBack, AsksForHistory, AsksForTrace, Parked}
 use Rattle.long_poll.specs.declared.connection.Connection.{Connection}
-use Rattle.long_poll.specs.declared.connection.Dozing.{Dozing}
+use Rattle.long_poll.specs.declared.connection.HeldBackCall.{HeldBackCall}
 use Rattle.decisions.specs.declared.decide.Decide as Decide
 use Rattle.decisions.specs.declared.decide.Decision.{Decision}
 use Rattle.decisions.specs.declared.decide.Decision.TheVariants as decision
 use Rattle.decisions.specs.declared.decide.Shown.{Shown}
-use Rattle.decisions.specs.declared.decide.Shown.TheVariants.{Stats, History, Reservation}
+use Rattle.decisions.specs.declared.decide.Shown.TheVariants.{Stats, History, Trace, Environments, Reservation}
 use Rattle.long_poll.specs.declared.fault.ExchangeFault.{ExchangeFault}
 use Rattle.long_poll.specs.declared.fault.ExchangeFault.TheVariants.{BodyFailed, OutOfMemory, BellLost}
 use Rattle.long_poll.specs.declared.outcome.Outcome.{Outcome}
@@ -53,11 +53,12 @@ abbrev pub RendersOnce : {O : Type 0} → (O → Type 0) → (ℕ → Option Rep
 RendersOnce {O} hears renders ticket result then = ((said : O) × hears said) × Renders renders ticket result then
 
 -- What is rendered at a ticket whose answer was awaited: a reply, with a token of the history that it is of; never a
--- history.
+-- history or trace.
 abbrev pub Awaits : {H L : Type 0} → (ℕ → Option Reply → List Entry → Type 0) → ℕ
     → Result (Outcome H L) ExchangeFault → Type 0
 Awaits renders ticket (Ok (outcome.Reply reply token)) = renders ticket (Some reply) token
 Awaits renders ticket (Ok (outcome.History body)) = ⊥
+Awaits renders ticket (Ok (outcome.Trace body)) = ⊥
 Awaits renders ticket (Err fault) = (then : List Entry) × Renders renders ticket (Err fault) then
 
 -- The property holds of what was read of a body, of which the bytes `held` are held already; or the head declares a
@@ -69,8 +70,8 @@ IsOfBody reads source head held is =
     ⊎ ((declares_too_long head ≡ true) × ((body : List ℕ) → longest_body < length body → is body))
 
 -- Of a connection: its account, its clock and who decides its requests, each by the relations of its trait.
-module _ {R S D N K L : Type 0} {service : Service.Ghosts S K L} {decider : Decide.Ghosts D}
-    {keep : Keep.Ghosts K} (connection : Connection R S D N K L service decider keep) where
+module _ {R S D N K L T : Type 0} {service : Service.Ghosts S K L T} {decider : Decide.Ghosts D}
+    {keep : Keep.Ghosts K} (connection : Connection R S D N K L T service decider keep) where
   -- What the connection's account renders at a ticket, to a token that had seen the first beginning of the history, and
   -- has then seen the second.
   abbrev pub shown : List Entry → ℕ → Option Reply → List Entry → Type 0
@@ -78,7 +79,7 @@ module _ {R S D N K L : Type 0} {service : Service.Ghosts S K L} {decider : Deci
 
   -- What holds of a call that is held back: it is within the limits of the account's configuration, and its bell can be
   -- heard.
-  abbrev pub IsHeld : Dozing → Type 0
+  abbrev pub IsHeld : HeldBackCall → Type 0
   IsHeld held =
       IsWithin (service.serves (arc_value connection.service)) held.call
       × (rings_at held.bell ≡ hears_at held.heard)
@@ -91,15 +92,21 @@ module _ {R S D N K L : Type 0} {service : Service.Ghosts S K L} {decider : Deci
   abbrev pub Counts : Counted → List Entry → Type 0
   Counts stats then = (seen : List Entry) × service.counts (arc_value connection.service) seen stats then
 
+  -- The account shows this text of its environments to a token that has then seen this history.
+  abbrev pub Lists : List ℕ → List Entry → Type 0
+  Lists text then = (seen : List Entry) × service.lists (arc_value connection.service) seen text then
+
   -- The account shows this reservation of a function to a token that has then seen this history.
   abbrev pub Reserves : ℕ → Option ℕ → List Entry → Type 0
   Reserves f count then = (seen : List Entry) × service.reserves (arc_value connection.service) seen f count then
 
-  -- The reply shows what is asked for, as the account gives it to a token that has then seen this history. A history is
-  -- shown by a body that is streamed, never by a reply.
+  -- The reply shows what is asked for, as the account gives it to a token that has then seen this history. A history
+  -- and its trace are shown by a body that is streamed, never by a reply.
   abbrev pub IsView : Shown → Reply → List Entry → Type 0
   IsView Stats reply then = (stats : _) × Counts stats then × (reply ≡ stats_reply stats)
   IsView (History from) reply then = ⊥
+  IsView (Trace from follow bodies) reply then = ⊥
+  IsView Environments reply then = (text : List ℕ) × Lists text then × (reply ≡ environments_reply text)
   IsView (Reservation f) reply then = (count : Option ℕ) × Reserves f count then × (reply ≡ reservation_reply count)
 
   module _ (clock : Clock.Ghosts N) where
@@ -158,8 +165,9 @@ module _ {R S D N K L : Type 0} {service : Service.Ghosts S K L} {decider : Deci
     -- call is held back.
     abbrev pub IsBegun : Call → Begun L → Type 0
     IsBegun call (Replied reply token) = IsRefusal call reply token
-    IsBegun call (Dozes held) = (held.value.call ≡ call) × IsHeld held.value
+    IsBegun call (HeldBack held) = (held.value.call ≡ call) × IsHeld held.value
     IsBegun call (AsksForHistory from) = ⊥
+    IsBegun call (AsksForTrace from follow bodies) = ⊥
     IsBegun call (Parked ticket heard token) = IsParked call ticket heard token
 
     -- The reply to a request, given what is decided about it, with what its token has seen: the history that the reply
@@ -172,8 +180,10 @@ module _ {R S D N K L : Type 0} {service : Service.Ghosts S K L} {decider : Deci
     -- How far a request with this head and this body has come.
     abbrev pub HasBegun : Parts → List ℕ → Begun L → Type 0
     HasBegun head body (Replied reply token) = (made : Decision) × Decides head body made × IsReply made reply token
-    HasBegun head body (Dozes held) = Decides head body (decision.Submit held.value.call) × IsHeld held.value
+    HasBegun head body (HeldBack held) = Decides head body (decision.Submit held.value.call) × IsHeld held.value
     HasBegun head body (AsksForHistory from) = Decides head body (decision.Show (History from))
+    HasBegun head body (AsksForTrace from follow bodies) =
+        Decides head body (decision.Show (Trace from follow bodies))
     HasBegun head body (Parked ticket heard token) =
         (call : Call) × Decides head body (decision.Submit call) × IsParked call ticket heard token
 
@@ -181,19 +191,23 @@ module _ {R S D N K L : Type 0} {service : Service.Ghosts S K L} {decider : Deci
     abbrev pub ComesOfCall : {H : Type 0} → Call → Result (Outcome H L) ExchangeFault → Type 0
     ComesOfCall call (Ok (outcome.Reply reply token)) = IsRendered call (Some reply) token ⊎ IsRefusal call reply token
     ComesOfCall call (Ok (outcome.History shown)) = ⊥
+    ComesOfCall call (Ok (outcome.Trace shown)) = ⊥
     ComesOfCall call (Err BellLost) = IsLost call
     ComesOfCall call (Err OutOfMemory) = Unit {0}
     ComesOfCall call (Err BodyFailed) = ⊥
 
-    module _ {H : Type 0} (shows : Option ℕ → H → Type 0) where
-      -- The result of a request with this head and this body: a reply, or, if the history is asked for, a body that
-      -- shows it from there on. The fault of a lost bell is returned only if the call was submitted and nothing is
+    module _ {H : Type 0} (shows : Shown → H → Type 0) where
+      -- The result of a request with this head and this body: a reply, or, if the history or its trace is asked for, a
+      -- body that shows it from there on. The fault of a lost bell is returned only if the call was submitted and nothing is
       -- rendered at its ticket; that the bell was heard before is not stated.
       abbrev pub ComesOf : Parts → List ℕ → Result (Outcome H L) ExchangeFault → Type 0
       ComesOf head body (Ok (outcome.Reply reply token)) =
           (made : Decision) × Decides head body made × IsReply made reply token
       ComesOf head body (Ok (outcome.History shown)) =
-          (from : Option ℕ) × Decides head body (decision.Show (History from)) × shows from shown
+          (from : Option ℕ) × Decides head body (decision.Show (History from)) × shows (History from) shown
+      ComesOf head body (Ok (outcome.Trace shown)) =
+          (from : ℕ) × (follow : Bool) × (bodies : Bool) × Decides head body (decision.Show (Trace from follow bodies))
+          × shows (Trace from follow bodies) shown
       ComesOf head body (Err BellLost) =
           (call : Call) × Decides head body (decision.Submit call) × IsLost call
       ComesOf head body (Err OutOfMemory) = Unit {0}

@@ -26,7 +26,7 @@ answer_of (Ok None) = None
 answer_of (Ok (Some frame)) = Some (Ok frame)
 answer_of (Err e) = Some (Err e)
 
-module _ {S K L E : Type 0} (service : Service.Ghosts S K L) (s : S) where
+module _ {S K L E T : Type 0} (service : Service.Ghosts S K L T) (s : S) where
   -- One answer of a poll at a stage, by what was seen of the history before it (`seen`) and after it (`then`): a text
   -- of the history; the end, only if the history has ended; or a failure.
   abbrev pub Answers : List Taken → Stage → Option (Result (Frame (List ℕ)) E) → List Taken → Type 0

@@ -6,12 +6,14 @@ pub mod Outcomes
 pub mod Answers
 -- What an account does for an exchange: it takes calls, and shows what is asked for.
 pub mod Submits
-pub mod Offers
+pub mod UnlessPremature
 pub mod Reads
--- The texts that are this project's own: of what is shown, of a refused call, and of a history in pieces.
+-- The texts that are this project's own: of what is shown, of a refused call, and of a history
+-- and its trace in pieces.
 pub mod Views
 pub mod Refusals
 pub mod HistoryFrames
+pub mod TraceFrames
 -- The length of a request's body and its first bytes, and the moment at which its call is submitted.
 pub mod Lengths
 pub mod Bodies

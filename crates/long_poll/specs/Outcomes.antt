@@ -1,16 +1,42 @@
--- The body that shows a history.
+-- The bodies that show a history and its trace.
 use Rattle.std.specs.Prelude.{◌≡◌, ℕ, Option}
 use Rattle.std.specs.Arc.{arc_value}
+use Rattle.decisions.specs.declared.decide.Shown.{Shown}
+use Rattle.decisions.specs.declared.decide.Shown.TheVariants as shown
 use Rattle.long_poll.specs.HistoryFrames.{first_stage}
+use Rattle.long_poll.specs.TraceFrames.{IsTraceFrom}
 use Rattle.long_poll.specs.declared.history_body.HistoryBody.{HistoryBody}
 use Rattle.long_poll.specs.declared.outcome.Outcome.{Outcome}
-use Rattle.long_poll.specs.declared.outcome.Outcome.TheVariants.{Reply, History}
+use Rattle.long_poll.specs.declared.outcome.Outcome.TheVariants.{Reply, History, Trace}
+use Rattle.long_poll.specs.declared.service.Service as Service
+use Rattle.long_poll.specs.declared.streamed_body.StreamedBody.{StreamedBody}
+use Rattle.long_poll.specs.declared.streamed_body.StreamedBody.TheVariants as streamed
+use Rattle.usage_ledger.specs.declared.keep.Keep as Keep
 
 -- The body shows a service's history, whole or from the entry of a ticket on.
 abbrev pub ShowsFrom : {R S K L : Type 0} → S → Option ℕ → HistoryBody R S K L → Type 0
 ShowsFrom s from body = (arc_value body.service ≡ s) × (body.stage ≡ first_stage from)
 
--- The outcome is such a body.
-abbrev pub IsHistoryOf : {R S K L : Type 0} → S → Option ℕ → Outcome (HistoryBody R S K L) L → Type 0
-IsHistoryOf s from (Reply reply token) = ⊥
-IsHistoryOf s from (History body) = ShowsFrom s from body
+module _ {R S K L T : Type 0} (service : Service.Ghosts S K L T) (s : S) where
+  -- The body shows the history, or its trace, as is asked for. Nothing else is streamed.
+  abbrev pub IsStreamOf : Shown → StreamedBody R S T K L → Type 0
+  IsStreamOf (shown.History from) (streamed.History body) = ShowsFrom s from body
+  IsStreamOf (shown.History from) (streamed.Trace body) = ⊥
+  IsStreamOf (shown.Trace from follow bodies) (streamed.History body) = ⊥
+  IsStreamOf (shown.Trace from follow bodies) (streamed.Trace body) =
+      IsTraceFrom service s from follow bodies body.value
+  IsStreamOf shown.Stats body = ⊥
+  IsStreamOf shown.Environments body = ⊥
+  IsStreamOf (shown.Reservation f) body = ⊥
+
+  -- The outcome is a body that shows the history.
+  abbrev pub IsHistoryOf : Option ℕ → Outcome (StreamedBody R S T K L) L → Type 0
+  IsHistoryOf from (Reply reply token) = ⊥
+  IsHistoryOf from (History body) = IsStreamOf (shown.History from) body
+  IsHistoryOf from (Trace body) = ⊥
+
+  -- The outcome is a body that shows the trace.
+  abbrev pub IsTraceOf : Shown → Outcome (StreamedBody R S T K L) L → Type 0
+  IsTraceOf asked (Reply reply token) = ⊥
+  IsTraceOf asked (History body) = ⊥
+  IsTraceOf asked (Trace body) = IsStreamOf asked body

@@ -1,5 +1,5 @@
 -- What an account shows to a token, which has then seen the history that it is read from.
-use Rattle.std.specs.Prelude.{◌≡◌, ℕ, List, Option}
+use Rattle.std.specs.Prelude.{◌≡◌, ℕ, Bool, List, [], Option, is_some}
 use Rattle.arn_ids.specs.declared.config.Config.{Config}
 use Rattle.call_types.specs.declared.call.Entry.{Entry}
 use Rattle.call_types.specs.declared.stats.Stats.{Stats}
@@ -7,11 +7,14 @@ use Rattle.call_model.specs.Counts.{stats}
 use Rattle.call_model.specs.History.{answer_of}
 use Rattle.call_model.specs.Limits.{reservation}
 use Rattle.lambda_wire.specs.declared.reply.Reply.{Reply}
+use Rattle.account_book.specs.Books.{life}
 use Rattle.account_book.specs.HistoryText.{opening_text}
 use Rattle.account_book.specs.ReplyText.{reply_text}
 use Rattle.account_lock.specs.Looks.{look_of}
 use Rattle.account_lock.specs.Shown.{IsTextOf, Sees}
+use Rattle.account_lock.specs.Trails.{GoesOn, IsLineOf, Trailed, is_off}
 use Rattle.account_lock.specs.declared.desk.Look.{Look}
+use Rattle.trace.specs.EnvironmentObject.{environments_text}
 
 module _ (config : Config) (most : ℕ) where
   -- The answer to a ticket, if any, in a history that extends the one that was seen before.
@@ -26,6 +29,19 @@ module _ (config : Config) (most : ℕ) where
   abbrev pub Reserves : List Entry → ℕ → Option ℕ → List Entry → Type 0
   Reserves before function count seen = Sees config most before seen × (count ≡ reservation config seen function)
 
+  -- A trail of such a history that has passed no entry.
+  abbrev pub Begins : Trailed → Type 0
+  Begins trail = (trail.next ≡ 0) × Sees config most [] trail.seen
+
+  -- A trail passed the entry that comes next in such a history, or that history has no further entry.
+  abbrev pub Passes : Trailed → Bool → Trailed → Type 0
+  Passes before passed trail = Sees config most before.seen trail.seen × GoesOn passed before trail
+
+  -- Such a history is off, or not. The trail has passed no entry.
+  abbrev pub Closes : Trailed → Bool → Trailed → Type 0
+  Closes before off trail =
+      Sees config most before.seen trail.seen × (trail.next ≡ before.next) × (off ≡ is_off (life config trail.seen))
+
   module _ (salt : ℕ) where
     -- The reply to the client of the call with a ticket in such a history, if the ticket was answered.
     abbrev pub Renders : List Entry → ℕ → Option Reply → List Entry → Type 0
@@ -35,6 +51,17 @@ module _ (config : Config) (most : ℕ) where
     -- The text of the entry with a ticket in such a history, if the history has the entry.
     abbrev pub Tells : List Entry → ℕ → Option (List ℕ) → List Entry → Type 0
     Tells before ticket text seen = Sees config most before seen × IsTextOf config salt ticket text seen
+
+    -- The line of the entry that comes next on a trail in such a history, which the trail has then passed; none if the
+    -- history has no further entry.
+    abbrev pub Traces : Trailed → Bool → Option (List ℕ) → Trailed → Type 0
+    Traces before bodies line trail =
+        Sees config most before.seen trail.seen × IsLineOf config salt bodies before.next line trail.seen
+        × GoesOn (is_some line) before trail
+
+    -- The text of the environments in such a history.
+    abbrev pub Lists : List Entry → List ℕ → List Entry → Type 0
+    Lists before text seen = Sees config most before seen × (text ≡ environments_text config salt seen)
 
     -- The text before the first entry.
     abbrev pub Opens : List ℕ → Type 0

@@ -10,8 +10,9 @@ use Rattle.long_poll.specs.Ringing.{hears_at}
 use Rattle.long_poll.specs.declared.clock.Clock as Clock
 use Rattle.long_poll.specs.declared.connection.Begun.{Begun}
 use Rattle.long_poll.specs.declared.connection.Connection.{Connection}
-use Rattle.long_poll.specs.declared.connection.Dozing.{Dozing}
+use Rattle.long_poll.specs.declared.connection.HeldBackCall.{HeldBackCall}
 use Rattle.decisions.specs.declared.decide.Decide as Decide
+use Rattle.decisions.specs.declared.decide.Shown.{Shown}
 use Rattle.long_poll.specs.declared.exchange.Stage.{Stage}
 use Rattle.long_poll.specs.declared.exchange.Stage.TheVariants.{Collecting, Holding, Submitting, Waiting}
 use Rattle.long_poll.specs.declared.fault.ExchangeFault.{ExchangeFault}
@@ -25,7 +26,7 @@ abbrev pub IsCollecting : {B : Type 0} → (B → Type 0) → Parts → B → Bo
 IsCollecting can_poll parts body declared = can_poll body × (declared ≡ declares_too_long parts)
 
 -- The body is being collected and can be polled, or the call is held back.
-abbrev pub IsStarting : {B L : Type 0} → (Dozing → Type 0) → (B → Type 0) → Stage B L → Type 0
+abbrev pub IsStarting : {B L : Type 0} → (HeldBackCall → Type 0) → (B → Type 0) → Stage B L → Type 0
 IsStarting is_held can_poll (Collecting parts collecting declared) =
     IsCollecting can_poll parts collecting.body declared
 IsStarting is_held can_poll (Holding held) = is_held held.value
@@ -33,7 +34,7 @@ IsStarting is_held can_poll Submitting = ⊥
 IsStarting is_held can_poll (Waiting ticket heard token) = ⊥
 
 -- The call is held back.
-abbrev pub IsHolding : {B L : Type 0} → (Dozing → Type 0) → Stage B L → Type 0
+abbrev pub IsHolding : {B L : Type 0} → (HeldBackCall → Type 0) → Stage B L → Type 0
 IsHolding is_held (Collecting parts collecting declared) = ⊥
 IsHolding is_held (Holding held) = is_held held.value
 IsHolding is_held Submitting = ⊥
@@ -47,7 +48,7 @@ IsWaiting Submitting = ⊥
 IsWaiting (Waiting ticket heard token) = Unit {0}
 
 -- The exchange can be polled.
-abbrev pub CanGoOn : {B L : Type 0} → (Dozing → Type 0) → (B → Type 0) → Stage B L → Type 0
+abbrev pub CanGoOn : {B L : Type 0} → (HeldBackCall → Type 0) → (B → Type 0) → Stage B L → Type 0
 CanGoOn is_held can_poll (Collecting parts collecting declared) =
     IsCollecting can_poll parts collecting.body declared
 CanGoOn is_held can_poll (Holding held) = is_held held.value
@@ -62,12 +63,12 @@ WaitsFor needs (Holding held) source = ⊥
 WaitsFor needs Submitting source = ⊥
 WaitsFor needs (Waiting ticket heard token) source = source ≡ hears_at heard
 
-module _ {R S D N K L : Type 0} {service : Service.Ghosts S K L} {decider : Decide.Ghosts D}
-    {keep : Keep.Ghosts K} (connection : Connection R S D N K L service decider keep)
+module _ {R S D N K L T : Type 0} {service : Service.Ghosts S K L T} {decider : Decide.Ghosts D}
+    {keep : Keep.Ghosts K} (connection : Connection R S D N K L T service decider keep)
     (clock : Clock.Ghosts N) {B P E : Type 0}
     (yields : B → Runs (Result (Frame P) E)) (reads : P → List ℕ → Type 0) where
-  -- What the exchange may return; `shows` says which bodies show the history, whole or from a ticket on.
-  abbrev pub GivesFrom : {H : Type 0} → (Option ℕ → H → Type 0) → Stage B L → Result (Outcome H L) ExchangeFault
+  -- What the exchange may return; `shows` says which bodies show what is asked for, a history or its trace.
+  abbrev pub GivesFrom : {H : Type 0} → (Shown → H → Type 0) → Stage B L → Result (Outcome H L) ExchangeFault
       → Type 0
   GivesFrom shows (Collecting parts collecting declared) =
       Exchanges connection clock shows reads (yields collecting.body) parts collecting.held

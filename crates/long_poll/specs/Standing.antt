@@ -5,32 +5,31 @@ use Rattle.decisions.specs.declared.decide.Decide as Decide
 use Rattle.futures.specs.Runs.{Runs}
 use Rattle.http_body.specs.declared.frame.Frame.{Frame}
 use Rattle.long_poll.specs.Exchanges.{IsHeld}
-use Rattle.long_poll.specs.Outcomes.{ShowsFrom}
+use Rattle.long_poll.specs.Outcomes.{IsStreamOf}
 use Rattle.long_poll.specs.Stages.{GivesFrom, StartsFrom}
 use Rattle.long_poll.specs.declared.clock.Clock as Clock
 use Rattle.long_poll.specs.declared.connection.Begun.{Begun}
-use Rattle.long_poll.specs.declared.connection.Dozing.{Dozing}
+use Rattle.long_poll.specs.declared.connection.HeldBackCall.{HeldBackCall}
 use Rattle.long_poll.specs.declared.exchange.Exchange.{Exchange}
 use Rattle.long_poll.specs.declared.fault.ExchangeFault.{ExchangeFault}
-use Rattle.long_poll.specs.declared.history_body.HistoryBody.{HistoryBody}
 use Rattle.long_poll.specs.declared.outcome.Outcome.{Outcome}
 use Rattle.long_poll.specs.declared.service.Service as Service
+use Rattle.long_poll.specs.declared.streamed_body.StreamedBody.{StreamedBody}
 use Rattle.usage_ledger.specs.declared.keep.Keep as Keep
 
--- What holds of a call that an exchange holds back: it is within the limits of the account's configuration, its bell
--- can be heard, and each pause takes some time.
-abbrev pub Holds : {R S D N B K L : Type 0} {service : Service.Ghosts S K L} {decider : Decide.Ghosts D}
-    {keep : Keep.Ghosts K} → Exchange R S D N B K L service decider keep → Dozing → Type 0
+-- What holds of a call that an exchange holds back: it is within the limits of the account's configuration, and its bell
+-- can be heard.
+abbrev pub Holds : {R S D N B K L T : Type 0} {service : Service.Ghosts S K L T} {decider : Decide.Ghosts D}
+    {keep : Keep.Ghosts K} → Exchange R S D N B K L T service decider keep → HeldBackCall → Type 0
 Holds exchange held = IsHeld (arc_value exchange.connection) held
 
-module _ {R S D N B K L P E : Type 0} {service : Service.Ghosts S K L} {decider : Decide.Ghosts D}
+module _ {R S D N B K L P E T : Type 0} {service : Service.Ghosts S K L T} {decider : Decide.Ghosts D}
     {keep : Keep.Ghosts K} (clock : Clock.Ghosts N) (yields : B → Runs (Result (Frame P) E))
-    (reads : P → List ℕ → Type 0) (exchange : Exchange R S D N B K L service decider keep) where
-  -- What the exchange may return: a reply, a body that shows its account's history, whole or from a ticket on, or a
-  -- fault.
-  abbrev pub Gives : Result (Outcome (HistoryBody R S K L) L) ExchangeFault → Type 0
+    (reads : P → List ℕ → Type 0) (exchange : Exchange R S D N B K L T service decider keep) where
+  -- What the exchange may return: a reply, a body that shows its account's history or its trace, or a fault.
+  abbrev pub Gives : Result (Outcome (StreamedBody R S T K L) L) ExchangeFault → Type 0
   Gives = GivesFrom (arc_value exchange.connection) clock yields reads
-      (ShowsFrom (arc_value (arc_value exchange.connection).service)) exchange.stage
+      (IsStreamOf service (arc_value (arc_value exchange.connection).service)) exchange.stage
 
   -- How far the request has come once its body was collected, or once its call was tried again.
   abbrev pub Starts : Result (Begun L) ExchangeFault → Type 0

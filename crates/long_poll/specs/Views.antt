@@ -4,7 +4,7 @@ use Rattle.call_types.specs.declared.stats.Stats.{Stats}
 use Rattle.serde_json.specs.Data.{Data, number, unsigned, object, member, no_members}
 use Rattle.http_header.specs.FieldValue.{FieldValue}
 use Rattle.lambda_wire.specs.Bodies.{reservation_text}
-use Rattle.lambda_wire.specs.Headers.{json_headers, text_headers}
+use Rattle.lambda_wire.specs.Headers.{header, json_headers, text_headers}
 use Rattle.lambda_wire.specs.declared.reply.Reply.{Reply}
 
 -- The counts of an account as a JSON value.
@@ -27,9 +27,17 @@ stats_text stats =
 abbrev pub stats_reply : Stats → Reply
 stats_reply stats = record { status = 200; headers = json_headers; body = stats_text stats }
 
+-- The reply that shows the environments of an account.
+abbrev pub environments_reply : List ℕ → Reply
+environments_reply text = record { status = 200; headers = json_headers; body = text }
+
 -- The headers of a history, which is text.
 abbrev pub history_headers : List (List ℕ × FieldValue)
 history_headers = text_headers
+
+-- The headers of a trace, whose lines are JSON.
+abbrev pub trace_headers : List (List ℕ × FieldValue)
+trace_headers = header (codes "content-type") (codes "application/x-ndjson") ∷ []
 
 -- The reply that shows a function's reservation (Lambda API, GetFunctionConcurrency).
 abbrev pub reservation_reply : Option ℕ → Reply

@@ -1,6 +1,8 @@
-//! How the ticker rests while nothing happens, and what ends its rest.
+//! What is told after each step: how the ticker rests while nothing happens, and who follows the history.
 
 use crate::Alarm;
+use crate::followers::Followers;
+use std::alloc::Global;
 use std::sync::atomic::AtomicBool;
 use std::sync::atomic::Ordering::SeqCst;
 use std::sync::{Arc, Wait};
@@ -24,17 +26,20 @@ pub struct Beat {
     pub alarm: Arc<Alarm>,
     // Rung by the ticker once it has looked.
     looked: Alarm,
+    // Who follows the history, and is woken after each step.
+    pub(crate) followers: Followers,
 }
 
 impl Beat {
-    /// Makes the beat of a service that is not over, whose ticker this alarm wakes.
-    pub fn new(alarm: Arc<Alarm>) -> Beat {
+    /// Makes the beat of a service that is not over, whose ticker this alarm wakes. It allocates nothing.
+    pub fn new(alloc: Global, alarm: Arc<Alarm>) -> Beat {
         Beat {
             is_over: AtomicBool::new(false),
             rests: AtomicBool::new(false),
             is_stopping: AtomicBool::new(false),
             alarm,
             looked: Alarm::new(),
+            followers: Followers::new(alloc),
         }
     }
 
@@ -43,10 +48,11 @@ impl Beat {
         self.is_over.load(SeqCst)
     }
 
-    /// Notes that the service is over, and wakes the ticker.
-    pub fn end(&self) {
+    /// Notes that the service is over, and wakes the ticker and those who follow the history.
+    pub fn end(&self, rt: &impl Wait) {
         self.is_over.store(true, SeqCst);
         self.alarm.ring();
+        self.followers.wake(rt);
     }
 
     /// Notes that a stop was asked for: from now on each step wakes the ticker.
@@ -59,12 +65,18 @@ impl Beat {
         self.rests.load(SeqCst)
     }
 
-    /// Wakes the ticker if it rests, or if the service may have come to its end. It is called after
-    /// each step.
-    pub fn note_step(&self) {
+    /// Wakes the ticker if it rests, or if the service may have come to its end, and those who follow the
+    /// history. It is called after each step.
+    pub fn note_step(&self, rt: &impl Wait) {
         if self.rests() || self.is_stopping.load(SeqCst) {
             self.alarm.ring();
         }
+        self.followers.wake(rt);
+    }
+
+    /// Wakes those who follow the history, after a step of the ticker itself.
+    pub fn note_own_step(&self, rt: &impl Wait) {
+        self.followers.wake(rt);
     }
 
     /// Wakes the ticker, and waits until it has looked.

@@ -33,6 +33,11 @@ impl OneShotBell {
         let (sender, receiver) = channel(alloc)?;
         Ok((OneShotBell { sender }, Heard { receiver }))
     }
+
+    /// Returns whether what hears it is gone, or has heard it.
+    pub(crate) fn is_unheard(&self) -> bool {
+        self.sender.is_canceled()
+    }
 }
 
 impl Bell for OneShotBell {

@@ -11,12 +11,14 @@ ghost use Rattle.futures.specs.Poll.{IfReady, OnPending};
 
 use crate::beat::Beat;
 use crate::clock::moment;
-use crate::history_body::HistoryBody;
 use crate::line::{Line, Place};
 use crate::refusal::refusal_reply;
-use crate::views::{reservation_reply, stats_reply};
-use crate::{Clock, ExchangeFault, Heard, OneShotBell, OpenPoll, Outcome, Service};
-use account_lock::{Declined, Refused};
+use crate::views::{environments_reply, reservation_reply, stats_reply};
+use crate::{
+    Clock, ExchangeFault, Heard, HistoryBody, OneShotBell, OpenPoll, Outcome, Service,
+    StreamedBody, TraceBody,
+};
+use account_lock::{NotTaken, Refused};
 use arn_ids::FnNo;
 use bytes::Bytes;
 use call_model::{Call, Stats, Ticket};
@@ -24,7 +26,7 @@ use decisions::{Decide, Decision, Shown};
 use futures::future::Future;
 use futures::task::{Context, Poll};
 use http::request::Parts;
-use lambda_wire::{HeaderMaps, PayloadScratch, Reply};
+use lambda_wire::{HeaderMaps, LongScratches, PayloadScratch, Reply};
 use std::alloc::{AllocError, Global};
 use std::cell::Cell;
 use std::sync::{Arc, Mutex, Wait};
@@ -65,7 +67,7 @@ pub struct Connection<R, S: Service<K, L>, D: Decide, N, K: Keep, L: Ledgers> {
 /// connection runs once, and only then notices a signal to stop and its own state; then the thread
 /// *sleeps* at its place in the line until it is called, for 8 ms at most.
 #[derive(Drop)]
-pub(crate) struct Dozing {
+pub(crate) struct HeldBackCall {
     call: Call,
     bell: OneShotBell,
     heard: Heard,
@@ -82,10 +84,16 @@ pub(crate) enum Begun<L: Ledgers> {
     Replied(Reply, Token<L>),
     /// Its call is held back. (On the heap, since few calls are, and what is returned of the others would
     /// have its size.)
-    Dozes(Box<Dozing>),
+    HeldBack(Box<HeldBackCall>),
     /// It asks for the history, from the entry of a ticket on or whole.
     AsksForHistory {
         from: Option<Ticket>,
+    },
+    /// It asks for the trace, from the entry of a ticket on, and for how it is to be shown.
+    AsksForTrace {
+        from: Ticket,
+        follow: bool,
+        bodies: bool,
     },
     /// Its call was submitted, and its bell rings once its ticket is answered. The token has seen the
     /// history up to the call.
@@ -102,7 +110,7 @@ enum Attempt<L: Ledgers> {
     /// It was submitted, with this result; if it was refused, the token has seen what was then seen.
     Made(Result<(Ticket, Token<L>), (Refused<OneShotBell>, Token<L>)>),
     /// It was premature, or came behind one that is, and is returned with its bell.
-    HeldBack(Call, OneShotBell),
+    NotMade(Call, OneShotBell),
 }
 
 /// Returns the function that a call invokes, `None` if it is no Invoke.
@@ -123,8 +131,9 @@ impl<
 > Connection<R, S, D, N, K, L> {
     ghost use Rattle.long_poll.specs.Attempts.{IsAttempt, IsPatient, IsNearer};
     ghost use Rattle.long_poll.specs.Exchanges.{CameTo, IsHeld, IsBegun, HasBegun, Decides};
-    ghost use Rattle.long_poll.specs.Exchanges.{Counts, Reserves, Renders, RendersOnce, shown};
+    ghost use Rattle.long_poll.specs.Exchanges.{Counts, Lists, Reserves, Renders, RendersOnce, shown};
     ghost use Rattle.long_poll.specs.Outcomes.{ShowsFrom};
+    ghost use Rattle.long_poll.specs.TraceFrames.{IsTraceFrom};
     ghost use Rattle.long_poll.specs.declared.outcome.Outcome.TheVariants.{Reply as replied};
     ghost use Rattle.long_poll.specs.Pending.{KeepsTo};
 
@@ -133,7 +142,8 @@ impl<
     /// submit and each reading, so that the replies to the connection's requests never go back in the
     /// history. A premature call is held back for `patience` milliseconds at most, during which the
     /// connection's thread sleeps at its place in the line. The function is that of the environment at
-    /// whose port the connection is, if it is at one: its Nexts call the callers of this function.
+    /// whose port the connection is, if it is at one: its Nexts call the callers of this function. Long
+    /// payloads are read in the memory that all connections share.
     pub fn new(
         rt: R,
         alloc: Global,
@@ -147,6 +157,7 @@ impl<
         line: Arc<Line>,
         function: Option<FnNo>,
         maps: Arc<HeaderMaps>,
+        long: Arc<LongScratches>,
         patience: u32,
     ) -> Connection<R, S, D, N, K, L>
         requires { S.serves (arc_value service) ≡ D.decides_for (arc_value decider) }
@@ -166,7 +177,7 @@ impl<
             maps,
             patience,
             seen: Cell::new(Some(token)),
-            scratch: Cell::new(PayloadScratch::new()),
+            scratch: Cell::new(PayloadScratch::sharing(long)),
         }
     }
 
@@ -226,14 +237,14 @@ impl<
         let now = moment(&*self.clock);
         let came = self
             .service
-            .offer(&self.rt, &mut tally, &mut token, now, call, Some(bell));
+            .submit_unless_premature(&self.rt, &mut tally, &mut token, now, call, Some(bell));
         let seen = self.service.again(&mut token);
         self.seen.set(Some(token));
         match came {
             Ok(taken) => Attempt::Made(Ok(taken)),
-            Err(Declined::Refused(refused)) => Attempt::Made(Err((refused, seen))),
-            Err(Declined::Premature { call, bell }) => match bell {
-                Some(bell) => Attempt::HeldBack(call, bell),
+            Err(NotTaken::Refused(refused)) => Attempt::Made(Err((refused, seen))),
+            Err(NotTaken::Premature { call, bell }) => match bell {
+                Some(bell) => Attempt::NotMade(call, bell),
                 None => unreachable!(),
             },
         }
@@ -258,7 +269,7 @@ impl<
         if let Some(function) = invoked(&call)
             && !self.line.is_turn(&self.rt, function, place)
         {
-            return Attempt::HeldBack(call, bell);
+            return Attempt::NotMade(call, bell);
         }
         self.attempt(call, bell)
     }
@@ -270,7 +281,7 @@ impl<
         ensures err { IfErr result (λ fault. fault ≡ ExchangeFault.OutOfMemory) }
     {
         let (bell, heard) = OneShotBell::pair(self.alloc)?;
-        self.submit_held(Dozing {
+        self.submit_held(HeldBackCall {
             call,
             bell,
             heard,
@@ -303,7 +314,7 @@ impl<
     /// Does what follows from a call that was taken, which is a step: the ticker is woken if it rests; a Next is
     /// noted as open, and may make an environment ready; a call that was held back leaves the line.
     fn taken(&self, is_next: bool, ticket: Ticket, place: Option<Place>) {
-        self.beat.note_step();
+        self.beat.note_step(&self.rt);
         if is_next {
             self.open.note(ticket);
             if let Some(function) = self.function {
@@ -317,13 +328,13 @@ impl<
 
     /// Submits a call that was held back, with its bell, once it is no longer premature or the connection's
     /// patience is used up. Before that its thread sleeps at its place in the line, during which no lock is held.
-    pub(crate) fn submit_held(&self, held: Dozing) -> Result<Begun<L>, ExchangeFault>
+    pub(crate) fn submit_held(&self, held: HeldBackCall) -> Result<Begun<L>, ExchangeFault>
         requires { IsHeld self.now held }
         ensures ok { IfOk result (IsBegun self.now N.Clock held.call) }
         ensures nearer { IfOk result (IsNearer held.left) }
         ensures err { IfErr result (λ fault. fault ≡ ExchangeFault.OutOfMemory) }
     {
-        let Dozing {
+        let HeldBackCall {
             call,
             bell,
             heard,
@@ -335,16 +346,16 @@ impl<
         let left = self.pause(left, &place);
         let readies = self.line.readies();
         match self.attempt_within(left, &place, call, bell) {
-            Attempt::HeldBack(call, bell) => {
+            Attempt::NotMade(call, bell) => {
                 let place = Some(self.placed(place, &call, readies)?);
-                let held = Dozing {
+                let held = HeldBackCall {
                     call,
                     bell,
                     heard,
                     left: left - 1,
                     place,
                 };
-                Ok(Begun::Dozes(Box::new(self.alloc, held).map_err(AllocError::from)?))
+                Ok(Begun::HeldBack(Box::new(self.alloc, held).map_err(AllocError::from)?))
             }
             Attempt::Made(Err((refused, seen))) => {
                 let reply = refusal_reply(self.alloc, is_invoke, refused.refusal)?;
@@ -405,6 +416,20 @@ impl<
         (count, seen)
     }
 
+    /// Returns the text of its account's environments, with a token of the history that has them.
+    fn environments(&self) -> Result<(Vec<u8>, Token<L>), AllocError>
+        ensures { IfOk result (λ shown. Lists self.now shown.0.items shown.1) }
+    {
+        let mut token = self.token();
+        let text = self.service.environments(&self.rt, &mut token);
+        let seen = self.service.again(&mut token);
+        self.seen.set(Some(token));
+        match text {
+            Ok(text) => Ok((text, seen)),
+            Err(refused) => Err(refused),
+        }
+    }
+
     /// Does what was decided about a request.
     fn carry_out(&self, decision: Decision) -> Result<Begun<L>, ExchangeFault>
         requires { IsAllowed (S.serves (arc_value self.now.service)) decision }
@@ -420,6 +445,21 @@ impl<
                 Ok(Begun::Replied(stats_reply(self.alloc, stats)?, seen))
             }
             Decision::Show(Shown::History { from }) => Ok(Begun::AsksForHistory { from }),
+            Decision::Show(
+                Shown::Trace {
+                    from,
+                    follow,
+                    bodies,
+                },
+            ) => Ok(Begun::AsksForTrace {
+                from,
+                follow,
+                bodies,
+            }),
+            Decision::Show(Shown::Environments) => {
+                let (text, seen) = self.environments()?;
+                Ok(Begun::Replied(environments_reply(self.alloc, text)?, seen))
+            }
             Decision::Show(Shown::Reservation { function }) => {
                 let (count, seen) = self.reservation(function);
                 Ok(Begun::Replied(reservation_reply(self.alloc, count)?, seen))
@@ -437,6 +477,26 @@ impl<
     {
         let service = Arc::try_clone(&self.service)?;
         Ok(HistoryBody::new(self.rt, service, from))
+    }
+
+    /// Returns the trace of the account's history, from the entry of a ticket on, which follows the history or not,
+    /// with bodies or without.
+    pub(crate) fn trace(
+        &self,
+        from: Ticket,
+        follow: bool,
+        bodies: bool,
+    ) -> Result<Box<TraceBody<R, S, S::Trail, K, L>>, AllocError>
+        ensures { IfOk result (λ body.
+            IsTraceFrom S.Service (arc_value self.now.service) from follow bodies body.value) }
+    {
+        let service = Arc::try_clone(&self.service)?;
+        let open = Arc::try_clone(&self.open)?;
+        let beat = Arc::try_clone(&self.beat)?;
+        let body = TraceBody::new(
+            self.rt, self.alloc, service, open, beat, from, follow, bodies,
+        )?;
+        Box::new(self.alloc, body).map_err(AllocError::from)
     }
 
     /// Renders the answer to a ticket, and takes back the note of a Next.
@@ -484,7 +544,7 @@ impl<
         &self,
         reply: Reply,
         token: &mut Token<L>,
-    ) -> Outcome<HistoryBody<R, S, K, L>, L>
+    ) -> Outcome<StreamedBody<R, S, S::Trail, K, L>, L>
         ensures { result ≡ replied reply token.old }
     {
         Outcome::Reply(reply, self.service.again(token))

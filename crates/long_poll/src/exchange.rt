@@ -5,15 +5,15 @@ ghost use Rattle.std.specs.Arc.{arc_value};
 ghost use Rattle.futures.specs.Task.{Covers, Keeps};
 ghost use Rattle.futures.specs.Poll.{IfReady, OnPending};
 ghost use Rattle.long_poll.specs.Lengths.{declares_too_long};
-ghost use Rattle.long_poll.specs.Outcomes.{IsHistoryOf};
+ghost use Rattle.long_poll.specs.Outcomes.{IsHistoryOf, IsTraceOf};
+ghost use Rattle.decisions.specs.declared.decide.Shown.TheVariants.{Trace};
 ghost use Rattle.long_poll.specs.Pending.{KeepsTo};
 ghost use Rattle.long_poll.specs.declared.exchange.Stage.TheVariants as stage;
 ghost use Rattle.long_poll.specs.declared.fault.ExchangeFault.TheVariants.{OutOfMemory};
 
 use crate::collecting::Collecting;
-use crate::connection::{Begun, Connection, Dozing};
-use crate::history_body::HistoryBody;
-use crate::{Clock, ExchangeFault, Heard, Outcome, Service};
+use crate::connection::{Begun, Connection, HeldBackCall};
+use crate::{Clock, ExchangeFault, Heard, Outcome, Service, StreamedBody};
 use bytes::Bytes;
 use call_model::Ticket;
 use decisions::Decide;
@@ -37,7 +37,7 @@ enum Stage<B, L: Ledgers> {
         is_too_long: bool,
     },
     /// The call is held back: each poll sleeps until it is called, for a pause at most, and tries it once.
-    Holding(Box<Dozing>),
+    Holding(Box<HeldBackCall>),
     /// The call that was held back is being tried, within one poll.
     Submitting,
     /// The call was submitted, and its answer is awaited. The token has seen the history up to the call.
@@ -49,7 +49,7 @@ enum Stage<B, L: Ledgers> {
 }
 
 /// One request. Its body is collected and it is decided; its call is held back while premature, submitted,
-/// and its answer awaited and rendered. A request for counts, a reservation or the history needs no call.
+/// and its answer awaited and rendered. A request for counts, a reservation, the environments, the history or its trace needs no call.
 #[derive(Drop)]
 pub struct Exchange<R, S: Service<K, L>, D: Decide, N, B, K: Keep, L: Ledgers> {
     connection: Arc<Connection<R, S, D, N, K, L>>,
@@ -156,19 +156,33 @@ where
     fn history(
         &self,
         from: Option<Ticket>,
-    ) -> Result<Outcome<HistoryBody<R, S, K, L>, L>, ExchangeFault>
+    ) -> Result<Outcome<StreamedBody<R, S, S::Trail, K, L>, L>, ExchangeFault>
         ensures { MatchResult result
-            (IsHistoryOf (arc_value (arc_value self.now.connection).service) from)
+            (IsHistoryOf S.Service (arc_value (arc_value self.now.connection).service) from)
             (λ fault. fault ≡ OutOfMemory) }
     {
-        Ok(Outcome::History(self.connection.history(from)?))
+        Ok(Outcome::History(StreamedBody::History(self.connection.history(from)?)))
+    }
+
+    /// Returns the trace of the account's history, from the entry of a ticket on.
+    fn trace(
+        &self,
+        from: Ticket,
+        follow: bool,
+        bodies: bool,
+    ) -> Result<Outcome<StreamedBody<R, S, S::Trail, K, L>, L>, ExchangeFault>
+        ensures { MatchResult result
+            (IsTraceOf S.Service (arc_value (arc_value self.now.connection).service) (Trace from follow bodies))
+            (λ fault. fault ≡ OutOfMemory) }
+    {
+        Ok(Outcome::Trace(StreamedBody::Trace(self.connection.trace(from, follow, bodies)?)))
     }
 
     /// Waits for the answer, and renders it.
     fn poll_answer(
         &mut self,
         cx: &mut Context<'_>,
-    ) -> Poll<Result<Outcome<HistoryBody<R, S, K, L>, L>, ExchangeFault>>
+    ) -> Poll<Result<Outcome<StreamedBody<R, S, S::Trail, K, L>, L>, ExchangeFault>>
         requires { IsWaiting self.old.stage }
         ensures value { IfReady result (⟦<Self as Future>⟧.gives self.old) }
         ensures again { OnPending result (IsWaiting self.new.stage) }
@@ -197,7 +211,7 @@ where
     fn poll_begin(
         &mut self,
         cx: &mut Context<'_>,
-    ) -> Poll<Result<Outcome<HistoryBody<R, S, K, L>, L>, ExchangeFault>>
+    ) -> Poll<Result<Outcome<StreamedBody<R, S, S::Trail, K, L>, L>, ExchangeFault>>
         requires { IsStarting (Holds self.old) B.can_poll self.old.stage }
         ensures value { IfReady result (⟦<Self as Future>⟧.gives self.old) }
         ensures again { OnPending result (CanGoOn (Holds self.new) B.can_poll self.new.stage) }
@@ -208,11 +222,18 @@ where
         match ready!(self.poll_start(cx)) {
             Err(fault) => Poll::Ready(Err(fault)),
             Ok(Begun::Replied(reply, token)) => Poll::Ready(Ok(Outcome::Reply(reply, token))),
-            Ok(Begun::Dozes(held)) => {
+            Ok(Begun::HeldBack(held)) => {
                 self.stage = Stage::Holding(held);
                 cx.yield_now()
             }
             Ok(Begun::AsksForHistory { from }) => Poll::Ready(self.history(from)),
+            Ok(
+                Begun::AsksForTrace {
+                    from,
+                    follow,
+                    bodies,
+                },
+            ) => Poll::Ready(self.trace(from, follow, bodies)),
             Ok(
                 Begun::Parked {
                     ticket,
@@ -242,7 +263,7 @@ where
     ghost use Rattle.long_poll.specs.Stages.{CanGoOn, WaitsFor};
     ghost use Rattle.long_poll.specs.Standing.{Holds, Gives};
 
-    type Output = Result<Outcome<HistoryBody<R, S, K, L>, L>, ExchangeFault>;
+    type Output = Result<Outcome<StreamedBody<R, S, S::Trail, K, L>, L>, ExchangeFault>;
 
     ghost can_poll = { λ exchange. CanGoOn (Holds exchange) B.can_poll exchange.stage };
 

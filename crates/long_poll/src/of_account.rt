@@ -3,20 +3,23 @@
 ghost use Rattle.std.specs.Prelude.{[]};
 ghost use Rattle.account_lock.specs.Shown.{Sees};
 ghost use Rattle.long_poll.specs.Reads.{Looks, Renders, Tells, Opens, Counts, Reserves};
+ghost use Rattle.long_poll.specs.Reads.{Begins, Closes, Lists, Passes, Traces};
 ghost use Rattle.long_poll.specs.Submits.{Submits};
 
 use crate::{OneShotBell, Service};
-use account_lock::{Account, Declined, Identity, Look, Refused};
+use account_lock::{Account, Identity, Look, NotTaken, Refused, Trail};
 use arn_ids::FnNo;
 use call_model::{Call, Stats, Ticket};
 use lambda_wire::Reply;
-use std::alloc::AllocError;
+use std::alloc::{AllocError, Global};
 use std::sync::Wait;
 use usage_ledger::{Keep, Tally, Token};
 
 // A submit returns a token that has seen the history that the call made. What is read with this token is
 // of a history that extends that one.
 impl<S: Identity + Drop, K: Keep> Service<K, S> for Account<S, OneShotBell> {
+    type Trail = Trail<S>;
+
     ghost serves = { λ _. S.config };
 
     ghost submits = { λ _. Submits S.config S.most K.notes K.makes };
@@ -30,6 +33,16 @@ impl<S: Identity + Drop, K: Keep> Service<K, S> for Account<S, OneShotBell> {
     ghost opens = { λ _. Opens S.config S.most S.salt };
 
     ghost tells = { λ _. Tells S.config S.most S.salt };
+
+    ghost begins = { λ _. Begins S.config S.most };
+
+    ghost traces = { λ _. Traces S.config S.most S.salt };
+
+    ghost passes = { λ _. Passes S.config S.most };
+
+    ghost closes = { λ _. Closes S.config S.most };
+
+    ghost lists = { λ _. Lists S.config S.most S.salt };
 
     ghost counts = { λ _. Counts S.config S.most };
 
@@ -47,7 +60,7 @@ impl<S: Identity + Drop, K: Keep> Service<K, S> for Account<S, OneShotBell> {
         Account::submit(self, rt, tally, token, now, call, bell)
     }
 
-    fn offer<R: Wait>(
+    fn submit_unless_premature<R: Wait>(
         &self,
         rt: &R,
         tally: &mut Tally<K, S>,
@@ -55,8 +68,8 @@ impl<S: Identity + Drop, K: Keep> Service<K, S> for Account<S, OneShotBell> {
         now: u64,
         call: Call,
         bell: Option<OneShotBell>,
-    ) -> Result<(Ticket, Token<S>), Declined<OneShotBell>> {
-        Account::offer(self, rt, tally, token, now, call, bell)
+    ) -> Result<(Ticket, Token<S>), NotTaken<OneShotBell>> {
+        Account::submit_unless_premature(self, rt, tally, token, now, call, bell)
     }
 
     fn token<R: Wait>(&self, rt: &R) -> Token<S> {
@@ -91,6 +104,31 @@ impl<S: Identity + Drop, K: Keep> Service<K, S> for Account<S, OneShotBell> {
         ticket: Ticket,
     ) -> Result<Option<Vec<u8>>, AllocError> {
         Account::history(self, rt, token, ticket)
+    }
+
+    fn trail<R: Wait>(&self, rt: &R, alloc: Global) -> Result<Trail<S>, AllocError> {
+        Account::trail(self, rt, alloc)
+    }
+
+    fn trace<R: Wait>(
+        &self,
+        rt: &R,
+        trail: &mut Trail<S>,
+        bodies: bool,
+    ) -> Result<Option<Vec<u8>>, AllocError> {
+        Account::trace(self, rt, trail, bodies)
+    }
+
+    fn pass<R: Wait>(&self, rt: &R, trail: &mut Trail<S>) -> bool {
+        Account::pass(self, rt, trail)
+    }
+
+    fn is_off<R: Wait>(&self, rt: &R, trail: &mut Trail<S>) -> bool {
+        Account::is_off(self, rt, trail)
+    }
+
+    fn environments<R: Wait>(&self, rt: &R, token: &mut Token<S>) -> Result<Vec<u8>, AllocError> {
+        Account::environments(self, rt, token)
     }
 
     fn stats<R: Wait>(&self, rt: &R, token: &mut Token<S>) -> Stats {

@@ -1,8 +1,8 @@
-//! The open Next of a connection.
+//! What a connection waits for without a limit: the answer to its open Next, or the next entry of the history.
 
 use call_model::Ticket;
-use std::sync::atomic::AtomicU64;
 use std::sync::atomic::Ordering::SeqCst;
+use std::sync::atomic::{AtomicBool, AtomicU64};
 
 /// The ticket of the one Next (Runtime API, Next invocation; Extensions API, Next) that a connection
 /// has open: an `Exchange` notes it when the call was submitted, and takes the note back once it has
@@ -11,6 +11,8 @@ use std::sync::atomic::Ordering::SeqCst;
 pub struct OpenPoll {
     // One more than the ticket; 0 if none is open.
     noted: AtomicU64,
+    // Whether a trace that is sent waits for the next entry of the history.
+    awaits_entry: AtomicBool,
 }
 
 impl OpenPoll {
@@ -18,12 +20,23 @@ impl OpenPoll {
     pub fn new() -> OpenPoll {
         OpenPoll {
             noted: AtomicU64::new(0),
+            awaits_entry: AtomicBool::new(false),
         }
     }
 
     /// Returns the ticket of the open Next, `None` if there is none.
     pub fn ticket(&self) -> Option<Ticket> {
         self.noted.load(SeqCst).checked_sub(1)
+    }
+
+    /// Returns whether the connection waits for the answer to a Next, or for the next entry of the history.
+    pub fn waits(&self) -> bool {
+        self.ticket().is_some() || self.awaits_entry.load(SeqCst)
+    }
+
+    /// Notes whether the next entry of the history is awaited.
+    pub(crate) fn note_entry_awaited(&self, is_awaited: bool) {
+        self.awaits_entry.store(is_awaited, SeqCst);
     }
 
     /// Notes that the Next with this ticket is open. (A ticket of 2^64 - 1, which no journal has, is not noted.)

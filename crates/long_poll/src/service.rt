@@ -1,6 +1,6 @@
 //! What a connection asks of an account.
 
-ghost use Rattle.std.specs.Prelude.{◌≡◌, ◌<◌, ◌^◌, ℕ, List, Option, IfOk, option_map};
+ghost use Rattle.std.specs.Prelude.{◌≡◌, ◌<◌, ◌^◌, ℕ, Bool, List, Option, IfOk, option_map};
 ghost use Rattle.arn_ids.specs.declared.config.Config.{Config};
 ghost use Rattle.call_types.specs.declared.call.Call.{Call as Called};
 ghost use Rattle.call_types.specs.declared.call.Entry.{Entry};
@@ -9,15 +9,15 @@ ghost use Rattle.lambda_wire.specs.declared.reply.Reply.{Reply as Replied};
 ghost use Rattle.call_types.specs.Within.{IsWithin, IsFunction};
 ghost use Rattle.usage_ledger.specs.Tallies.{Held};
 ghost use Rattle.account_lock.specs.declared.desk.Look.{Look as Seen};
-ghost use Rattle.long_poll.specs.Offers.{CameBack, Offers};
+ghost use Rattle.long_poll.specs.UnlessPremature.{CameBack, UnlessPremature};
 ghost use Rattle.long_poll.specs.declared.bell.OneShotBell.{OneShotBell as Rings};
 
 use crate::OneShotBell;
-use account_lock::{Declined, Look, Refused};
+use account_lock::{Look, NotTaken, Refused};
 use arn_ids::FnNo;
 use call_model::{Call, Stats, Ticket};
 use lambda_wire::Reply;
-use std::alloc::AllocError;
+use std::alloc::{AllocError, Global};
 use std::sync::Wait;
 use usage_ledger::{Keep, Ledgers, Tally, Token};
 
@@ -27,6 +27,9 @@ use usage_ledger::{Keep, Ledgers, Tally, Token};
 /// takes a token and shows it the history as it is then, which extends the one that the token had seen;
 /// a submit returns another token, which has seen the history up to the call.
 pub trait Service<K: Keep, L: Ledgers>: Drop {
+    /// A reader of the history's trace, which knows how far it has come.
+    type Trail: Drop;
+
     /// The configuration that the account has.
     ghost serves: { Self → Config };
 
@@ -51,6 +54,24 @@ pub trait Service<K: Keep, L: Ledgers>: Drop {
     /// Relates what was seen of the history, the ticket, the text of its entry, and what is seen
     /// afterwards.
     ghost tells: { Self → List Entry → ℕ → Option (List ℕ) → List Entry → Type 0 };
+
+    /// A trail that has passed no entry.
+    ghost begins: { Self → Self.Trail → Type 0 };
+
+    /// Relates a trail, whether bodies are shown, the line of the entry that comes next, `None` past the end, and the
+    /// trail afterwards, which has passed the entry.
+    ghost traces: { Self → Self.Trail → Bool → Option (List ℕ) → Self.Trail → Type 0 };
+
+    /// Relates a trail, whether there was an entry that came next, and the trail afterwards, which has passed the
+    /// entry.
+    ghost passes: { Self → Self.Trail → Bool → Self.Trail → Type 0 };
+
+    /// Relates a trail, whether the service is off in the history as it is, and the trail afterwards, which has
+    /// passed no entry.
+    ghost closes: { Self → Self.Trail → Bool → Self.Trail → Type 0 };
+
+    /// Relates what was seen of the history, the text of the environments, and what is seen afterwards.
+    ghost lists: { Self → List Entry → List ℕ → List Entry → Type 0 };
 
     /// Relates what was seen of the history, the counts, and what is seen afterwards.
     ghost counts: { Self → List Entry → Counted → List Entry → Type 0 };
@@ -81,7 +102,7 @@ pub trait Service<K: Keep, L: Ledgers>: Drop {
     ///
     /// # Errors
     /// `Premature` if it is: the call is returned with its bell. Otherwise as `submit`.
-    fn offer<R: Wait>(
+    fn submit_unless_premature<R: Wait>(
         &self,
         rt: &R,
         tally: &mut Tally<K, L>,
@@ -89,10 +110,10 @@ pub trait Service<K: Keep, L: Ledgers>: Drop {
         now: u64,
         call: Call,
         bell: Option<OneShotBell>,
-    ) -> Result<(Ticket, Token<L>), Declined<OneShotBell>>
+    ) -> Result<(Ticket, Token<L>), NotTaken<OneShotBell>>
         requires moment { now < 2 ^ 53 }
         requires within { IsWithin (serves self.now) call }
-        ensures { Offers (submits self.now) token.old tally.old.held now call bell result token.new tally.new.held };
+        ensures { UnlessPremature (submits self.now) token.old tally.old.held now call bell result token.new tally.new.held };
 
     /// Makes a token that has seen the history as it is.
     fn token<R: Wait>(&self, rt: &R) -> Token<L>
@@ -131,6 +152,33 @@ pub trait Service<K: Keep, L: Ledgers>: Drop {
     ) -> Result<Option<Vec<u8>>, AllocError>
         ensures { IfOk result (λ text.
             tells self.now token.old ticket (option_map (λ bytes. bytes.items) text) token.new) };
+
+    /// Makes a trail that has passed no entry. The only error is `AllocError`.
+    fn trail<R: Wait>(&self, rt: &R, alloc: Global) -> Result<Self::Trail, AllocError>
+        ensures { IfOk result (begins self.now) };
+
+    /// Returns the line of the trace for the entry that comes next on a trail, which passes the entry; `None` past
+    /// the end. The only error is `AllocError`.
+    fn trace<R: Wait>(
+        &self,
+        rt: &R,
+        trail: &mut Self::Trail,
+        bodies: bool,
+    ) -> Result<Option<Vec<u8>>, AllocError>
+        ensures { IfOk result (λ line.
+            traces self.now trail.old bodies (option_map (λ bytes. bytes.items) line) trail.new) };
+
+    /// Lets a trail pass the entry that comes next. Returns whether there was one.
+    fn pass<R: Wait>(&self, rt: &R, trail: &mut Self::Trail) -> bool
+        ensures { passes self.now trail.old result trail.new };
+
+    /// Returns whether the service is off: there was a Stop, and every environment is shut down.
+    fn is_off<R: Wait>(&self, rt: &R, trail: &mut Self::Trail) -> bool
+        ensures { closes self.now trail.old result trail.new };
+
+    /// Returns the text of the environments. The only error is `AllocError`.
+    fn environments<R: Wait>(&self, rt: &R, token: &mut Token<L>) -> Result<Vec<u8>, AllocError>
+        ensures { IfOk result (λ text. lists self.now token.old text.items token.new) };
 
     /// Returns the counts.
     fn stats<R: Wait>(&self, rt: &R, token: &mut Token<L>) -> Stats

@@ -37,6 +37,13 @@ pub fn stats_reply(alloc: Global, stats: Stats) -> Result<Reply, AllocError>
     Reply::of(200, json_headers(alloc), write_stats(alloc, stats))
 }
 
+/// Makes the reply that shows the environments of an account, whose text this is.
+pub fn environments_reply(alloc: Global, text: Vec<u8>) -> Result<Reply, AllocError>
+    ensures { IfOk result (λ reply. reply ≡ spec.environments_reply text.items) }
+{
+    Reply::of(200, json_headers(alloc), Ok(text))
+}
+
 /// The headers of a history, which is text.
 pub fn history_headers(alloc: Global) -> Result<Headers, AllocError>
     ensures { IfOk result (λ headers. headers ≡ spec.history_headers) }

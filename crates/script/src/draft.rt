@@ -6,7 +6,7 @@ ghost use Rattle.script.specs.Drafts.{part_text};
 ghost use Rattle.script.specs.Writing.{Adds};
 
 use crate::sink::Sink;
-use crate::words::push_escaped;
+use crate::words::{escaped_length, push_escaped};
 use bytes::Bytes;
 use std::alloc::{AllocError, Global};
 use std::marker::Model;
@@ -57,6 +57,17 @@ fn push_part(out: &mut Vec<u8>, part: &Part) -> Result<(), AllocError>
     push_escaped(out, part.body.as_slice())
 }
 
+/// Returns how much room parts take, their bodies percent-encoded.
+fn room_of(parts: &[Part]) -> usize {
+    let mut room: usize = 0;
+    for part in parts {
+        room = room
+            .saturating_add(part.text.len())
+            .saturating_add(escaped_length(part.body.as_slice()));
+    }
+    room
+}
+
 impl Draft {
     /// Returns an empty text.
     pub(crate) fn new(alloc: Global) -> Draft
@@ -70,7 +81,7 @@ impl Draft {
     }
 
     /// Returns the text. In a body, the bytes below 0x21, `%` and the bytes above 0x7E are
-    /// percent-encoded.
+    /// percent-encoded. It reserves just the memory that the text needs.
     ///
     /// # Errors
     /// Only if memory is refused.
@@ -81,6 +92,7 @@ impl Draft {
             return Ok(self.last);
         }
         let mut text = Vec::new(self.alloc);
+        text.reserve_exact(room_of(&self.parts).saturating_add(self.last.len()))?;
         push_parts(&mut text, &self.parts)?;
         text.extend_from_slice(&self.last)?;
         Ok(text)

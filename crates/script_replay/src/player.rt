@@ -247,7 +247,7 @@ pub fn replay<R: Read, W: Write>(
 /// the script leads to.
 ///
 /// # Errors
-/// Those of `replay`; since nothing is written, none is `Write`.
+/// Those of `replay`.
 pub fn lead<R: Read>(alloc: Global, reader: &mut R) -> Result<Book, ReplayFault>
     // The book is the one that the replay of the input ends with,
     ensures ok { IfOk result (λ book. IfSome (R.remaining reader.old) (λ input. LeadsTo input book)) }

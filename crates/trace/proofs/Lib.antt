@@ -11,3 +11,8 @@ mod Following
 mod Lines
 -- Reading the calls back.
 mod ReadBack
+-- The environments as they are.
+mod Ports
+mod Listed
+-- A line stays as it is when entries are added.
+mod Staying

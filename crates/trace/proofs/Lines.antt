@@ -1,17 +1,16 @@
--- The line that a follower adds is that of the entry.
-use Rattle.std.proofs.Common.{◌≡◌, ℕ, ◌+◌, ◌<◌, Bool, false, List, [], ◌∷◌, ◌++◌, length, map, reverse, get_or, refl, sym, ap, ap₂, ◌∙◌, subst, arith}
+-- The object that a follower drafts is that of the entry.
+use Rattle.std.proofs.Common.{◌≡◌, ℕ, ◌+◌, ◌<◌, Bool, false, List, ◌∷◌, ◌++◌, length, map, reverse, get_or, refl, sym, ap, ap₂, ◌∙◌, arith}
 use Rattle.std.proofs.lemmas.List.{length-reverse}
 use Rattle.arn_ids.specs.declared.config.Config.{Config}
 use Rattle.arn_ids.specs.Environments.{environments}
 use Rattle.call_types.specs.declared.call.Entry.{Entry}
 use Rattle.call_model.specs.Life.{seen}
 use Rattle.call_model.proofs.Basics.{map_map, map_same}
-use Rattle.json.specs.Lex.{tokens}
-use Rattle.json.specs.Print.{print}
 use Rattle.json.specs.Token.{Token}
-use Rattle.trace.specs.Object.{before, object_text, object_tokens, told, Turn, turn_at, turns_at}
+use Rattle.trace.specs.Object.{before, object_tokens, told, Turn, turn_at, turns_at}
 use Rattle.trace.specs.Sites.{site, sites, turn_of}
-use Rattle.trace.specs.Telling.{IsBegun, Tells}
+use Rattle.trace.specs.Telling.{IsBegun, Tells, tokens_of}
+use Rattle.trace.specs.declared.draft.Piece.{Piece}
 use Rattle.trace.specs.declared.site.Site.{Site}
 use Rattle.trace.specs.declared.teller.Teller.{Teller}
 use Rattle.trace.proofs.Earlier.{length_before, one_later}
@@ -34,18 +33,7 @@ told_here bodies config salt entries ticket x ss d there is at =
     ap₂ (λ (e : Entry) (xs : List Site). told bodies config salt h ticket e (map turn_of xs)) is (at ∙ ap (sites config) (one_later entries ticket d there))
     ∙ ap₂ (λ (n : ℕ) (turns : List Turn). told bodies config salt h n y turns) (sym long) (turns_here config (before h ticket) y)
 
-told_whole : (bytes : List ℕ) (old new : Teller) (ts object : List Token) → IsBegun bytes old → Tells ts old new → ts ≡ object → new.is_cut ≡ false → new.writer.tokens ≡ object
-told_whole bytes old new ts object begun tells is whole = (tells.tokens whole).1 ∙ ap (λ (xs : List Token). xs ++ ts) begun.tokens ∙ is
-
--- the line that is added
-pub line_here : (bodies : Bool) (config : Config) (salt : ℕ) (h k : List Entry) (entry : Entry) (bytes items : List ℕ) (old new : Teller) (ts : List Token) → IsBegun bytes old → Tells ts old new
-    → ts ≡ object_tokens bodies config salt h k entry → (new.is_cut ≡ false) × (items ≡ new.writer.before ++ (print new.writer.tokens ++ 10 ∷ []))
-    → items ≡ bytes ++ object_text bodies config salt h k entry
-unfolding object_text
-line_here bodies config salt h k entry bytes items old new ts begun tells is ended =
-    ended.1 ∙ ap₂ (λ (front : List ℕ) (object : List Token). front ++ (print object ++ 10 ∷ [])) (tells.before ∙ begun.before) (told_whole bytes old new ts _ begun tells is ended.0)
-
--- it is read back
-pub reads_here : (object : List Token) (bytes : List ℕ) (old new : Teller) (ts : List Token) → IsBegun bytes old → Tells ts old new → ts ≡ object → new.is_cut ≡ false
-    → tokens (print new.writer.tokens) ≡ new.writer.tokens → tokens (print object) ≡ object
-reads_here object bytes old new ts begun tells is whole reads = subst (λ (xs : List Token). tokens (print xs) ≡ xs) (told_whole bytes old new ts object begun tells is whole) reads
+-- the object of the draft
+pub drafted : (old new : Teller) (ts told object : List Token) → IsBegun old → Tells ts old new → ts ≡ object → (new.is_cut ≡ false) × (told ≡ tokens_of new.pieces.items) → told ≡ object
+drafted old new ts told object begun tells is ended =
+    ended.1 ∙ (tells.tokens ended.0).1 ∙ ap (λ (ps : List Piece). tokens_of ps ++ ts) begun.tokens ∙ is

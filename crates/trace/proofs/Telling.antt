@@ -1,5 +1,5 @@
 -- What is told after what was told.
-use Rattle.std.proofs.Common.{◌≡◌, ℕ, zero, suc, ◌<◌, Bool, true, false, if◌then◌else◌, List, [], ◌∷◌, ◌++◌, length, take, map, get_or, codes, refl, sym, ap, ◌∙◌, subst, arith, append_assoc}
+use Rattle.std.proofs.Common.{◌≡◌, ℕ, zero, suc, ◌<◌, Bool, true, false, if◌then◌else◌, List, [], ◌∷◌, ◌++◌, length, take, map, get_or, codes, refl, sym, ap, ◌∙◌, subst, arith, append_assoc, Result}
 use Rattle.std.proofs.lemmas.List.{append-nil}
 use Rattle.std.proofs.lemmas.Str.{is_utf8-from_IsUtf8, IsUtf8-from_is_utf8}
 use Rattle.std.specs.List.{flat_map}
@@ -7,21 +7,22 @@ use Rattle.std.specs.Str.{IsUtf8, is_utf8}
 use Rattle.base64.specs.Engines.{standard}
 use Rattle.base64.specs.GeneralPurpose.{encode_of}
 use Rattle.json.specs.Token.{Token, end_array}
+use Rattle.json.specs.Written.{Written}
 use Rattle.trace.specs.Members.{body_member, text_member}
-use Rattle.trace.specs.Telling.{Tells}
+use Rattle.trace.specs.Telling.{Adds, Tells, piece_tokens, tokens_of}
+use Rattle.trace.specs.declared.draft.Piece.{Piece}
 use Rattle.trace.specs.declared.teller.Teller.{Teller}
 
 -- one text after the other
 pub tells_after : (front rest : List Token) (old mid new : Teller) → Tells front old mid → Tells rest mid new → Tells (front ++ rest) old new
 tells_after front rest old mid new a b = record {
-  before = b.before ∙ a.before;
   tokens = λ whole. (let later = b.tokens whole in let earlier = a.tokens later.0 in
-      (earlier.0, later.1 ∙ ap (λ (ts : List Token). ts ++ rest) earlier.1 ∙ append_assoc old.writer.tokens front rest));
+      (earlier.0, later.1 ∙ ap (λ (ts : List Token). ts ++ rest) earlier.1 ∙ append_assoc (tokens_of old.pieces.items) front rest));
 }
 
 -- no text
 pub tells_nothing : (old : Teller) → Tells [] old old
-tells_nothing old = record { before = refl; tokens = λ whole. (whole, sym (append-nil old.writer.tokens)) }
+tells_nothing old = record { tokens = λ whole. (whole, sym (append-nil (tokens_of old.pieces.items))) }
 
 -- the same text
 pub tells_same : (a b : List Token) (old new : Teller) → a ≡ b → Tells a old new → Tells b old new
@@ -45,19 +46,28 @@ one_flat f (x ∷ xs) (suc i) d lt = append_assoc (f x) (flat_map f (take i xs))
 pub tells_item_more : {A : Type 0} (f : A → List Token) (xs : List A) (i : ℕ) (d : A) (old mid new : Teller) → i < length xs → Tells (flat_map f (take i xs)) old mid → Tells (f (get_or xs i d)) mid new → Tells (flat_map f (take (suc i) xs)) old new
 tells_item_more f xs i d old mid new lt a b = tells_same _ _ old new (one_flat f xs i d lt) (tells_after _ _ old mid new a b)
 
+-- the same text, written
+pub adds_same : {E : Type 0} (r : Result (Unit {0}) E) (a b : List Token) (old new : Written) → a ≡ b → Adds r a old new → Adds r b old new
+adds_same r a b old new is added = subst (λ (ts : List Token). Adds r ts old new) is added
+
+-- one piece more
+pub pieces_more : (ps : List Piece) (p : Piece) → tokens_of (ps ++ p ∷ []) ≡ tokens_of ps ++ piece_tokens p
+pieces_more [] p = append-nil (piece_tokens p)
+pieces_more (x ∷ ps) p = ap (λ (ts : List Token). piece_tokens x ++ ts) (pieces_more ps p) ∙ sym (append_assoc (piece_tokens x) (tokens_of ps) (piece_tokens p))
+
 -- ---- the member with a body
 
-pub text_body : (bodies : Bool) (bytes text : List ℕ) → bodies ≡ true → text ≡ bytes → IsUtf8 bytes → text_member (codes "body") text ≡ body_member bodies bytes
+pub text_body : (bytes text : List ℕ) → text ≡ bytes → IsUtf8 bytes → text_member (codes "body") text ≡ body_member true bytes
 unfolding body_member
-text_body bodies bytes text asked same valid = rw (asked, is_utf8-from_IsUtf8 bytes valid, same) refl
+text_body bytes text same valid = rw (is_utf8-from_IsUtf8 bytes valid, same) refl
 
 if_false : {A : Type 0} (b : Bool) (x y : A) → (b ≡ true → ⊥) → y ≡ (if b then x else y)
 if_false true x y never = absurd (never refl)
 if_false false x y never = refl
 
-pub other_body : (bodies : Bool) (bytes : List ℕ) → bodies ≡ true → (IsUtf8 bytes → ⊥) → text_member (codes "bodyBase64") (encode_of standard bytes) ≡ body_member bodies bytes
+pub other_body : (bytes : List ℕ) → (IsUtf8 bytes → ⊥) → text_member (codes "bodyBase64") (encode_of standard bytes) ≡ body_member true bytes
 unfolding body_member
-other_body bodies bytes asked invalid = rw asked (if_false (is_utf8 bytes) _ _ (λ passes. invalid (IsUtf8-from_is_utf8 bytes passes)))
+other_body bytes invalid = if_false (is_utf8 bytes) _ _ (λ passes. invalid (IsUtf8-from_is_utf8 bytes passes))
 
 -- a list's end comes after its items
 pub tells_listed : (items rest : List Token) (old mid new : Teller) → Tells items old mid → Tells (end_array ∷ rest) mid new → Tells ((items ++ end_array ∷ []) ++ rest) old new

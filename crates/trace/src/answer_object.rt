@@ -33,28 +33,28 @@ fn refusal_text(refusal: Rejection) -> &'static str
     }
 }
 
-fn say_bare(teller: &mut Teller, word: &str, ticket: Ticket)
+fn say_bare(teller: &mut Teller, word: &'static str, ticket: Ticket)
     ensures { Tells (spec.bare word.now ticket) teller.old teller.new }
 {
     teller.say_all(&[
         Part::Open,
         Part::Key("answer"),
-        Part::Text(word),
+        Part::Word(word),
         Part::Key("ticket"),
         Part::Number(ticket),
         Part::Close,
     ]);
 }
 
-fn say_reasoned<'a>(teller: &mut Teller, word: &'a str, reason: &'a str, ticket: Ticket)
+fn say_reasoned(teller: &mut Teller, word: &'static str, reason: &'static str, ticket: Ticket)
     ensures { Tells (spec.reasoned word.now reason.now ticket) teller.old teller.new }
 {
     teller.say_all(&[
         Part::Open,
         Part::Key("answer"),
-        Part::Text(word),
+        Part::Word(word),
         Part::Key("reason"),
-        Part::Text(reason),
+        Part::Word(reason),
         Part::Key("ticket"),
         Part::Number(ticket),
         Part::Close,
@@ -65,7 +65,7 @@ fn say_carried(
     teller: &mut Teller,
     past: &Past,
     bodies: bool,
-    word: &str,
+    word: &'static str,
     source: Ticket,
     ticket: Ticket,
 )
@@ -73,7 +73,7 @@ fn say_carried(
         teller.old teller.new }
 {
     teller.say_around(
-        &[Part::Open, Part::Key("answer"), Part::Text(word)],
+        &[Part::Open, Part::Key("answer"), Part::Word(word)],
         bodies,
         body_of(past, source),
         &[
@@ -101,7 +101,7 @@ fn say_delivery(
         teller.old teller.new }
 {
     teller.say_around(
-        &[Part::Open, Part::Key("answer"), Part::Text("deliver")],
+        &[Part::Open, Part::Key("answer"), Part::Word("deliver")],
         bodies,
         body_of(past, invoke),
         &[
@@ -136,7 +136,7 @@ fn say_notice(
     teller.say_all(&[
         Part::Open,
         Part::Key("answer"),
-        Part::Text("tell"),
+        Part::Word("tell"),
         Part::Key("deadline"),
         Part::Number(deadline),
         Part::Key("event"),
@@ -167,13 +167,13 @@ fn say_ending(
     teller.say_all(&[
         Part::Open,
         Part::Key("answer"),
-        Part::Text("shutdown"),
+        Part::Word("shutdown"),
         Part::Key("deadline"),
         Part::Number(until),
         Part::Key("event"),
         environment_part(past, IdKind::Event, ticket, event),
         Part::Key("reason"),
-        Part::Text(reason.as_str()),
+        Part::Word(reason.as_str()),
         Part::Key("ticket"),
         Part::Number(ticket),
         Part::Close,
@@ -189,7 +189,7 @@ fn say_registered(teller: &mut Teller, past: &Past, count: u64, ticket: Ticket)
     teller.say_all(&[
         Part::Open,
         Part::Key("answer"),
-        Part::Text("registered"),
+        Part::Word("registered"),
         Part::Key("extension"),
         environment_part(past, IdKind::Extension, ticket, count),
         Part::Key("ticket"),
@@ -205,7 +205,7 @@ fn say_reserved(teller: &mut Teller, count: u32, ticket: Ticket)
     teller.say_all(&[
         Part::Open,
         Part::Key("answer"),
-        Part::Text("reserved"),
+        Part::Word("reserved"),
         Part::Key("count"),
         Part::Number(u64::from(count)),
         Part::Key("ticket"),

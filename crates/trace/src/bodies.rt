@@ -1,59 +1,55 @@
-//! The member with the bytes of a payload, an output or a report.
+//! The bodies of calls: payloads, outputs and reports.
 
-ghost use Rattle.std.specs.Prelude.{◌≡◌, ◌++◌, codes, map, reverse};
-ghost use Rattle.base64.specs.Engines.{standard};
-ghost use Rattle.base64.specs.GeneralPurpose.{encode_of};
+ghost use Rattle.std.specs.Prelude.{◌≡◌, ◌++◌, map, option_map, reverse};
 ghost use Rattle.call_types.specs.Calls as spec;
 ghost use Rattle.call_model.specs.History.{call_of};
-ghost use Rattle.trace.specs.Members.{body_member, text_member};
-ghost use Rattle.trace.specs.Telling.{Tells, part_token};
+ghost use Rattle.trace.specs.Members.{body_member};
+ghost use Rattle.trace.specs.Telling.{Tells, bytes_of, part_token};
 
 use crate::teller::{Part, Teller};
-use base64::engine::general_purpose::STANDARD;
-use call_model::{Past, Ticket};
-use std::str;
+use bytes::Bytes;
+use call_model::{Call, Past, Ticket};
 
 impl Teller {
-    /// Tells bytes that are not UTF-8.
-    fn say_base64(&mut self, bytes: &[u8])
-        ensures { Tells (text_member (codes "bodyBase64") (encode_of standard bytes.now)) self.old self.new }
-    {
-        match STANDARD.encode(self.alloc, bytes) {
-            Ok(text) => self.say_all(&[Part::Key("bodyBase64"), Part::Text(text.as_str())]),
-            Err(_) => self.cut(),
-        }
-    }
-
-    /// Tells bytes, if bodies are asked for.
-    #[tactic(auto, unfolding(crate::specs::Members::body_member))]
-    pub(crate) fn say_body(&mut self, bodies: bool, bytes: &[u8])
-        ensures { Tells (body_member bodies bytes.now) self.old self.new }
-    {
-        if bodies {
-            match str::from_utf8(bytes) {
-                Ok(text) => self.say_all(&[Part::Key("body"), Part::Text(text)]),
-                Err(_) => self.say_base64(bytes),
-            }
-        }
-    }
-
     /// Tells an object with a body among its members.
-    pub(crate) fn say_around(&mut self, front: &[Part], bodies: bool, bytes: &[u8], rest: &[Part])
-        ensures { Tells (map part_token front.now ++ (body_member bodies bytes.now ++ map part_token rest.now))
-            self.old self.new }
+    pub(crate) fn say_around(
+        &mut self,
+        front: &[Part],
+        bodies: bool,
+        body: Option<&Bytes>,
+        rest: &[Part],
+    )
+        ensures { Tells (map part_token front.now ++ (body_member bodies (bytes_of (option_map (λ bytes. bytes.now) body.entry))
+            ++ map part_token rest.now)) self.old self.new }
     {
         self.say_all(front);
-        self.say_body(bodies, bytes);
+        self.say_body(bodies, body);
         self.say_all(rest);
     }
 }
 
-/// Returns the bytes of the call with a ticket, none if it has none.
-pub(crate) fn body_of<'a>(past: &Past<'a>, ticket: Ticket) -> &'a [u8]
-    ensures { result.now ≡ spec.body_of (call_of (reverse past.now.entries.now.0) ticket) }
+/// Returns the body of a call, if it has one.
+fn body_in(call: &Call) -> Option<&Bytes>
+    ensures { bytes_of (option_map (λ body. body.now) result) ≡ spec.body_of call.now }
+{
+    match call {
+        Call::Invoke { body, .. } => Some(body),
+        Call::Response { body, .. } => Some(body),
+        Call::Failure { body, .. } => Some(body),
+        Call::InitFailure { body, .. } => Some(body),
+        Call::ExtInitFailure { body, .. } => Some(body),
+        Call::ExtExitFailure { body, .. } => Some(body),
+        _ => None,
+    }
+}
+
+/// Returns the body of the call with a ticket, if it has one.
+pub(crate) fn body_of<'a>(past: &Past<'a>, ticket: Ticket) -> Option<&'a Bytes>
+    ensures { bytes_of (option_map (λ body. body.now) result)
+        ≡ spec.body_of (call_of (reverse past.now.entries.now.0) ticket) }
 {
     match past.call(ticket) {
-        None => &[],
-        Some(call) => call.body(),
+        None => None,
+        Some(call) => body_in(call),
     }
 }

@@ -9,6 +9,7 @@ ghost use Rattle.trace.specs.Telling.{Tells};
 
 use crate::teller::{Part, Teller};
 use arn_ids::{Checked, EnvNo, FnNo, Text};
+use bytes::Bytes;
 use call_model::Call;
 
 /// Returns the name of a function; an empty one if there is no function with this number.
@@ -32,7 +33,7 @@ fn say_invoke<'a>(
     qualified: bool,
     trace: &'a Option<Text>,
     bodies: bool,
-    body: &[u8],
+    body: &Bytes,
 )
     ensures { Tells (object (body_member bodies body.now ∷ text_member (codes "function") name.now
         ∷ spec.kind (codes "invoke") ∷ flag_member (codes "qualified") qualified ∷ spec.trace_if trace.now ∷ []))
@@ -42,12 +43,12 @@ fn say_invoke<'a>(
         None => teller.say_around(
             &[Part::Open],
             bodies,
-            body,
+            Some(body),
             &[
                 Part::Key("function"),
                 Part::Text(name),
                 Part::Key("kind"),
-                Part::Text("invoke"),
+                Part::Word("invoke"),
                 Part::Key("qualified"),
                 Part::Flag(qualified),
                 Part::Close,
@@ -56,12 +57,12 @@ fn say_invoke<'a>(
         Some(trace) => teller.say_around(
             &[Part::Open],
             bodies,
-            body,
+            Some(body),
             &[
                 Part::Key("function"),
                 Part::Text(name),
                 Part::Key("kind"),
-                Part::Text("invoke"),
+                Part::Word("invoke"),
                 Part::Key("qualified"),
                 Part::Flag(qualified),
                 Part::Key("trace"),
@@ -72,60 +73,60 @@ fn say_invoke<'a>(
     }
 }
 
-fn say_report<'a>(
+fn say_report(
     teller: &mut Teller,
     bodies: bool,
-    word: &'a str,
-    named: &'a str,
+    word: &'static str,
+    named: &'static str,
     env: EnvNo,
     count: u64,
-    body: &[u8],
+    body: &Bytes,
 )
     ensures { Tells (report bodies word.now named.now env count body.now) teller.old teller.new }
 {
     teller.say_around(
         &[Part::Open],
         bodies,
-        body,
+        Some(body),
         &[
             Part::Key("environment"),
             Part::Number(u64::from(env)),
             Part::Key(named),
             Part::Number(count),
             Part::Key("kind"),
-            Part::Text(word),
+            Part::Word(word),
             Part::Close,
         ],
     )
 }
 
-fn say_init_failure(teller: &mut Teller, bodies: bool, env: EnvNo, body: &[u8])
+fn say_init_failure(teller: &mut Teller, bodies: bool, env: EnvNo, body: &Bytes)
     ensures { Tells (object (body_member bodies body.now ∷ spec.environment env
         ∷ spec.kind (codes "init-failure") ∷ [])) teller.old teller.new }
 {
     teller.say_around(
         &[Part::Open],
         bodies,
-        body,
+        Some(body),
         &[
             Part::Key("environment"),
             Part::Number(u64::from(env)),
             Part::Key("kind"),
-            Part::Text("init-failure"),
+            Part::Word("init-failure"),
             Part::Close,
         ],
     )
 }
 
 /// Tells a call that has no more than its kind.
-fn say_kind(teller: &mut Teller, word: &str)
+fn say_kind(teller: &mut Teller, word: &'static str)
     ensures { Tells (object (spec.kind word.now ∷ [])) teller.old teller.new }
 {
-    teller.say_all(&[Part::Open, Part::Key("kind"), Part::Text(word), Part::Close]);
+    teller.say_all(&[Part::Open, Part::Key("kind"), Part::Word(word), Part::Close]);
 }
 
 /// Tells a call that names an environment alone.
-fn say_environment(teller: &mut Teller, word: &str, env: EnvNo)
+fn say_environment(teller: &mut Teller, word: &'static str, env: EnvNo)
     ensures { Tells (object (spec.environment env ∷ spec.kind word.now ∷ [])) teller.old teller.new }
 {
     teller.say_all(&[
@@ -133,13 +134,13 @@ fn say_environment(teller: &mut Teller, word: &str, env: EnvNo)
         Part::Key("environment"),
         Part::Number(u64::from(env)),
         Part::Key("kind"),
-        Part::Text(word),
+        Part::Word(word),
         Part::Close,
     ]);
 }
 
 /// Tells a call that names an environment, and an invocation or an extension there.
-fn say_counted<'a>(teller: &mut Teller, word: &'a str, named: &'a str, env: EnvNo, count: u64)
+fn say_counted(teller: &mut Teller, word: &'static str, named: &'static str, env: EnvNo, count: u64)
     ensures { Tells (object (spec.environment env ∷ number_member named.now count ∷ spec.kind word.now ∷ []))
         teller.old teller.new }
 {
@@ -150,7 +151,7 @@ fn say_counted<'a>(teller: &mut Teller, word: &'a str, named: &'a str, env: EnvN
         Part::Key(named),
         Part::Number(count),
         Part::Key("kind"),
-        Part::Text(word),
+        Part::Word(word),
         Part::Close,
     ]);
 }
@@ -177,7 +178,7 @@ fn say_register(
         Part::Key("invoke"),
         Part::Flag(invoke),
         Part::Key("kind"),
-        Part::Text("register"),
+        Part::Word("register"),
         Part::Key("name"),
         Part::Text(name.as_str()),
         Part::Key("shutdown"),
@@ -193,7 +194,7 @@ fn say_withdraw(teller: &mut Teller, ticket: u64)
     teller.say_all(&[
         Part::Open,
         Part::Key("kind"),
-        Part::Text("withdraw"),
+        Part::Word("withdraw"),
         Part::Key("ticket"),
         Part::Number(ticket),
         Part::Close,
@@ -210,7 +211,7 @@ fn say_reserve(teller: &mut Teller, name: &str, count: Option<u32>)
             Part::Key("function"),
             Part::Text(name),
             Part::Key("kind"),
-            Part::Text("reserve"),
+            Part::Word("reserve"),
             Part::Close,
         ]),
         Some(count) => teller.say_all(&[
@@ -220,7 +221,7 @@ fn say_reserve(teller: &mut Teller, name: &str, count: Option<u32>)
             Part::Key("function"),
             Part::Text(name),
             Part::Key("kind"),
-            Part::Text("reserve"),
+            Part::Word("reserve"),
             Part::Close,
         ]),
     }
@@ -239,19 +240,19 @@ pub(crate) fn say_call(teller: &mut Teller, config: &Checked, bodies: bool, call
             body,
         } => {
             let name = name_of(config, *function);
-            say_invoke(teller, name, *qualified, trace, bodies, body.as_slice())
+            say_invoke(teller, name, *qualified, trace, bodies, body)
         }
         Call::RuntimeNext { env } => say_environment(teller, "next", *env),
         Call::Response { env, id, body } => {
-            say_report(teller, bodies, "response", "id", *env, *id, body.as_slice())
+            say_report(teller, bodies, "response", "id", *env, *id, body)
         }
         Call::ResponseTooLarge { env, id } => {
             say_counted(teller, "response-too-large", "id", *env, *id)
         }
         Call::Failure { env, id, body } => {
-            say_report(teller, bodies, "failure", "id", *env, *id, body.as_slice())
+            say_report(teller, bodies, "failure", "id", *env, *id, body)
         }
-        Call::InitFailure { env, body } => say_init_failure(teller, bodies, *env, body.as_slice()),
+        Call::InitFailure { env, body } => say_init_failure(teller, bodies, *env, body),
         Call::Register {
             env,
             name,
@@ -260,30 +261,24 @@ pub(crate) fn say_call(teller: &mut Teller, config: &Checked, bodies: bool, call
             account,
         } => say_register(teller, *env, name, *invoke, *shutdown, *account),
         Call::ExtNext { env, ext } => say_counted(teller, "ext-next", "extension", *env, *ext),
-        Call::ExtInitFailure { env, ext, body } => {
-            let bytes = body.as_slice();
-            say_report(
-                teller,
-                bodies,
-                "ext-init-failure",
-                "extension",
-                *env,
-                *ext,
-                bytes,
-            )
-        }
-        Call::ExtExitFailure { env, ext, body } => {
-            let bytes = body.as_slice();
-            say_report(
-                teller,
-                bodies,
-                "ext-exit-failure",
-                "extension",
-                *env,
-                *ext,
-                bytes,
-            )
-        }
+        Call::ExtInitFailure { env, ext, body } => say_report(
+            teller,
+            bodies,
+            "ext-init-failure",
+            "extension",
+            *env,
+            *ext,
+            body,
+        ),
+        Call::ExtExitFailure { env, ext, body } => say_report(
+            teller,
+            bodies,
+            "ext-exit-failure",
+            "extension",
+            *env,
+            *ext,
+            body,
+        ),
         Call::Tick => say_kind(teller, "tick"),
         Call::Withdraw { ticket } => say_withdraw(teller, *ticket),
         Call::Spindown { env } => say_environment(teller, "spindown", *env),

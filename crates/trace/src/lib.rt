@@ -1,12 +1,16 @@
-//! The trace of a history: a JSON object for each entry, with what the entry made of each environment.
+//! The trace of a history: a JSON object for each entry, with what the entry made of each environment; and the
+//! object of the environments as they are.
 #![tactic(auto)]
 
 mod answer_object;
 mod arrival;
 mod bodies;
 mod call_object;
+mod draft;
+mod environment_object;
 mod follower;
 pub mod laws;
+mod listing;
 mod object;
 mod past_parts;
 mod phase_object;
@@ -14,4 +18,6 @@ mod reach;
 mod site;
 mod teller;
 
+pub use draft::Draft;
 pub use follower::Follower;
+pub use listing::Listing;

@@ -1,19 +1,18 @@
-//! The line of an entry.
+//! The object of an entry.
 
-ghost use Rattle.std.specs.Prelude.{◌≡◌, ◌+◌, ◌<◌, ◌++◌, length, map, reverse, slice_index_or, OnOk, OnErr};
+ghost use Rattle.std.specs.Prelude.{◌≡◌, ◌+◌, ◌<◌, length, map, reverse, slice_index_or, IfOk};
 ghost use Rattle.std.specs.List.{flat_map};
 ghost use Rattle.call_types.specs.declared.call.Entry.{Entry};
-ghost use Rattle.json.specs.Lex.{tokens};
-ghost use Rattle.json.specs.Print.{print};
 ghost use Rattle.trace.specs.AnswerObject.{answer_object};
 ghost use Rattle.trace.specs.Members.{number_if, object};
-ghost use Rattle.trace.specs.Object.{before, charged_at, expired, object_text, object_tokens};
+ghost use Rattle.trace.specs.Object.{before, charged_at, expired, object_tokens};
 ghost use Rattle.trace.specs.Object.{released, request_if, told};
 ghost use Rattle.trace.specs.Sites.{sites as sites_in, turn_of};
 ghost use Rattle.trace.specs.Telling.{Tells};
 
 use crate::answer_object::say_answer;
 use crate::call_object::say_call;
+use crate::draft::Draft;
 use crate::follower::Follower;
 use crate::past_parts::request_part;
 use crate::phase_object::{say_all_released, say_phases};
@@ -105,34 +104,27 @@ fn say_entry(
 }
 
 impl Follower {
-    /// Adds the line of the entry with a ticket, the newest that this follower has followed: its object,
-    /// the members in the order of their names' bytes, and a line feed. With `bodies`, payloads, outputs
-    /// and reports are members: `body` if they are UTF-8, otherwise `bodyBase64`. A reader of JSON reads the
-    /// object's own tokens from it.
+    /// Returns the object of the entry with a ticket, the newest that this follower has followed; the members
+    /// are in the order of their names' bytes. With `bodies`, payloads, outputs and reports are members:
+    /// `body` if they are UTF-8, otherwise `bodyBase64`. They are shared with the history, not copied.
     ///
     /// # Errors
-    /// Only if memory is refused; `out` is then as it was.
-    pub fn push_object(
+    /// Only if memory is refused.
+    pub fn draft(
         &self,
-        out: &mut Vec<u8>,
         config: &Checked,
         past: &Past,
         bodies: bool,
         ticket: Ticket,
-    ) -> Result<(), AllocError>
+    ) -> Result<Draft, AllocError>
         requires there { ticket < length past.now.entries.now.0 }
         requires at { self.now ≡ sites_in config.now (before (reverse past.now.entries.now.0) (ticket + 1)) }
-        ensures ok { let h = reverse past.now.entries.now.0 in OnOk result ((d : Entry) → out.new.items
-            ≡ out.old.items ++ object_text bodies config.now past.now.salt h (before h ticket)
+        ensures { let h = reverse past.now.entries.now.0 in IfOk result (λ draft. (d : Entry)
+            → draft ≡ object_tokens bodies config.now past.now.salt h (before h ticket)
             (slice_index_or past.now.entries.now.0 ticket d)) }
-        ensures reads_back { let h = reverse past.now.entries.now.0 in OnOk result ((d : Entry) →
-            let object = object_tokens bodies config.now past.now.salt h (before h ticket)
-            (slice_index_or past.now.entries.now.0 ticket d) in tokens (print object) ≡ object) }
-        ensures err { OnErr result (out.new.items ≡ out.old.items) }
     {
         let entry = past.entries.at(ticket as usize);
-        let start = out.len();
-        let mut teller = Teller::new(self.alloc, out);
+        let mut teller = Teller::new(self.alloc)?;
         say_entry(
             &mut teller,
             config,
@@ -142,6 +134,6 @@ impl Follower {
             entry,
             self.sites(),
         );
-        teller.finish(out, start)
+        teller.finish()
     }
 }

@@ -12,14 +12,14 @@ use call_model::{Past, Ticket};
 
 /// An identifier; a dash if no identifier can have this number or count.
 #[tactic(auto, unfolding(arn_ids::specs::Identifiers::id_word))]
-fn identifier(salt: u64, kind: IdKind, number: u32, count: u64) -> Part<'static>
+pub(crate) fn identifier(salt: u64, kind: IdKind, number: u32, count: u64) -> Part<'static>
     ensures { part_token result ≡ string (written salt kind number count) }
 {
     if number >= 4096 {
-        return Part::Text("-");
+        return Part::Word("-");
     }
     if count >= 1 << 48 {
-        return Part::Text("-");
+        return Part::Word("-");
     }
     Part::Identifier(match kind {
         IdKind::Request => request_id(salt, number, count),

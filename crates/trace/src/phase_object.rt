@@ -16,7 +16,7 @@ use crate::teller::{Part, Teller};
 use arn_ids::EnvNo;
 use call_model::{Phase, Reason, Ticket};
 
-fn bound_of(phase: Phase) -> Option<Ticket>
+pub(crate) fn bound_of(phase: Phase) -> Option<Ticket>
     ensures { result ≡ stands.bound_of phase }
 {
     match phase {
@@ -30,7 +30,7 @@ fn bound_of(phase: Phase) -> Option<Ticket>
     }
 }
 
-fn deadline_of(phase: Phase) -> Option<u64>
+pub(crate) fn deadline_of(phase: Phase) -> Option<u64>
     ensures { result ≡ deadline_of phase }
 {
     match phase {
@@ -48,7 +48,7 @@ fn deadline_of(phase: Phase) -> Option<u64>
     }
 }
 
-fn served_by(phase: Phase) -> Option<Ticket>
+pub(crate) fn served_by(phase: Phase) -> Option<Ticket>
     ensures { result ≡ spec.served_by phase }
 {
     match phase {
@@ -66,7 +66,7 @@ fn at_hand(phase: Phase) -> Option<Ticket>
     }
 }
 
-fn phase_word(phase: Phase) -> &'static str
+pub(crate) fn phase_word(phase: Phase) -> &'static str
     ensures { result.now ≡ spec.phase_word phase }
 {
     match phase {
@@ -78,11 +78,11 @@ fn phase_word(phase: Phase) -> &'static str
     }
 }
 
-fn say_reason_if(teller: &mut Teller, phase: Phase)
+pub(crate) fn say_reason_if(teller: &mut Teller, phase: Phase)
     ensures { Tells (spec.reason_if phase) teller.old teller.new }
 {
     if let Phase::Closing { reason, .. } = phase {
-        teller.say_all(&[Part::Key("reason"), Part::Text(reason.as_str())]);
+        teller.say_all(&[Part::Key("reason"), Part::Word(reason.as_str())]);
     }
 }
 
@@ -96,7 +96,7 @@ fn say_phase(teller: &mut Teller, env: EnvNo, phase: Phase)
     teller.say_number_if("deadline", deadline_of(phase));
     teller.say_all(&[Part::Key("environment"), Part::Number(u64::from(env))]);
     teller.say_number_if("invoke", served_by(phase));
-    teller.say_all(&[Part::Key("phase"), Part::Text(phase_word(phase))]);
+    teller.say_all(&[Part::Key("phase"), Part::Word(phase_word(phase))]);
     say_reason_if(teller, phase);
     teller.say_all(&[Part::Close]);
 }

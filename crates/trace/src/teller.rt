@@ -1,17 +1,14 @@
-//! How the text of an object is told, token by token.
+//! How an object is told, token by token.
 
-ghost use Rattle.std.specs.Prelude.{◌≡◌, ◌∷◌, ◌++◌, [], false, List, length, map, OnOk, OnErr};
-ghost use Rattle.json.specs.Lex.{tokens};
-ghost use Rattle.json.specs.Print.{print};
+ghost use Rattle.std.specs.Prelude.{◌≡◌, ◌∷◌, [], true, false, List, map, option_map, IfOk};
 ghost use Rattle.json.specs.Token.{Token, string};
-ghost use Rattle.json.specs.Written.{Writes};
-ghost use Rattle.uuid.specs.Text.{hyphenated_text, lower};
-ghost use Rattle.trace.specs.Members.{number_if};
-ghost use Rattle.trace.specs.Telling.{IsBegun, Tells, part_token};
+ghost use Rattle.trace.specs.Members.{body_member, number_if};
+ghost use Rattle.trace.specs.Telling.{IsBegun, Tells, bytes_of, part_token, piece_tokens, tokens_of};
 
-use json::Writer;
+use crate::draft::{Draft, Piece};
+use arn_ids::Text;
+use bytes::Bytes;
 use std::alloc::{AllocError, Global};
-use std::mem;
 use uuid::Uuid;
 
 /// A token of an object.
@@ -26,8 +23,10 @@ pub(crate) enum Part<'a> {
     /// A list ends.
     CloseList,
     /// The name of a member.
-    Key(&'a str),
-    /// A text.
+    Key(&'static str),
+    /// A word.
+    Word(&'static str),
+    /// A text, which is copied.
     Text(&'a str),
     /// A whole number.
     Number(u64),
@@ -37,79 +36,85 @@ pub(crate) enum Part<'a> {
     Identifier(Uuid),
 }
 
-/// The tokens of a text so far. If memory runs out, that is noted and reported at the end.
+/// Room for the pieces of most entries.
+const PIECES: usize = 64;
+
+/// What was told so far. If memory runs out, that is noted and reported at the end.
 #[derive(Drop)]
 pub(crate) struct Teller {
-    pub(crate) alloc: Global,
-    writer: Writer,
+    alloc: Global,
+    pieces: Vec<Piece>,
     is_cut: bool,
 }
 
-fn say_identifier(writer: &mut Writer, id: Uuid) -> Result<(), AllocError>
-    ensures { Writes result writer.old writer.new (string (hyphenated_text lower id)) }
-{
-    let mut buffer = Uuid::encode_buffer();
-    writer.string(id.hyphenated().encode_lower(&mut buffer))
-}
-
 impl Teller {
-    /// Returns a text that is told after what a buffer has, whose memory it takes over.
-    pub(crate) fn new(alloc: Global, out: &mut Vec<u8>) -> Teller
-        ensures begun { IsBegun out.old.items result }
-    {
-        let text = mem::replace(out, Vec::new(alloc));
-        Teller {
-            alloc,
-            writer: Writer::new(text),
-            is_cut: false,
-        }
-    }
-
-    /// Gives the buffer back, with the text and a line feed. `start` is the length that it had.
+    /// Returns a teller that has told nothing.
     ///
     /// # Errors
-    /// Only if memory ran out; the buffer then has what it had before.
-    pub(crate) fn finish(self, out: &mut Vec<u8>, start: usize) -> Result<(), AllocError>
-        requires { start ≡ length self.writer.before }
-        ensures ok { OnOk result ((self.is_cut ≡ false)
-            × (out.new.items ≡ self.writer.before ++ (print self.writer.tokens ++ 10 ∷ []))) }
-        ensures reads_back { tokens (print self.writer.tokens) ≡ self.writer.tokens }
-        ensures err { OnErr result (out.new.items ≡ self.writer.before) }
+    /// Only if memory is refused.
+    pub(crate) fn new(alloc: Global) -> Result<Teller, AllocError>
+        ensures begun { IfOk result IsBegun }
     {
-        let mut text = self.writer.into_inner();
-        let is_cut = self.is_cut || text.push(b'\n').is_err();
-        if is_cut {
-            text.truncate(start);
-            *out = text;
+        Ok(Teller {
+            alloc,
+            pieces: Vec::with_capacity(alloc, PIECES)?,
+            is_cut: false,
+        })
+    }
+
+    /// Returns what was told.
+    ///
+    /// # Errors
+    /// Only if memory ran out.
+    pub(crate) fn finish(self) -> Result<Draft, AllocError>
+        ensures { IfOk result (λ draft. (self.is_cut ≡ false) × (draft ≡ tokens_of self.pieces.items)) }
+    {
+        if self.is_cut {
             return Err(AllocError);
         }
-        *out = text;
-        Ok(())
+        Ok(Draft::new(self.alloc, self.pieces))
     }
 
     /// Notes that memory ran out.
-    pub(crate) fn cut(&mut self)
+    fn cut(&mut self)
         ensures { (added : List Token) → Tells added self.old self.new }
     {
         self.is_cut = true;
+    }
+
+    /// Adds a piece.
+    fn push(&mut self, piece: Piece)
+        ensures { Tells (piece_tokens piece) self.old self.new }
+    {
+        self.is_cut = self.pieces.push(piece).is_err() || self.is_cut;
+    }
+
+    /// Tells a text, which is copied.
+    fn say_copied(&mut self, text: &str)
+        ensures { Tells (string text.now ∷ []) self.old self.new }
+    {
+        match String::from_str(self.alloc, text) {
+            Ok(text) => self.push(Piece::Copied(Text::new(text))),
+            Err(_) => self.cut(),
+        }
     }
 
     /// Tells a token.
     pub(crate) fn say(&mut self, part: &Part)
         ensures { Tells (part_token part.now ∷ []) self.old self.new }
     {
-        let said = match part {
-            Part::Open => self.writer.begin_object(),
-            Part::Close => self.writer.end_object(),
-            Part::OpenList => self.writer.begin_array(),
-            Part::CloseList => self.writer.end_array(),
-            Part::Key(name) => self.writer.key(name),
-            Part::Text(text) => self.writer.string(text),
-            Part::Number(number) => self.writer.u64(*number),
-            Part::Flag(set) => self.writer.boolean(*set),
-            Part::Identifier(id) => say_identifier(&mut self.writer, *id),
-        };
-        self.is_cut = said.is_err() || self.is_cut;
+        match part {
+            Part::Open => self.push(Piece::Open),
+            Part::Close => self.push(Piece::Close),
+            Part::OpenList => self.push(Piece::OpenList),
+            Part::CloseList => self.push(Piece::CloseList),
+            Part::Key(name) => self.push(Piece::Key(name)),
+            Part::Word(word) => self.push(Piece::Word(word)),
+            Part::Text(text) => self.say_copied(text),
+            Part::Number(number) => self.push(Piece::Number(*number)),
+            Part::Flag(set) => self.push(Piece::Flag(*set)),
+            Part::Identifier(id) => self.push(Piece::Identifier(*id)),
+        }
     }
 
     /// Tells tokens, one after the other.
@@ -122,11 +127,34 @@ impl Teller {
     }
 
     /// Tells a member that is a whole number, if there is one.
-    pub(crate) fn say_number_if(&mut self, name: &str, number: Option<u64>)
+    pub(crate) fn say_number_if(&mut self, name: &'static str, number: Option<u64>)
         ensures { Tells (number_if name.now number) self.old self.new }
     {
         if let Some(number) = number {
             self.say_all(&[Part::Key(name), Part::Number(number)]);
+        }
+    }
+
+    /// Tells a body, if bodies are asked for: one without bytes if there is none.
+    #[tactic(auto, unfolding(crate::specs::Members::body_member))]
+    pub(crate) fn say_body(&mut self, bodies: bool, body: Option<&Bytes>)
+        ensures { Tells (body_member bodies (bytes_of (option_map (λ bytes. bytes.now) body.entry))) self.old self.new }
+    {
+        if bodies {
+            match body {
+                None => self.push(Piece::Body(Bytes::new())),
+                Some(body) => self.say_shared(body),
+            }
+        }
+    }
+
+    /// Tells a body, which is shared.
+    fn say_shared(&mut self, body: &Bytes)
+        ensures { Tells (body_member true body.now) self.old self.new }
+    {
+        match body.clone() {
+            Ok(body) => self.push(Piece::Body(body)),
+            Err(_) => self.cut(),
         }
     }
 }

@@ -6,7 +6,9 @@ use Rattle.arn_ids.specs.declared.config.Config.{Config}
 use Rattle.call_types.specs.declared.call.Entry.{Entry}
 use Rattle.account_book.specs.Book.{Kept}
 use Rattle.script_replay.proofs.Written.{appends_nothing, appends_more}
-use Rattle.trace.specs.Object.{before, object_text, trace, trace_from}
+use Rattle.json.specs.Print.{print}
+use Rattle.json.specs.Token.{Token}
+use Rattle.trace.specs.Object.{before, object_text, object_tokens, trace, trace_from}
 use Rattle.trace_replay.specs.Lines.{first_lines, LineAdded, Underway, Flushed}
 use Rattle.trace_replay.specs.Traces.{CutShort, book_trace}
 
@@ -40,6 +42,12 @@ lines_of_oldest bodies config salt h (suc n) (entry ∷ older) =
     (rest.0 ++ line, ap (λ (l : List ℕ). l ++ line) rest.1 ∙ append_assoc (trace_from bodies config salt h (drop n older)) rest.0 line)
 
 -- ---- one line more
+
+-- the line of an object
+pub line_of : (bodies : Bool) (config : Config) (salt : ℕ) (h older : List Entry) (entry : Entry) (old new : List ℕ) (object : List Token) → object ≡ object_tokens bodies config salt h older entry → new ≡ old ++ (print object ++ 10 ∷ [])
+    → new ≡ old ++ object_text bodies config salt h older entry
+unfolding object_text
+line_of bodies config salt h older entry old new object is added = added ∙ ap (λ (ts : List Token). old ++ (print ts ++ 10 ∷ [])) is
 
 some_entry : (h : List Entry) (n : ℕ) → n < length h → Entry
 some_entry [] n within = absurd (omega arith)

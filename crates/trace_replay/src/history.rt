@@ -40,7 +40,8 @@ fn push_line(
         counts: book.counts(),
     };
     follower.follow(book.config(), past.entries, ticket);
-    follower.push_object(out, book.config(), &past, bodies, ticket)
+    let object = follower.draft(book.config(), &past, bodies, ticket)?;
+    object.push_to(out)
 }
 
 /// Writes a text and forgets it, if it is long.

@@ -149,7 +149,7 @@ fn push_other(given: &mut Given, other: &Given) -> Result<(), CaseFault> {
 /// | `calls N` | calls as the lines of scripts, submitted with tally N (by default 0) |
 /// | `quietly N` | the same, but nothing is added about them |
 /// | `ask` | questions: `looks`, `look T`, `history T`, `render T`, `due MOMENT`, `life`, `stats` |
-/// | `ask`, also | `opening`, `reservation FUNCTION`, `tally N`, `bells` |
+/// | `ask`, also | `environments`, `opening`, `reservation FUNCTION`, `tally N`, `bells` |
 /// | `crowd N` | the calls that each of four threads makes N times |
 /// | `join` | tallies 1 and 2 are joined |
 /// | `hold-back` | tally 1 is missing when the account is settled |

@@ -161,7 +161,7 @@ fn play<R: Runner, S: Identity + Drop + Send + Sync>(
 /// |---|---|
 /// | `open` | the configuration; by default one function `f` on environment 1 |
 /// | `board MOOD` | a board, not an account; MOOD is `answers`, `loses-bells` or one of the next two |
-/// | moods | `refuses JournalFull`; `premature N`: the first N calls that are offered are premature |
+/// | moods | `refuses JournalFull`; `premature N`: the first N attempts are premature |
 /// | `patience N` | connections hold back premature calls for N milliseconds, not for 0 |
 /// | `asks` | requests, one per line, made one after another |
 /// | `at-once` | three requests, made at the same time |

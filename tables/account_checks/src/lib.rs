@@ -57,8 +57,9 @@ enum Table {
 }
 
 /// The files.
-const TABLES: [(&str, Table); 9] = [
+const TABLES: [(&str, Table); 10] = [
     ("accounts/openings.txt", Table::Accounts),
+    ("accounts/environments.txt", Table::Accounts),
     ("accounts/bells.txt", Table::Accounts),
     ("accounts/settlements.txt", Table::Accounts),
     ("accounts/threads.txt", Table::Accounts),

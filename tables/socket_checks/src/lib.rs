@@ -25,7 +25,7 @@ use std::thread::JoinHandle;
 const READING_CASES: &str = "sockets/readings.txt";
 
 /// The files of short checks.
-const QUICK_CHECKS: [&str; 8] = [
+const QUICK_CHECKS: [&str; 9] = [
     "sockets/calls.txt",
     "sockets/words.txt",
     "sockets/identifiers.txt",
@@ -34,6 +34,7 @@ const QUICK_CHECKS: [&str; 8] = [
     "sockets/bodies.txt",
     "sockets/hosts.txt",
     "sockets/history.txt",
+    "sockets/traces.txt",
 ];
 
 /// The checks of peers that stop responding, which the service tolerates for twenty seconds. They

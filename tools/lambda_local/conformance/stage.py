@@ -10,13 +10,12 @@ import os
 import time
 from typing import Any, Callable, Dict, Iterator, List, NamedTuple, Optional, Sequence, Union
 
-from ..history.opening import Configuration
-from ..history.running import Parked
 from ..service import Fault, Service, ask
 from .clock import CLOCK
 from .environment import LOOK, Environment
 from .exchanges import as_json, read_json
 from .kit import FAIL, NOTE, PASS, SHOULD, Jury, Missing, Scenario
+from .parked import parked
 from .process import Processes
 from .watch import OwnTime
 Event = Union[bytes, Dict[str, Any]]  # as its bytes, or as a value
@@ -104,7 +103,6 @@ class Stage:
         configuration = {"account": ACCOUNT, "region": REGION, "salt": salt(), "functions": [function]}
         with tools.processes.opening():
             self.service = Service(configuration, tools.program)
-        self.parked = Parked(self.service.port, Configuration(self.service.configuration))
         self.function = self.service.configuration["functions"][0]
         self.arn = f"arn:aws:lambda:{REGION}:{ACCOUNT}:function:{self.name}"
         self.environments = [Environment(self, number, port) for number, port in enumerate(self.function["ports"], 1)]
@@ -143,7 +141,6 @@ class Stage:
         for environment in self.environments:
             environment.kill()
         self.service.kill()
-        self.parked.close()
         for environment in self.environments:
             environment.proxy.close()
         self._callers.shutdown()
@@ -257,7 +254,7 @@ class Stage:
     def idle(self) -> None:
         """Waits until each environment's runtime waits for an invocation."""
         own, end = OwnTime(self.environment.process.number), CLOCK.now() + SILENT
-        while len(self.parked.read()[0]) < len(self.environments):
+        while len(parked(self.service.port).runtimes) < len(self.environments):
             if self.waits() and CLOCK.now() < end:  # (the service does not know of it yet)
                 own = OwnTime(self.environment.process.number)
             refused = [one for one in self.environment.proxy.of("next") if one.refused and one.status not in (403, 500)]

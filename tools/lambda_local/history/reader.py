@@ -14,7 +14,7 @@ def made_of(given: object, shapes: Shapes, what: str) -> Any:
     if type(given) is dict:
         shape = shapes.get(tuple(given))
         if shape is not None:
-            made = shape.make(*given.values())
+            made = shape.make(tuple(given.values()))
             if made is not None:
                 return made
             raise wrong(what, given, shape)

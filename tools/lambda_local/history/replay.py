@@ -42,7 +42,7 @@ class Run:
         self.said.seek(0)
         lines = self.said.read().decode("utf-8", "replace").strip().splitlines() or ["nothing was said"]
         if status == 2 and not lines[-1].startswith(USAGE):
-            raise Fault(2, f"{self.script.name}: {sentence(lines[-1], self.script.line)}")
+            raise Fault(2, f"{self.script.name}: {sentence(lines[-1], self.script.line, self.program)}")
         raise Fault(4, f"{self.program} {self.word} ended with status {status}: {lines[-1]}")
 
     def kill(self) -> None:

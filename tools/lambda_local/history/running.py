@@ -1,62 +1,134 @@
-"""The entries of a service that runs, as they come.
+"""The entries of a service that runs, as they come: its followed trace (docs/trace.md).
 
-    running = Running(port, configuration)
-    while True:
-        for entry in running.read():            # those that have come since the last time, the oldest first
-            .."""
+    running = Running(port, environments)
+    for entry in running.entries():             # the oldest first; it waits for the next one, until the service is Off
+        ..
+
+It is one connection, of which no more is read than is asked for: what has not been asked for waits in the service's
+history. A service that is silent is asked again from the next entry on, so one that does not answer any more is
+noticed."""
+import contextlib
+import errno
+import socket
 import threading
-from collections import Counter
-from typing import Counter as Counts, Iterator, List, Set, Tuple
+from typing import Iterable, Iterator, List, Optional
 
+from ..http1 import CLOSED, NEED_DATA, Data, EndOfMessage, Malformed, Response, ResponseReader, request_head
 from .entries import Entry
-from .followed import Followed
-from .generations import Generations
-from .opening import Configuration
-from .text import Follower
+from .reader import LONGEST_LINE, Reader
+from .shapes import NotTrace
+
+SILENCE = 30.0  # seconds without a byte
+AT_ONCE = 1 << 16  # bytes
+MOST_SAID = 200  # bytes of an answer that is none
+NO_DESCRIPTOR = (errno.EMFILE, errno.ENFILE)
+
+
+class Lost(Exception):
+    """The service does not answer, or its answer breaks off: why, in words."""
+
+
+class NoDescriptor(Lost):
+    """This process has no descriptor for a connection."""
+
+
+def lines_in(pieces: Iterable[bytes]) -> Iterator[bytes]:
+    """The lines of a text that comes in pieces, without their ends; NotTrace if it ends within one."""
+    held: List[bytes] = []
+    size = 0
+    for piece in pieces:
+        first, *others = piece.split(b"\n")
+        held.append(first)
+        size += len(first)
+        if size > LONGEST_LINE:
+            raise NotTrace(f"a line is longer than {LONGEST_LINE:,} bytes")
+        if others:
+            yield b"".join(held)
+            yield from others[:-1]
+            held, size = others[-1:], len(others[-1])
+    if size:
+        raise NotTrace("its last line is cut off")
 
 
 class Running:
-    """A source of entries: the service whose callers' port this is."""
+    """A service whose callers' port this is. One thread at a time takes its entries; `close` may be called by any."""
 
-    def __init__(self, port: int, configuration: Configuration, timeout: float = 300) -> None:
-        self._follower, self._followed = Follower(port, timeout), Followed(configuration)
+    def __init__(self, port: int, environments: int, silence: float = SILENCE) -> None:
+        self.port, self.silence = port, silence
+        self._reader, self._lock = Reader(environments), threading.Lock()
+        self._socket: Optional[socket.socket] = None
+        self._is_closed = False
 
     @property
     def next(self) -> int:
-        """The ticket of the first entry that was not read yet."""
-        return self._follower.next
+        """The ticket of the first entry that was not taken yet."""
+        return self._reader.next
 
-    def read(self) -> List[Entry]:
-        """The entries that have come since the last time. OSError or HTTPException if the service does not answer,
-        ValueError if its answer is no history."""
-        return list(self.stream())
-
-    def stream(self) -> Iterator[Entry]:
-        """The same one by one, as they come: of a long history only one at a time is in memory. If the service ceases
-        to answer in the middle, those that were given are not given again."""
-        for entry in self._follower.stream():
-            yield self._followed.take(entry)
-
-    def close(self) -> None:
-        self._follower.close()
-
-
-class Parked:
-    """Which polls wait in a service, by its entries as they come. One thread at a time reads them."""
-
-    def __init__(self, port: int, configuration: Configuration) -> None:
-        self._running, self._lock = Running(port, configuration), threading.Lock()
-        self._generations = Generations(len(configuration.owners))
-
-    def read(self) -> Tuple[Set[int], Counts[int]]:
-        """The numbers of the environments whose runtime waits, and for each environment how many extensions wait."""
-        with self._lock:
-            for entry in self._running.stream():
-                self._generations.take(entry)
-            here = {number: one.generation for number, one in self._generations.environments.items()}
-        return ({number for number, generation in here.items() if generation.poll is not None},
-                Counter({number: generation.waiting for number, generation in here.items()}))
+    def entries(self) -> Iterator[Entry]:
+        """The entries from `next` on, as they come, until the service is Off, or this is closed. Lost if the service
+        does not answer, NotTrace if its answer is none: they may be asked for again, and go on with the next one."""
+        while not self._is_closed:
+            try:
+                with contextlib.closing(self._connected()) as connection:
+                    for line in lines_in(self._answer(connection)):
+                        yield self._reader.take(line)
+                return
+            except socket.timeout:
+                pass  # (it was silent: it is asked again)
+            except (Lost, Malformed, OSError) as fault:
+                if not self._is_closed:
+                    raise lost(fault) from None
 
     def close(self) -> None:
+        """Ends the entries: none is waited for any more."""
         with self._lock:
-            self._running.close()
+            self._is_closed = True
+            if self._socket is not None:
+                with contextlib.suppress(OSError):
+                    self._socket.shutdown(socket.SHUT_RDWR)
+
+    def _connected(self) -> socket.socket:
+        try:
+            connection = socket.create_connection(("127.0.0.1", self.port), self.silence)
+        except socket.timeout:
+            raise Lost(f"no connection within {self.silence:g} s") from None
+        with self._lock:
+            self._socket = connection
+            if self._is_closed:
+                connection.close()
+        return connection
+
+    def _answer(self, connection: socket.socket) -> Iterator[bytes]:
+        """The pieces of the body, as they come."""
+        target = f"/_local/trace?follow=1&from={self.next}"
+        connection.sendall(request_head("GET", target, [("Host", f"127.0.0.1:{self.port}")]))
+        reader, status, said = ResponseReader(), 0, b""
+        while not isinstance(event := reader.next_event(), EndOfMessage):
+            if event is NEED_DATA:
+                reader.receive(self._received(connection, is_begun=status == 200))
+            elif event is CLOSED:
+                raise Lost("it has closed the connection")
+            elif isinstance(event, Response):
+                status = event.status
+            elif isinstance(event, Data) and status == 200:
+                yield event.data
+            elif isinstance(event, Data) and len(said) < MOST_SAID:
+                said += event.data
+        if status != 200:
+            raise Lost(f"GET {target}: {status} {said[:MOST_SAID].decode(errors='replace')}")
+
+    def _received(self, connection: socket.socket, is_begun: bool) -> bytes:
+        try:
+            return connection.recv(AT_ONCE)
+        except socket.timeout:
+            if is_begun:
+                raise
+            raise Lost(f"no answer within {self.silence:g} s") from None
+
+
+def lost(fault: Exception) -> Lost:
+    if isinstance(fault, Lost):
+        return fault
+    words = getattr(fault, "strerror", None) or str(fault) or type(fault).__name__
+    is_for_want = isinstance(fault, OSError) and fault.errno in NO_DESCRIPTOR
+    return (NoDescriptor if is_for_want else Lost)(words)

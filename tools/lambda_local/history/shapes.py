@@ -3,9 +3,9 @@ import base64
 import binascii
 import functools
 import itertools
+import operator
 import re
-from typing import (Any, Callable, Dict, FrozenSet, Iterable, Iterator, List, NamedTuple, Optional, Tuple, Type, Union,
-                    cast)
+from typing import Any, Callable, Dict, FrozenSet, Iterable, Iterator, List, NamedTuple, Optional, Tuple, Type, Union
 
 from .entries import Answer, Call, Entry, Phase
 from .words import REFUSALS, SHUTDOWN_REASONS, THROTTLE_REASONS, Word
@@ -15,6 +15,7 @@ IDENTIFIER = re.compile(r"[0-9a-f]{8}-[0-9a-f]{4}-[0-9a-f]{4}-[0-9a-f]{4}-[0-9a-
 Made = Union[Call, Answer, Phase, Entry]
 Check = Callable[[Any], object]
 Change = Callable[[Any], Any]
+Make = Callable[[Tuple[Any, ...]], Optional[Made]]
 Known = Iterable[Tuple[str, str, str]]  # words, the members that each has, and those that it may have
 
 
@@ -24,12 +25,12 @@ class NotTrace(ValueError):
 
 class Shape(NamedTuple):
     """An object with these members: of which types they are, and what is made of them."""
-    types: List[type]
+    types: Tuple[type, ...]
     numbers: Tuple[int, ...]  # the places of numbers
     checks: Tuple[Tuple[int, Check], ...]  # the places of words, names and identifiers
     reasons: Optional[Dict[str, FrozenSet[str]]]  # of each word, if the first two members are a word and a reason
     changes: Tuple[Tuple[int, Change], ...]  # the places of words and bytes
-    make: Callable[..., Optional[Made]]  # of the values, if they are all right
+    make: Make  # of the values, if they are all right
 
 
 def shown(value: object) -> str:
@@ -89,27 +90,34 @@ ENTRY_TYPES: Dict[str, type] = {
 KNOWN_ENTRIES: Known = (("", "answers call moment phases released ticket", "charged expires place request"),)
 
 
-def with_maker(kind: Type[Any], fields: Dict[str, str], names: Tuple[str, ...], shape: Shape) -> Shape:
-    """The shape with what makes a tuple of this kind of the values of members, if they are all right. It is compiled,
-    as those of named tuples are: it is called for each object of a trace."""
-    known = {"new": functools.partial(tuple.__new__, kind), "MOST": MOST}
-    wanted = [f"type(v{place}) is {a_type.__name__}" for place, a_type in enumerate(shape.types)]
-    wanted += [f"0 <= v{place} < MOST" for place in shape.numbers]
-    for place, check in shape.checks:
-        wanted.append(f"check{place}(v{place})")
-        known[f"check{place}"] = check
-    if shape.reasons:
-        wanted.append("v1 in reasons[v0]")
-        known["reasons"] = shape.reasons
-    values = {fields.get(name, name): f"v{place}" for place, name in enumerate(names)}
-    for place, change in shape.changes:
-        known[f"change{place}"] = change
-        values[fields.get(names[place], names[place])] = f"change{place}(v{place})"
-    made = [values.get(field) or repr(kind._field_defaults[field]) for field in kind._fields]
-    arguments = ", ".join(f"v{place}" for place, _ in enumerate(names))
-    exec(f"def make({arguments}):\n    if {' and '.join(wanted)}:\n        return new(({', '.join(made)}))\n"
-         "    return None\n", known)
-    return shape._replace(make=cast(Callable[..., Optional[Made]], known["make"]))
+def maker(kind: Type[Any], fields: Dict[str, str], names: Tuple[str, ...], shape: Shape) -> Make:
+    """What makes a tuple of this kind of the values of members, if they are all right. It is called for each object of
+    a trace."""
+    types, numbers, checks, reasons, changes = shape.types, shape.numbers, shape.checks, shape.reasons, shape.changes
+    defaults = tuple(kind._field_defaults.get(field) for field in kind._fields)
+    places = {fields.get(name, name): place for place, name in enumerate(names)}
+    ordered = operator.itemgetter(*(places.get(field, len(names) + at) for at, field in enumerate(kind._fields)))
+    new: Any = functools.partial(tuple.__new__, kind)
+
+    def make(values: Tuple[Any, ...]) -> Optional[Made]:
+        if tuple(map(type, values)) != types:
+            return None
+        for place in numbers:
+            if not 0 <= values[place] < MOST:
+                return None
+        for place, check in checks:
+            if not check(values[place]):
+                return None
+        if reasons and values[1] not in reasons[values[0]]:
+            return None
+        if changes:
+            changed = list(values)
+            for place, change in changes:
+                changed[place] = change(changed[place])
+            values = tuple(changed)
+        made: Made = new(ordered(values + defaults))
+        return made
+    return make
 
 
 def members_of(known: Known, word: str) -> Dict[Tuple[str, ...], List[str]]:
@@ -135,11 +143,12 @@ def shapes_of(kind: Type[Any], types: Dict[str, type], word: str,
         if "reason" in names and reasons is None:
             checks["reason"] = SHUTDOWN_REASONS.__contains__
         shape = Shape(
-            [types[name] for name in names], tuple(place for place, name in enumerate(names) if types[name] is int),
+            tuple(types[name] for name in names),
+            tuple(place for place, name in enumerate(names) if types[name] is int),
             tuple((place, checks[name]) for place, name in enumerate(names) if types[name] is str and name in checks),
             reasons, tuple((place, CHANGES[name]) for place, name in enumerate(names) if name in CHANGES),
-            lambda *_: None)
-        yield names, with_maker(kind, fields, names, shape)
+            lambda _: None)
+        yield names, shape._replace(make=maker(kind, fields, names, shape))
 
 
 # By the names of the members in their order.

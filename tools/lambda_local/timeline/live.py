@@ -1,23 +1,21 @@
 """Follows a service that runs, and shows it on a page that updates itself (`served`)."""
 import http.client
-import itertools
 import signal
 import sys
 import threading
 from datetime import datetime, timezone
-from typing import Optional, Tuple
+from typing import Callable, Optional, Tuple
 from urllib.parse import urlsplit
 
 from ..history.opening import Configuration, read_configuration
-from ..history.running import Running
+from ..history.running import Lost, Running
 from ..history.script import FORM_2
 from ..program import Fault
 from .live_page import fragment
 from .recent import Recent
 from .served import Server
 
-PAUSE = 0.5  # seconds between two looks at the service
-AT_ONCE = 1000  # entries that are taken before a page may be made of them
+PAUSE = 2.0  # seconds before a service that has gone is looked for again
 SILENCE = 30  # seconds after which a service that does not answer has gone
 
 
@@ -56,6 +54,7 @@ class Live:
         self.lock, self.ended, self.version = threading.Lock(), threading.Event(), 0
         self.made: Optional[Tuple[int, str]] = None
         self.gone: Optional[str] = None  # since when the service does not answer, in words
+        self.fault: Optional[BaseException] = None  # by which the thread has ended
         try:
             self.begin()
         except Fault as fault:
@@ -63,38 +62,46 @@ class Live:
         except (OSError, http.client.HTTPException) as fault:
             raise Fault(2, f"--live {url}: no service answers there: {words_of(fault)}") from None
         self.thread = threading.Thread(target=self.follow, daemon=True)
+        self.when_broken: Callable[[], object] = self.ended.set
 
     def begin(self) -> None:
         """Begins anew with the service that answers now."""
         configuration = configuration_of(self.port)
-        self.follower = Running(self.port, configuration, timeout=SILENCE)
+        self.running = Running(self.port, len(configuration.owners), silence=SILENCE)
         with self.lock:
             self.recent = Recent(configuration, self.limit, self.shows_all)
             self.gone, self.version = None, self.version + 1
 
     def follow(self) -> None:
-        while not self.ended.wait(PAUSE if self.gone is None else 4 * PAUSE):
-            try:
-                if self.gone is not None:
-                    self.begin()
-                    say(f"{self.url} answers again: its history begins anew")
-                self.look()
-            except (OSError, http.client.HTTPException) as fault:
-                self.lose(words_of(fault))
-            except (Fault, ValueError) as fault:  # what answers there is none, or not any more
-                self.lose(str(fault))
+        """Takes what comes, one service after the other. A fault of this tool ends it."""
+        try:
+            while not self.ended.is_set():
+                try:
+                    self.take()
+                except (OSError, http.client.HTTPException) as fault:
+                    self.lose(words_of(fault))
+                except (Fault, Lost, ValueError) as fault:  # what answers there is none, or not any more
+                    self.lose(str(fault))
+                self.ended.wait(PAUSE)
+        except BaseException as fault:
+            self.fault = fault
+            self.when_broken()
 
-    def look(self) -> None:
-        """Takes what has come since the last look."""
-        stream = self.follower.stream()
-        while entries := list(itertools.islice(stream, AT_ONCE)):
+    def take(self) -> None:
+        """Takes what comes of one service, to its end."""
+        if self.gone is not None:
+            self.begin()
+            say(f"{self.url} answers again: its history begins anew")
+        if self.ended.is_set():
+            return
+        for entry in self.running.entries():
             with self.lock:
-                self.recent.take(entries)
+                self.recent.take(entry)
                 self.version += 1
+        self.lose("it was stopped")
 
     def lose(self, why: str) -> None:
-        self.follower.close()
-        if self.gone is None:
+        if self.gone is None and not self.ended.is_set():
             with self.lock:
                 self.gone, self.version = f"{datetime.now(timezone.utc):%H:%M:%SZ}: {why}", self.version + 1
             say(f"the service {self.url} has gone at {self.gone}")
@@ -108,8 +115,8 @@ class Live:
 
     def end(self) -> None:
         self.ended.set()
+        self.running.close()
         self.thread.join(SILENCE)
-        self.follower.close()
 
 
 def words_of(fault: BaseException) -> str:
@@ -125,6 +132,7 @@ def serve(url: str, limit: int, shows_all: bool) -> int:
     live = Live(url, limit, shows_all)
     server = Server(live)
     stopped = threading.Event()
+    live.when_broken = stopped.set
     for number in (signal.SIGINT, signal.SIGTERM, signal.SIGHUP):
         signal.signal(number, lambda *_: stopped.set())
     live.thread.start()
@@ -137,4 +145,6 @@ def serve(url: str, limit: int, shows_all: bool) -> int:
         server.shutdown()
         server.server_close()
         live.end()
+    if live.fault is not None:
+        raise live.fault
     return 0

@@ -1,6 +1,6 @@
 """The last calls of a service that runs, and what goes on around them: of bounded size, however long it runs."""
 from collections import deque
-from typing import Deque, List
+from typing import Deque
 
 from ..history.entries import Entry
 from ..history.opening import Configuration
@@ -9,7 +9,7 @@ from .window import Window
 from .world import World
 
 ENTRIES_OF_A_CALL = 4  # the most entries kept for each call that is shown: others may be hidden, or expiries
-TAKEN_AT_ONCE = 1000  # entries, before those that are not shown any more are dropped
+AT_ONCE = 1000  # entries are taken before those that are not shown any more are dropped
 
 
 class Recent:
@@ -19,18 +19,13 @@ class Recent:
         self.world = World(configuration, Window(shows_all=shows_all, spans=[self.kept]))
         self.tickets: Deque[int] = deque(maxlen=limit)
 
-    def take(self, entries: List[Entry]) -> None:
+    def take(self, entry: Entry) -> None:
         """Follows what has come."""
-        for n, entry in enumerate(entries, 1):
-            self.take_one(entry)
-            if n % TAKEN_AT_ONCE == 0:
-                self.forget()
-        self.forget()
-
-    def take_one(self, entry: Entry) -> None:
         call = self.world.take(entry)
         if call is not None and not call.hidden:
             self.tickets.append(call.ticket)
+        if entry.ticket % AT_ONCE == 0:
+            self.forget()
 
     def forget(self) -> None:
         """Drops what lies before the calls that are shown."""
@@ -39,6 +34,7 @@ class Recent:
 
     def drawing(self) -> Drawing:
         """What there is now, with what still goes on."""
+        self.forget()
         drawing = self.kept.copied(Drawing(self.configuration))
         drawing.links = True
         self.world.finish(Window(shows_all=self.shows_all, spans=[drawing]))

@@ -6,7 +6,7 @@ from ..history.entries import Entry
 from ..history.script import FORM_2, Script
 from ..history.words import EXPIRE, INVOKE, REGISTER, RESERVE, STOP, WITHDRAW
 from ..program import Fault
-from ..reasons import CALLS, sentence
+from ..reasons import CALLS, of_call
 from .words import call_words
 
 CALL = re.compile(rb"(0|[1-9][0-9]{0,15}) ([a-z-]+)(?: (.*))?", re.DOTALL)
@@ -39,7 +39,7 @@ def calls_of(script: Script) -> Iterator[Line]:
         if line and not line.startswith(b"#"):
             found = CALL.fullmatch(line)
             if not found or found[2].decode() not in CALLS:
-                raise Fault(2, f"{script.name}: {sentence(f'script: line {number}', script.line)}")
+                raise Fault(2, f"{script.name}: {of_call(number, script.line)}")
             yield Line(number, int(found[1]), found[2].decode(), found[3] or b"")
 
 

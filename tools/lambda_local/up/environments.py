@@ -177,7 +177,6 @@ class Environment(threading.Thread):
         if limit is None:
             self.say("may stop in its Init as long as it likes until it is invoked")
         while not self.stopping.is_set():
-            self.watch.refresh()
             if self.watch.environment(self.number).generation.poll is not None:
                 return True
             if runtime.ended(0.1):
@@ -275,8 +274,9 @@ class Environment(threading.Thread):
         if asks:
             ask(self.port, "GET", EXTENSION + "event/next", headers=self.me())
         generation = self.watch.generation(self.number, self.identifier)
-        while generation and not generation.is_over and time.time() < deadline + 0.005 and not self.stopping.wait(0.02):
-            generation = self.watch.generation(self.number, self.identifier)
+        if generation:
+            closing = generation
+            self.watch.until(lambda: closing.is_over or self.stopping.is_set(), deadline + 0.005 - time.time())
         if generation and generation.report:
             self.pause.last_report = generation.report
         elif generation and not generation.is_ready:

@@ -2,8 +2,8 @@
 invocation.
 
 What an environment's processes print is shown as it comes, and START before what is the first invocation's own. The
-next one's START waits until the history says that the one before has ended, which is known a tenth of a second later:
-its END and REPORT come first."""
+next one's START waits until the history says that the one before has ended, which is known a moment later: its END and
+REPORT come first."""
 import threading
 import time
 from collections import deque
@@ -131,8 +131,8 @@ class InvocationReport(threading.Thread):
         else:
             self.log(who, text, level, kind, always, **members)
 
-    def know(self, _moment: float) -> None:
-        """The history has been read as far as it is written."""
+    def know(self) -> None:
+        """All that an entry tells was told."""
         with self.changed:
             self.told += self.coming
             self.coming = []
@@ -196,7 +196,7 @@ class InvocationReport(threading.Thread):
             self.changed.notify_all()
         if self.ident is not None:
             self.join(PATIENCE)
-        self.know(0.0)
+        self.know()
         self.place()
         for held in self.held.values():
             self.show(held)

@@ -8,7 +8,7 @@ from ..service import Service, ask
 from .environments import Environment
 from .watch import Watch
 
-# Seconds between two looks at the history, if there are environments that may have to be started.
+# Seconds between two looks, if there are environments that may have to be started.
 BETWEEN_LOOKS = 0.03
 Work = Tuple[life.Generation, int]  # with how many invocations it was given
 

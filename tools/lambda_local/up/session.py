@@ -22,6 +22,7 @@ from .invocation_log import Invocations, Tails
 from .invocation_report import InvocationReport
 from .lines import Lines
 from .log import OUTPUT, Log
+from .looks import Looks
 from .members import load
 from .queues import pollers_of
 from .reload import Reload
@@ -70,7 +71,8 @@ class Session:
         self.service = Service(configuration, options.program, lambda line: log("service", line, kind="service"),
                                options.up)
         self.is_served = True
-        self.watch = Watch(self.service, log, self.stopping)
+        self.watch = Watch(self.service, log)
+        self.looks = Looks(self.watch, self.stopping)
         self.printed = {number: Printed() for number in self.watch.life.environments}
         invocations = self.make_invocations()
         self.watch.followers.append(invocations.take)
@@ -81,15 +83,13 @@ class Session:
         self.front.serve(self.service, Tails(invocations, self.watch),
                          self.sidecars.serve(self.service.configuration, self.printed), self.sidecars.streams)
         self.environments = list(self.make_environments())
-        self.watch.hooks.append(Unnamed(self.watch.life.environments.values(), lambda name, line: log(
+        self.looks.hooks.append(Unnamed(self.watch.life.environments.values(), lambda name, line: log(
             name, f"-- {line}", level="warning", kind="init")).look)
-        self.watch.hooks += [environment.answer_callers for environment in self.environments]
+        self.looks.hooks += [environment.answer_callers for environment in self.environments]
         if any(environment.is_extra for environment in self.environments):
-            self.watch.hooks.append(Scaling(self.environments, self.watch, self.service).look)
-            self.watch.between_looks = BETWEEN_LOOKS
-        if self.report:
-            self.watch.between_looks = BETWEEN_LOOKS
-        self.threads: List[threading.Thread] = [self.watch, *self.environments]
+            self.looks.hooks.append(Scaling(self.environments, self.watch, self.service).look)
+            self.looks.between = BETWEEN_LOOKS
+        self.threads: List[threading.Thread] = [self.watch, self.looks, *self.environments]
         self.clients, self.ending = surroundings.Clients(log, self.stopping), threading.Event()
         self.sources: List[threading.Thread] = [
             Schedules(list(front.functions), self.service, self.ending, log),
@@ -114,7 +114,7 @@ class Session:
             for number, environment in here.items():
                 invocations.measure(number, environment.generation.is_ready)
         invocations = Invocations({function.name: function for function in self.functions}, self.printed, numbers)
-        self.watch.hooks.append(measure)
+        self.looks.hooks.append(measure)
         return invocations
 
     def make_report(self, invocations: Invocations) -> InvocationReport:
@@ -217,7 +217,6 @@ class Session:
         """Whether all that is waited for is ready before time is over or something else happens."""
         begun, tell_at = time.monotonic(), 2
         while not self.happened.wait(0.05):
-            self.watch.refresh()
             (late, awaited), passed = self.late(), time.monotonic() - begun
             if not awaited:
                 self.say(f"ready but for {self.names(late)}" if late else "ready", kind="ready",
@@ -293,6 +292,7 @@ class Session:
         if (self.options.history or self.options.command and failed) and not gone:
             self.step("saving the history", self.save)
         self.stopping.set()
+        self.watch.wake()
         for environment in self.environments:
             environment.wake()
         status, counts = self.step("the stop", self.service.stop) or (4, "")

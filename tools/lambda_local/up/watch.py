@@ -1,26 +1,24 @@
-"""Follows the service's history while lambda_local up runs: for its lines, and for what environments ask about
+"""Follows what goes on in the account while lambda_local up runs: for its lines, and for what environments ask about
 themselves."""
 import contextlib
-import errno
 import http.client
 import threading
 import time
-from typing import Callable, Iterator, List, Optional, Set
+from collections import Counter
+from typing import Callable, Counter as Counts, Iterator, List, Optional, Set
 
 from ..history.entries import Entry
-from ..history.opening import Configuration
-from ..history.running import Running
+from ..history.running import Lost, NoDescriptor, Running
+from ..history.shapes import NotTrace
 from ..history.words import FAILURES
 from ..life import Begun, Closes, Ended, Environment, Event, Generation, Life
 from ..service import Service
-from . import memory
-from .invocation_lines import now
 from .lines import Lines
 from .log import Log
 from .supervised import told
 
-NEARLY_FULL = 0.9
-NO_DESCRIPTOR = (errno.EMFILE, errno.ENFILE)
+PAUSES = (0.0, 0.05, 0.1, 0.2, 0.4, 1.0)  # seconds before the service is asked again, as long as no entry comes
+UP_TO_DATE = 30.0  # seconds within which what the service has is to be here
 
 
 def what(event: Event) -> str:
@@ -35,66 +33,70 @@ def what(event: Event) -> str:
 
 
 class Watch(threading.Thread):
-    def __init__(self, service: Service, log: Log, stopping: threading.Event) -> None:
+    """Takes the entries as they come, until the service is Off or has ended."""
+
+    def __init__(self, service: Service, log: Log) -> None:
         super().__init__(name="watch", daemon=True)
-        self.service, self.log, self.stopping = service, log, stopping
+        self.service, self.log = service, log
         self.lines = Lines(log, ())
         self.life, self.lock = Life(service.configuration), threading.RLock()
-        self.follower = Running(service.port, Configuration(service.configuration))
-        self.most = service.configuration.get("maxEntries", 1_000_000)
+        self.running = Running(service.port, len(self.life.environments))
+        self.has_news = threading.Event()  # an entry has come, for those who look again and again
+        self.changed = threading.Condition(self.lock)  # the same, for those who wait for one
+        self.is_lost = False  # the service does not answer: it is asked again
         self.warnings: Set[str] = set()
-        self.hooks: List[Callable[[], None]] = []
-        self.mute: Optional[int] = None  # the number of an environment
-        self.look_at = 0.0
-        self.between_looks = 0.1  # seconds
+        self.mute: Counts[int] = Counter()  # by the numbers of environments
         self.followers: List[Callable[[Event], None]] = []  # that are given each event
-        # That are told up to which moment, in milliseconds, all events were given
-        self.readers: List[Callable[[float], None]] = []
+        self.readers: List[Callable[[], None]] = []  # that are notified once all events of an entry were given
 
     def run(self) -> None:
-        took = 0.0
-        # A service that gives its whole history each time is asked seldom enough.
-        while not self.stopping.wait(max(self.between_looks, 10 * took)):
-            begun = time.monotonic()
-            self.refresh()
-            took = time.monotonic() - begun
-            for hook in self.hooks:
-                self._call(hook)
+        in_vain = 0
+        while True:
+            before, self.is_lost = self.running.next, False
+            try:
+                for entry in self.running.entries():
+                    self._come(entry)
+                break
+            except (Lost, NotTrace, MemoryError) as fault:
+                in_vain = 0 if self.running.next > before else min(in_vain + 1, len(PAUSES) - 1)
+                self._lose(fault, in_vain)
+            time.sleep(PAUSES[in_vain])
+            if self.service.process.poll() is not None:
+                break
+        self._lose(None, 0)
 
-    def _call(self, hook: Callable[[], None]) -> None:
-        try:
-            hook()
-        except (OSError, http.client.HTTPException):
-            pass  # (a service that has just ended answers no one)
-        except Exception as fault:
-            self._tell(fault, "could not answer a caller in a pause")
+    def _come(self, entry: Entry) -> None:
+        with self.lock:
+            self._take(entry)
+            for reader in self.readers:
+                reader()
+            self.changed.notify_all()
+        self.has_news.set()
+
+    def _lose(self, fault: Optional[Exception], in_vain: int) -> None:
+        """No entry comes any more, or until the service has been asked again. A service that has just ended answers no
+        one: of that others tell."""
+        if isinstance(fault, NoDescriptor):
+            self.warn("descriptors", "there is no descriptor to read the history by (ulimit -n): what happens is told "
+                                     "once there is one", "error")
+        elif isinstance(fault, (NotTrace, MemoryError)):
+            self.warn("read", f"the service's history cannot be read: {told(fault)}", "error")
+        elif in_vain == len(PAUSES) - 1:
+            self.warn("lost", f"the service does not give its history: {fault}: it is asked again until it does",
+                      "error")
+        with self.lock:
+            self.is_lost = True
+            self.changed.notify_all()
+
+    def warn(self, name: str, text: str, level: str) -> None:
+        """A line about the history, once for each name."""
+        if name not in self.warnings:
+            self.warnings.add(name)
+            self.log("up", text, level=level, kind="history")
 
     def _tell(self, fault: BaseException, what: str) -> None:
         """A fault in one event, which is reported with it: the next one is taken."""
         self.log("up", f"{what}: {told(fault)}", level="error", kind="fault")
-
-    def refresh(self) -> None:
-        """Takes what has come since the last time. If the service does not answer, the next time does."""
-        with self.lock:
-            begun = now()
-            self._look_at_memory()  # (first: a service without memory may not give its history)
-            try:
-                entries = self.follower.read()
-            except (OSError, http.client.HTTPException) as fault:
-                if isinstance(fault, OSError) and fault.errno in NO_DESCRIPTOR:
-                    self._warn("descriptors", "there is no descriptor to read the history by (ulimit -n): what happens "
-                                              "is told once there is one", "error")
-                return
-            except MemoryError as fault:  # (what has come may be shorter the next time)
-                return self._warn("memory", f"there is no memory for what the history has now: {told(fault)}", "error")
-            except ValueError as fault:
-                return self._warn("read", f"the service's history cannot be read: {told(fault)}", "error")
-            for entry in entries:
-                self._take(entry)
-            for reader in self.readers:
-                reader(begun)
-            self.lines.tell_throttled()
-            self._look_at_room()
 
     def _take(self, entry: Entry) -> None:
         try:
@@ -111,46 +113,41 @@ class Watch(threading.Thread):
             except Exception as fault:
                 self._tell(fault, f"could not write the line of {what(event)}")
 
+    # ---- what others ask ---------------------------------------------------------------------------------------------
+
+    def until(self, holds: Callable[[], bool], seconds: float) -> None:
+        """Waits until this holds, at most so long, and not while the service does not answer. It is asked after each
+        entry."""
+        with self.changed:
+            self.changed.wait_for(lambda: holds() or self.is_lost, seconds)
+
+    def wake(self) -> None:
+        """Those who wait are to look again: something else has happened."""
+        self.has_news.set()
+        with self.changed:
+            self.changed.notify_all()
+
+    def refresh(self) -> None:
+        """Waits until what the service has by now is here. If it does not answer, that is as it was."""
+        with contextlib.suppress(OSError, http.client.HTTPException, ValueError, KeyError):
+            count = self.service.stats()["entries"]
+            self.until(lambda: self.running.next >= count, UP_TO_DATE)
+
     @contextlib.contextmanager
     def muted(self, environment: int) -> Iterator[None]:
         """What this would report about the environment is reported elsewhere."""
+        self.refresh()
         with self.lock:
+            self.mute[environment] += 1
+        try:
+            yield
             self.refresh()
-            self.mute = environment
-            try:
-                yield
-                self.refresh()
-            finally:
-                self.mute = None
+        finally:
+            with self.lock:
+                self.mute[environment] -= 1
 
     def _is_muted(self, event: Event) -> bool:
-        return isinstance(event, Closes) and event.kind in FAILURES and event.environment.number == self.mute
-
-    def _look_at_room(self) -> None:
-        """Room for a stop is kept back: each environment may expire before it, and once more at it."""
-        count, kept = self.follower.next, 2 * (len(self.life.environments) + 1)
-        if count > self.most - kept:
-            self._warn("full", f"the history is full ({count} entries): every call is answered 500 `Journal is full`; "
-                               "stop, or write a higher maxEntries into UP.json", "error")
-        elif count >= NEARLY_FULL * self.most:
-            self._warn("nearly", f"the history has {count} of its {self.most} entries: once it is full every call is "
-                                 "answered 500; write a higher maxEntries into UP.json", "warning")
-
-    def _look_at_memory(self) -> None:
-        """Once a second, since asking costs some files."""
-        now = time.monotonic()
-        if now < self.look_at:
-            return
-        self.look_at = now + 1
-        for use in memory.uses(self.service.process.pid):
-            if use.used >= NEARLY_FULL * use.allowed:
-                self._warn(use.by, f"{use.used >> 20} MB of {use.allowed >> 20} MB are used of {use.by}: events and "
-                                   "the history take memory; stop, or allow more", "warning")
-
-    def _warn(self, name: str, text: str, level: str) -> None:
-        if name not in self.warnings:
-            self.warnings.add(name)
-            self.log("up", text, level=level, kind="history")
+        return isinstance(event, Closes) and event.kind in FAILURES and self.mute[event.environment.number] > 0
 
     def environment(self, number: int) -> Environment:
         return self.life.environments[number]
@@ -158,8 +155,8 @@ class Watch(threading.Thread):
     def generation(self, number: int, identifier: Optional[str]) -> Optional[Generation]:
         """The generation of this environment in which an extension is registered, as it is now; none if it is not
         known."""
+        self.refresh()
         with self.lock:
-            self.refresh()
             return self.environment(number).of(identifier) if identifier is not None else None
 
     def waiting(self, function: str) -> List[int]:

@@ -39,6 +39,7 @@ pub enum Question {
     Stats,
     Reservation(FnNo),
     Render(Ticket),
+    Environments,
     Opening,
     History(Ticket),
 }
@@ -52,7 +53,8 @@ pub enum Said {
     Stats(Stats),
     Reservation(Option<u32>),
     Reply(Result<Option<Reply>, AllocError>),
-    Opening(Result<Vec<u8>, AllocError>),
+    /// A text: that of the environments, or of the opening.
+    Text(Result<Vec<u8>, AllocError>),
     Entry(Result<Option<Vec<u8>>, AllocError>),
     /// The configuration has no such function.
     NoFunction,
@@ -154,7 +156,8 @@ impl<R: Wait, S: Identity> Place<R, S> {
             Question::Stats => Said::Stats(account.stats(rt, token)),
             Question::Reservation(function) => self.reservation(token, function),
             Question::Render(ticket) => Said::Reply(account.render(rt, token, ticket)),
-            Question::Opening => Said::Opening(account.opening(rt)),
+            Question::Environments => Said::Text(account.environments(rt, token)),
+            Question::Opening => Said::Text(account.opening(rt)),
             Question::History(ticket) => Said::Entry(account.history(rt, token, ticket)),
         }
     }

@@ -104,9 +104,10 @@ fn push_looks<P: Stand>(stand: &mut P, given: &mut Given) {
 }
 
 /// The questions without a number.
-const PLAIN: [(&str, Question); 3] = [
+const PLAIN: [(&str, Question); 4] = [
     ("life", Question::Life),
     ("stats", Question::Stats),
+    ("environments", Question::Environments),
     ("opening", Question::Opening),
 ];
 

@@ -81,8 +81,8 @@ fn push_text(given: &mut Given, text: &Vec<u8>) {
     given.push_bytes(text.as_slice());
 }
 
-/// Adds the text of an opening.
-fn push_opening(given: &mut Given, text: &Result<Vec<u8>, AllocError>) {
+/// Adds a text, if there was memory for it.
+fn push_whole(given: &mut Given, text: &Result<Vec<u8>, AllocError>) {
     match text {
         Ok(text) => push_text(given, text),
         Err(_) => given.cut(),
@@ -110,7 +110,7 @@ pub fn push_said(given: &mut Given, said: &Said) {
         }
         Said::Reservation(count) => push_shown(given, count),
         Said::Reply(reply) => push_reply(given, reply),
-        Said::Opening(text) => push_opening(given, text),
+        Said::Text(text) => push_whole(given, text),
         Said::Entry(text) => push_entry(given, text),
         Said::NoFunction => given.push(" no function\n"),
     }

@@ -1,7 +1,7 @@
 //! A service that is not an account, and behaves as a case says.
 
 use account_book::Refusal;
-use account_lock::{Account, Bell, Declined, Identity, Look, Refused};
+use account_lock::{Account, Bell, Identity, Look, NotTaken, Refused};
 use arn_ids::FnNo;
 use call_model::{Answer, Call, Stats, Ticket};
 use case_tables::Given;
@@ -23,7 +23,7 @@ pub enum Mood {
     Refuses,
     /// They wait, and their bells are lost.
     LosesBells,
-    /// The first calls, up to this number, are premature when offered; the others are answered.
+    /// The first calls, up to this number, are premature; the others are answered.
     Answers(u64),
 }
 
@@ -33,7 +33,7 @@ pub enum Mood {
 pub struct Board<S: Identity> {
     alloc: Global,
     mood: Mood,
-    offered: AtomicU64,
+    attempts: AtomicU64,
     submitted: AtomicU64,
     last: AtomicU64,
     account: Account<S, OneShotBell>,
@@ -45,7 +45,7 @@ impl<S: Identity> Board<S> {
         Board {
             alloc,
             mood,
-            offered: AtomicU64::new(0),
+            attempts: AtomicU64::new(0),
             submitted: AtomicU64::new(0),
             last: AtomicU64::new(0),
             account,
@@ -54,8 +54,8 @@ impl<S: Identity> Board<S> {
 
     /// Adds the calls that came.
     pub fn push_noted(&self, given: &mut Given) {
-        given.print(&self.offered.load(SeqCst));
-        given.push(" offered, ");
+        given.print(&self.attempts.load(SeqCst));
+        given.push(" attempted, ");
         given.print(&self.submitted.load(SeqCst));
         given.push(" submitted, the last at ");
         given.print(&self.last.load(SeqCst));
@@ -84,6 +84,8 @@ impl<S: Identity> Board<S> {
 }
 
 impl<S: Identity> Service<KeepNone, S> for Board<S> {
+    type Trail = Ticket;
+
     ghost serves = { λ _. S.config };
 
     ghost submits = { λ _ _ _ _ _ _ _ _ _. Unit {0} };
@@ -97,6 +99,16 @@ impl<S: Identity> Service<KeepNone, S> for Board<S> {
     ghost opens = { λ _ _. Unit {0} };
 
     ghost tells = { λ _ _ _ _ _. Unit {0} };
+
+    ghost begins = { λ _ _. Unit {0} };
+
+    ghost traces = { λ _ _ _ _ _. Unit {0} };
+
+    ghost passes = { λ _ _ _ _. Unit {0} };
+
+    ghost closes = { λ _ _ _ _. Unit {0} };
+
+    ghost lists = { λ _ _ _ _. Unit {0} };
 
     ghost counts = { λ _ _ _ _. Unit {0} };
 
@@ -115,7 +127,7 @@ impl<S: Identity> Service<KeepNone, S> for Board<S> {
         self.take(rt, now, bell)
     }
 
-    fn offer<R: Wait>(
+    fn submit_unless_premature<R: Wait>(
         &self,
         rt: &R,
         _tally: &mut Tally<KeepNone, S>,
@@ -123,14 +135,14 @@ impl<S: Identity> Service<KeepNone, S> for Board<S> {
         now: u64,
         call: Call,
         bell: Option<OneShotBell>,
-    ) -> Result<(Ticket, Token<S>), Declined<OneShotBell>> {
-        let before = self.offered.fetch_add(1, SeqCst);
+    ) -> Result<(Ticket, Token<S>), NotTaken<OneShotBell>> {
+        let before = self.attempts.fetch_add(1, SeqCst);
         if matches!(self.mood, Mood::Answers(count) if before < count) {
-            return Err(Declined::Premature { call, bell });
+            return Err(NotTaken::Premature { call, bell });
         }
         match self.take(rt, now, bell) {
             Ok(taken) => Ok(taken),
-            Err(refused) => Err(Declined::Refused(refused)),
+            Err(refused) => Err(NotTaken::Refused(refused)),
         }
     }
 
@@ -177,6 +189,38 @@ impl<S: Identity> Service<KeepNone, S> for Board<S> {
             0 | 1 => Ok(Some(String::from_str(self.alloc, "an entry\n")?.into_bytes())),
             _ => Ok(None),
         }
+    }
+
+    fn trail<R: Wait>(&self, _rt: &R, _alloc: Global) -> Result<Ticket, AllocError> {
+        Ok(0)
+    }
+
+    fn trace<R: Wait>(
+        &self,
+        rt: &R,
+        trail: &mut Ticket,
+        _bodies: bool,
+    ) -> Result<Option<Vec<u8>>, AllocError> {
+        if self.pass(rt, trail) {
+            return Ok(Some(
+                String::from_str(self.alloc, "{\"an\":\"entry\"}\n")?.into_bytes(),
+            ));
+        }
+        Ok(None)
+    }
+
+    fn pass<R: Wait>(&self, _rt: &R, trail: &mut Ticket) -> bool {
+        let is_there = *trail < 2;
+        *trail += u64::from(is_there);
+        is_there
+    }
+
+    fn is_off<R: Wait>(&self, _rt: &R, _trail: &mut Ticket) -> bool {
+        true
+    }
+
+    fn environments<R: Wait>(&self, _rt: &R, _token: &mut Token<S>) -> Result<Vec<u8>, AllocError> {
+        Ok(String::from_str(self.alloc, "{\"environments\":[]}")?.into_bytes())
     }
 
     fn stats<R: Wait>(&self, _rt: &R, _token: &mut Token<S>) -> Stats {

@@ -69,7 +69,7 @@ fn with_memory<H: Drop, L: Ledgers>(
 fn reply_of<H: Drop, L: Ledgers>(line: u64, outcome: Outcome<H, L>) -> Result<Reply, CaseFault> {
     match outcome {
         Outcome::Reply(reply, _token) => Ok(reply),
-        Outcome::History(_) => Err(malformed(line, "three that have a reply are wanted")),
+        Outcome::History(_) | Outcome::Trace(_) => Err(malformed(line, "three that have a reply are wanted")),
     }
 }
 
@@ -172,21 +172,21 @@ fn push_fault(given: &mut Given, fault: ExchangeFault) {
     }
 }
 
-/// Adds the outcome of an exchange. Returns the history, if that is the outcome.
+/// Adds the outcome of an exchange. Returns the history or its trace, if that is the outcome.
 fn push_came<H: Drop, L: Ledgers>(
     given: &mut Given,
     came: Result<Outcome<H, L>, ExchangeFault>,
 ) -> Option<H> {
     match came {
         Ok(Outcome::Reply(reply, _token)) => push_answer(given, &reply),
-        Ok(Outcome::History(history)) => return Some(history),
+        Ok(Outcome::History(body) | Outcome::Trace(body)) => return Some(body),
         Err(fault) => push_fault(given, fault),
     }
     None
 }
 
-/// Makes an exchange, or drops it as soon as it waits, and adds its outcome. Returns the history,
-/// if that is the outcome.
+/// Makes an exchange, or drops it as soon as it waits, and adds its outcome. Returns the history
+/// or its trace, if that is the outcome.
 pub fn push_made<
     R: Wait + RandomSource + AllocGlobal,
     H: Drop,

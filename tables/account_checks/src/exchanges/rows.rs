@@ -63,13 +63,15 @@ enum Asked {
     Withdraw,
     Stats,
     History(Option<Ticket>),
+    Trace(Ticket, bool),
+    Environments,
     Reservation,
     Echo,
     Length,
 }
 
 /// What each path asks for; any other path asks for the body's length.
-const PATHS: [(&str, Asked); 10] = [
+const PATHS: [(&str, Asked); 15] = [
     ("/next", Asked::Next),
     ("/invoke", Asked::Invoke),
     ("/response", Asked::Response),
@@ -78,6 +80,11 @@ const PATHS: [(&str, Asked); 10] = [
     ("/history", Asked::History(None)),
     ("/history/1", Asked::History(Some(1))),
     ("/history/9", Asked::History(Some(9))),
+    ("/trace", Asked::Trace(0, false)),
+    ("/trace/1", Asked::Trace(1, false)),
+    ("/trace/9", Asked::Trace(9, false)),
+    ("/trace/followed", Asked::Trace(0, true)),
+    ("/environments", Asked::Environments),
     ("/reservation", Asked::Reservation),
     ("/echo", Asked::Echo),
 ];
@@ -190,6 +197,12 @@ impl<S: Identity> Decide for Rows<S> {
             Asked::Withdraw => Ok(Decision::Submit(Call::Withdraw { ticket: 0 })),
             Asked::Stats => Ok(Decision::Show(Shown::Stats)),
             Asked::History(from) => Ok(Decision::Show(Shown::History { from })),
+            Asked::Trace(from, follow) => Ok(Decision::Show(Shown::Trace {
+                from,
+                follow,
+                bodies: true,
+            })),
+            Asked::Environments => Ok(Decision::Show(Shown::Environments)),
             Asked::Reservation => Ok(Decision::Show(Shown::Reservation { function: 1 })),
             Asked::Echo => self.replied(echo_of(alloc, body)),
             Asked::Length => self.replied(length_of(alloc, body)),

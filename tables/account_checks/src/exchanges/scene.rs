@@ -16,10 +16,10 @@ use account_lock::Identity;
 use call_model::Answer;
 use case_tables::{Case, CaseFault, Given, Part, value_of};
 use http_body_util::BodyExt;
-use lambda_wire::{HeaderMaps, Reply};
+use lambda_wire::{HeaderMaps, LongScratches, Reply};
 use long_poll::{
-    Alarm, Beat, BellLost, Connection, Exchange, Heard, HistoryBody, Line, OneShotBell, OpenPoll,
-    Poll, Service, declares_too_long,
+    Alarm, Beat, BellLost, Connection, Exchange, Heard, Line, OneShotBell, OpenPoll, Poll, Service,
+    StreamedBody, declares_too_long,
 };
 use std::alloc::{AllocError, AllocGlobal, Global};
 use std::random::RandomSource;
@@ -130,8 +130,12 @@ impl<
         let own = self.shared.again()?;
         let token = own.service.token(&self.rt);
         let maps = arc_of(self.alloc, HeaderMaps::open(self.alloc)?)?;
-        let beat = arc_of(self.alloc, Beat::new(arc_of(self.alloc, Alarm::new())?))?;
+        let beat = arc_of(
+            self.alloc,
+            Beat::new(self.alloc, arc_of(self.alloc, Alarm::new())?),
+        )?;
         let line = arc_of(self.alloc, Line::new(self.alloc))?;
+        let long = arc_of(self.alloc, LongScratches::new(self.alloc))?;
         let connection = Connection::new(
             self.rt,
             self.alloc,
@@ -145,6 +149,7 @@ impl<
             line,
             None,
             maps,
+            long,
             self.patience,
         );
         arc_of(self.alloc, connection)
@@ -178,9 +183,13 @@ impl<
         }
     }
 
-    /// Adds the history.
-    fn push_history(&self, given: &mut Given, history: HistoryBody<R, X, KeepNone, S>) {
-        push_collected(given, finished(&self.rt, history.collect(self.alloc)));
+    /// Adds the history, or its trace.
+    fn push_streamed(
+        &self,
+        given: &mut Given,
+        body: StreamedBody<R, X, X::Trail, KeepNone, S>,
+    ) {
+        push_collected(given, finished(&self.rt, body.collect(self.alloc)));
     }
 
     /// Makes the request of a line, or drops it as soon as it waits, and adds its outcome.
@@ -193,8 +202,8 @@ impl<
         given: &mut Given,
     ) -> Result<(), CaseFault> {
         let exchange = self.exchange(line, text, open)?;
-        if let Some(history) = push_made(&self.rt, exchange, drops, given) {
-            self.push_history(given, history);
+        if let Some(body) = push_made(&self.rt, exchange, drops, given) {
+            self.push_streamed(given, body);
         }
         Ok(())
     }

@@ -117,11 +117,29 @@ fn push_history(from: Option<Ticket>, given: &mut Given) {
     }
 }
 
+/// Adds that the trace is shown, the ticket it starts at, and how.
+fn push_trace(from: Ticket, follow: bool, bodies: bool, given: &mut Given) {
+    given.push("show trace from ");
+    given.print(&from);
+    if follow {
+        given.push(" followed");
+    }
+    if !bodies {
+        given.push(" without bodies");
+    }
+}
+
 /// Adds what is shown.
 fn push_shown(shown: Shown, given: &mut Given) {
     match shown {
         Shown::Stats => given.push("show stats"),
         Shown::History { from } => push_history(from, given),
+        Shown::Trace {
+            from,
+            follow,
+            bodies,
+        } => push_trace(from, follow, bodies, given),
+        Shown::Environments => given.push("show environments"),
         Shown::Reservation { function } => {
             given.push("show reservation ");
             given.print(&function);

@@ -11,6 +11,7 @@ from ...service import EXTENSION, RUNTIME, ask
 from ..clock import CLOCK
 from ..kit import Jury, Missing, Scenario
 from ..exchanges import Exchange, Rule
+from ..parked import parked
 from ..stage import SILENT, Answer, Event, Stage, Tools, shown
 from ..watch import OwnTime
 from .delivery import NothingListens, end_of, subscribed
@@ -253,7 +254,7 @@ class ExtensionStage(Stage):
         """Waits until the runtime and the extension wait."""
         own, end = OwnTime(self.environment.process.number), CLOCK.now() + SILENT
         while True:
-            runtimes, extensions = self.parked.read()
+            runtimes, extensions = parked(self.service.port)
             if runtimes and extensions.get(1, 0) >= (2 if self.companion else 1):
                 return
             polls = self.environment.proxy.of("event")

@@ -3,4 +3,4 @@ use Rattle.http_routes.proofs.routes.add_local.Goals as goal
 
 pub returns : goal.returns
 unfolding with_local_rows
-returns c = rw (c.in_ok-add-3.ensures, c.in_ok-add-2.ensures, c.in_ok-add.ensures) at c.add-4.ensures
+returns c = rw (c.in_ok-add-2.ensures, c.in_ok-add.ensures) at c.add_views.ensures

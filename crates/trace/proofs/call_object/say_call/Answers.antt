@@ -7,7 +7,7 @@ returns-in-RuntimeNext c = rw c.in-RuntimeNext.is c.say_environment.ensures
 
 pub returns-in-Response : goal.returns-in-Response
 unfolding call_object
-returns-in-Response c = rw c.in-Response.is (rw c.as_slice-in-Response.ensures at c.say_report.ensures)
+returns-in-Response c = rw c.in-Response.is c.say_report.ensures
 
 pub returns-in-ResponseTooLarge : goal.returns-in-ResponseTooLarge
 unfolding call_object
@@ -19,11 +19,11 @@ returns-in-ExtNext c = rw c.in-ExtNext.is c.say_counted-in-ExtNext.ensures
 
 pub returns-in-ExtInitFailure : goal.returns-in-ExtInitFailure
 unfolding call_object
-returns-in-ExtInitFailure c = rw c.in-ExtInitFailure.is (rw c.as_slice-bytes.ensures at c.say_report-in-ExtInitFailure.ensures)
+returns-in-ExtInitFailure c = rw c.in-ExtInitFailure.is c.say_report-in-ExtInitFailure.ensures
 
 pub returns-in-ExtExitFailure : goal.returns-in-ExtExitFailure
 unfolding call_object
-returns-in-ExtExitFailure c = rw c.in-ExtExitFailure.is (rw c.as_slice-bytes-in-ExtExitFailure.ensures at c.say_report-in-ExtExitFailure.ensures)
+returns-in-ExtExitFailure c = rw c.in-ExtExitFailure.is c.say_report-in-ExtExitFailure.ensures
 
 pub returns-in-Expire : goal.returns-in-Expire
 unfolding call_object

@@ -1,7 +1,7 @@
 use Rattle.std.proofs.lemmas.List.{length-reverse}
 use Rattle.std.proofs.lemmas.Result.{on_ok_weaker}
-use Rattle.trace_replay.proofs.Fit.{fit_reached, fit_reversed}
-use Rattle.trace_replay.proofs.Lines.{line_added}
+use Rattle.account_book.proofs.Fitting.{fit_reached, fit_reversed}
+use Rattle.trace_replay.proofs.Lines.{line_added, line_of}
 use Rattle.trace_replay.proofs.history.push_line.Goals as goal
 
 pub follow-requires-clause-few : goal.follow-requires-clause-few
@@ -14,5 +14,7 @@ follow-requires-clause-fit c =
 
 pub returns-clause-ok : goal.returns-clause-ok
 returns-clause-ok c =
-    let added = rw (c.config-2.ensures, c.salt.ensures) at c.push_object.ensures.ok in
-    on_ok_weaker c.push_object.result (line_added c.args.bodies c.args.book.now c.entries.result.now.0 c.args.ticket _ _ c.entries.ensures c.requires.there) added
+    let drafted = rw (c.config-2.ensures, c.salt.ensures) at c.in_ok-object.ensures in
+    on_ok_weaker c.push_to.result
+    (λ added. line_added c.args.bodies c.args.book.now c.entries.result.now.0 c.args.ticket _ _ c.entries.ensures c.requires.there (λ d. line_of _ _ _ _ _ _ _ _ _ (drafted d) added))
+    c.push_to.ensures.ok

@@ -1,4 +1,4 @@
-use Rattle.trace_replay.proofs.Fit.{fit_reached}
+use Rattle.account_book.proofs.Fitting.{fit_reached}
 use Rattle.trace_replay.proofs.laws.fit.Goals as goal
 
 pub returns : goal.returns

@@ -1,9 +1,9 @@
-use Rattle.std.proofs.Common.{rules, ◌≡◌, ◌∙◌, subst, sym}
+use Rattle.std.proofs.Common.{rules, ◌≡◌, ◌∙◌, subst}
 use Rattle.std.specs.Arc.{arc_value}
 use Rattle.http_front.proofs.Answering.{weakened}
 use Rattle.http_front.proofs.AtPorts.{at_port}
 use Rattle.http_routes.specs.Decisions.{decision}
-use Rattle.long_poll.specs.Reads.{Counts, Reserves}
+use Rattle.long_poll.specs.Reads.{Counts, Lists, Reserves}
 use Rattle.long_poll.specs.Replies.{IsReplyAt}
 use Rattle.http_front.proofs.worker.Worker.serve_socket.Goals as goal
 
@@ -21,6 +21,8 @@ returns g c =
           (subst (λ k. IsReplyAt k g.S.Identity.most g.S.Identity.salt call reply token) configured
           ((rw c.deref-2.ensures at c.replies.ensures) call reply token r)))
           (λ seen stats then r. subst (λ k. Counts k g.S.Identity.most seen stats then) configured r)
+          (λ seen text then r. subst (λ s. Lists served.config g.S.Identity.most s seen text then) salted
+          (subst (λ k. Lists k g.S.Identity.most g.S.Identity.salt seen text then) configured r))
           (λ seen f count then r. subst (λ k. Reserves k g.S.Identity.most seen f count then) configured r)
           (λ head body made d. subst (λ side. made ≡ decision side head body) decider d)
           (arc_value c.args.self.now.common.hosts) head response

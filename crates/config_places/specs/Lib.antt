@@ -1,0 +1,2 @@
+-- Where the first fault of a configuration is.
+pub mod Places

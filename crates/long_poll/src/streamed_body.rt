@@ -1,0 +1,50 @@
+//! What is streamed of an account.
+
+use crate::Service;
+use crate::history_body::HistoryBody;
+use crate::trace_body::TraceBody;
+use bytes::Bytes;
+use futures::task::{Context, Poll};
+use http_body::{Body, Frame};
+use std::alloc::AllocError;
+use std::sync::Wait;
+use usage_ledger::{Keep, Ledgers};
+
+/// What is streamed of an account: its history, or its trace. (The trace is on the heap: it is larger, and the
+/// response that has it is moved several times.)
+#[derive(Drop)]
+pub enum StreamedBody<R, S, T, K: Keep, L: Ledgers> {
+    /// The text of the history.
+    History(HistoryBody<R, S, K, L>),
+    /// The trace of the history.
+    Trace(Box<TraceBody<R, S, T, K, L>>),
+}
+
+impl<R: Wait + Drop, S: Service<K, L, Trail = T>, T: Drop, K: Keep, L: Ledgers> Body
+    for StreamedBody<R, S, T, K, L> {
+    ghost use Rattle.long_poll.specs.declared.streamed_body.StreamedBody.TheVariants.{History, Trace};
+
+    type Data = Bytes;
+
+    type Error = AllocError;
+
+    ghost needs = { elim [
+      | History body ↦ ⟦<HistoryBody<R, S, K, L> as Body>⟧.needs body
+      | Trace body ↦ ⟦<TraceBody<R, S, T, K, L> as Body>⟧.needs body.value
+    ] };
+
+    ghost yields = { elim [
+      | History body ↦ ⟦<HistoryBody<R, S, K, L> as Body>⟧.yields body
+      | Trace body ↦ ⟦<TraceBody<R, S, T, K, L> as Body>⟧.yields body.value
+    ] };
+
+    fn poll_frame(
+        &mut self,
+        cx: &mut Context<'_>,
+    ) -> Poll<Option<Result<Frame<Bytes>, AllocError>>> {
+        match self {
+            StreamedBody::History(body) => body.poll_frame(cx),
+            StreamedBody::Trace(body) => body.poll_frame(cx),
+        }
+    }
+}
