@@ -2,7 +2,7 @@
 some in the shapes of AWS's own clients; each wrong one is caught by the check named after its mistake, and by no other.
 The program is LAMBDA_LOCAL_PROGRAM, else ./lambda_local.
 
-Each wrong one is run with the scenarios of its own check, and a quarter of them with all: each day another quarter.
+Each wrong one is run with the scenarios of its own check, and one of sixteen with all: each day others.
 With CONFORMANCE_WHOLE=1 all are, which takes ten minutes.
 CONFORMANCE_ONLY names mistakes that alone are tried, or `sound` or `shipped`."""
 import concurrent.futures
@@ -33,8 +33,8 @@ LENIENT = {"runtime": {"keep_alive", "continue_first", "header_spaces", "reason_
 OF_TELEMETRY = [one.name for part in (extension.telemetry, extension.delivery, extension.batches,
                                         extension.last_batches) for scenario in part.SCENARIOS
                 for one in scenario.checks]
-AT_ONCE = max(2, len(os.sched_getaffinity(0)))  # runs of the kit, each of which waits half of its time
-EACH = 4  # wrong programs, of which one is run with all scenarios
+AT_ONCE = 2 * max(2, len(os.sched_getaffinity(0)))  # runs of the kit, each of which waits most of its time
+EACH = 16  # wrong programs, of which one is run with all scenarios
 TODAY = int(time.time() // 86400) % EACH  # which one of these
 WHOLE, CHOSEN = "CONFORMANCE_WHOLE" in os.environ, os.environ.get("CONFORMANCE_ONLY", "").split()
 PYTHON = [sys.executable, "-S"]  # (it starts in half the time)
@@ -49,16 +49,16 @@ class Kind(NamedTuple):
     name: str
     checks: tuple
     mistakes: dict  # classes by their names
-    settings: dict  # that any of them may have otherwise
+    settings: dict  # that any of them may have otherwise, or by None not at all
 
 
 def checks_of(part):
     return tuple(one for scenario in part.SCENARIOS for one in scenario.checks)
 
 
-KINDS = (Kind("runtime", checks_of(runtime), wrong_runtimes.MISTAKES, {"idle-seconds": 1, "invocations": 20}),
-         Kind("extension", checks_of(extension), wrong_extensions.MISTAKES,
-              {"idle-seconds": 1, "invocations": 20, "name": "sound"}))
+SHORT = {"init-seconds": 3, "idle-seconds": 1, "invocations": 20}
+KINDS = (Kind("runtime", checks_of(runtime), wrong_runtimes.MISTAKES, SHORT),
+         Kind("extension", checks_of(extension), wrong_extensions.MISTAKES, {**SHORT, "name": "sound"}))
 
 
 def runs(table):
@@ -119,7 +119,8 @@ def other_runtime(*command):
 
 
 def other_extension(*command):
-    return Run("extension", "--name", "sound", "--idle-seconds", "2", "--invocations", "100", "--", *command,
+    invocations = "500" if command[-1] == extensions.CollectsAtItsLimit.__name__ else "100"
+    return Run("extension", "--name", "sound", "--idle-seconds", "2", "--invocations", invocations, "--", *command,
                is_forked=True)
 
 
@@ -190,7 +191,7 @@ def in_go():
 def wrong(kind, mistake, is_whole):
     """Run with all scenarios, or with those of its own check."""
     settings, beside = {**kind.settings, **getattr(mistake, "settings", {})}, getattr(mistake, "beside", ())
-    options = [word for name, value in settings.items() for word in (f"--{name}", str(value))]
+    options = [word for name, value in settings.items() if value is not None for word in (f"--{name}", str(value))]
     options += [word for name in (() if is_whole else (mistake.check, *beside)) for word in ("--only", name)]
     with tempfile.TemporaryDirectory() as temporary:
         return Run(kind.name, *options, "--", *PYTHON, program(f"wrong_{kind.name}s.py"), mistake.__name__,
@@ -255,6 +256,22 @@ def is_so(condition):
     return condition()
 
 
+def ended_by(number):
+    """A run that is ended by a signal: whether it had begun, its status, and which processes and files are left."""
+    with tempfile.TemporaryDirectory() as temporary:
+        process = subprocess.Popen([*TOOL, "runtime", "--", *PYTHON, program("sound_runtime.py")], cwd=HANDLERS,
+                                   env={**os.environ, "TMPDIR": temporary}, stdout=subprocess.PIPE,
+                                   stderr=subprocess.DEVNULL, text=True, start_new_session=True)
+        for _ in range(2):  # (the first verdict: the scenarios begin)
+            process.stdout.readline()
+        begun = is_so(lambda: len(processes_of(temporary)) > 3)
+        process.send_signal(number)
+        status = process.wait(120)
+        process.stdout.close()
+        is_so(lambda: not processes_of(temporary) and not os.listdir(temporary))
+        return begun, status, processes_of(temporary), os.listdir(temporary)
+
+
 class Conformance(Case):
     def passes(self, run, name, noted=None):
         """A program without a FAIL; `noted` are the checks that may be noted, none for any."""
@@ -313,27 +330,28 @@ class Conformance(Case):
 
     def test_wrong_usage(self):
         somewhere = os.path.join("nowhere", "report.xml")
-        for words, told, *status in (
-                ([], "write one of runtime, extension, service"),
-                (["runtimes"], "write one of runtime, extension, service"),
-                (["runtime"], "write the command that is tested after --"),
-                (["runtime", "--"], "write the command that is tested after --"),
-                (["runtime", "--only", "nothing", "--", "true"], "--only nothing: there is no such scenario or check"),
-                (["runtime", "--init-seconds", "soon", "--", "true"], "--init-seconds"),
-                (["runtime", "--invocations", "1", "--", "true"], "1 is not a number from 10 to 1,000,000"),
-                (["runtime", "--sometimes", "--", "true"], "--sometimes"),
-                (["runtime", "--", "no_such_program"], "no_such_program is not a program"),
-                (["runtime", "--junit", somewhere, "--", "true"], "--junit nowhere"),
-                (["runtime", "--pictures", "/dev/null", "--", "true"], "--pictures /dev/null"),
-                (["runtime", "--program", "nowhere", "--", "true"], "nowhere is not a program", 4),
-                (["runtime", "--", "sh", "-c", "echo it is broken; exit 3"],
-                 "it ended with status 3 before it asked for anything; its last line: it is broken"),
-                (["extension", "--", "true"], "write --name NAME"),
-                (["extension", "--name", "x", "--events", "INVOKE,START", "--", "true"],
-                 "INVOKE,START: write INVOKE, SHUTDOWN or both"),
-                (["extension", "--name", "x", "--", "true"], "it ended with status 0 before it asked for anything")):
-            run = Run(*words)
-            self.refused(" ".join(words) or "no word", run, told, *status)
+        cases = (
+            ([], "write one of runtime, extension, service"),
+            (["runtimes"], "write one of runtime, extension, service"),
+            (["runtime"], "write the command that is tested after --"),
+            (["runtime", "--"], "write the command that is tested after --"),
+            (["runtime", "--only", "nothing", "--", "true"], "--only nothing: there is no such scenario or check"),
+            (["runtime", "--init-seconds", "soon", "--", "true"], "--init-seconds"),
+            (["runtime", "--invocations", "1", "--", "true"], "1 is not a number from 10 to 1,000,000"),
+            (["runtime", "--sometimes", "--", "true"], "--sometimes"),
+            (["runtime", "--", "no_such_program"], "no_such_program is not a program"),
+            (["runtime", "--junit", somewhere, "--", "true"], "--junit nowhere"),
+            (["runtime", "--pictures", "/dev/null", "--", "true"], "--pictures /dev/null"),
+            (["runtime", "--program", "nowhere", "--", "true"], "nowhere is not a program", 4),
+            (["runtime", "--", "sh", "-c", "echo it is broken; exit 3"],
+             "it ended with status 3 before it asked for anything; its last line: it is broken"),
+            (["extension", "--", "true"], "write --name NAME"),
+            (["extension", "--name", "x", "--events", "INVOKE,START", "--", "true"],
+             "INVOKE,START: write INVOKE, SHUTDOWN or both"),
+            (["extension", "--name", "x", "--", "true"], "it ended with status 0 before it asked for anything"))
+        with concurrent.futures.ThreadPoolExecutor(AT_ONCE) as pool:
+            for (words, told, *status), run in zip(cases, pool.map(lambda case: Run(*case[0]), cases)):
+                self.refused(" ".join(words) or "no word", run, told, *status)
         self.refused("no free port", Run("runtime", "--", "true", LAMBDA_LOCAL_PORTS="1-1"), "LAMBDA_LOCAL_PORTS=1-1")
 
     def refused(self, name, run, told, status=2):
@@ -342,20 +360,10 @@ class Conformance(Case):
         run.told(seen == (status, 1, True))
 
     def test_nothing_is_left(self):
-        for number, wanted in ((signal.SIGINT, 130), (signal.SIGTERM, 143), (signal.SIGKILL, -9)):
-            with tempfile.TemporaryDirectory() as temporary:
-                process = subprocess.Popen([*TOOL, "runtime", "--", *PYTHON, program("sound_runtime.py")], cwd=HANDLERS,
-                                           env={**os.environ, "TMPDIR": temporary}, stdout=subprocess.PIPE,
-                                           stderr=subprocess.DEVNULL, text=True, start_new_session=True)
-                for _ in range(2):  # (the first verdict: the scenarios begin)
-                    process.stdout.readline()
-                begun = is_so(lambda: len(processes_of(temporary)) > 3)
-                process.send_signal(number)
-                status = process.wait(120)
-                process.stdout.close()
-                is_so(lambda: not processes_of(temporary) and not os.listdir(temporary))
-                left = (processes_of(temporary), os.listdir(temporary))
-                self.check(f"after {number.name} nothing is left", (begun, status, *left), (True, wanted, [], []))
+        ends = ((signal.SIGINT, 130), (signal.SIGTERM, 143), (signal.SIGKILL, -9))
+        with concurrent.futures.ThreadPoolExecutor(len(ends)) as pool:
+            for (number, wanted), seen in zip(ends, pool.map(ended_by, (number for number, _ in ends))):
+                self.check(f"after {number.name} nothing is left", seen, (True, wanted, [], []))
 
     def test_the_page_has_each_check(self):
         with open(os.path.join(ROOT, "docs", "conformance.md"), encoding="utf-8") as file:

@@ -3,12 +3,14 @@ compared with another service, and which FAILs are of one cause."""
 import contextlib
 import http.server
 import itertools
+import math
 import threading
 import time
 from types import SimpleNamespace
 from unittest import mock
 
 from lambda_local.conformance import again, causes, leaks, report, service, sometimes, watch
+from lambda_local.conformance.environment import Environment
 from lambda_local.conformance.extension import delivery, stage
 from lambda_local.conformance.kit import FAIL, NOTE, PASS
 from lambda_local.conformance.manners import Manner
@@ -41,7 +43,7 @@ def grown(memory_after, requests):
     looks = leaks.Looks(process)
     for process.done in range(PART, requests + 1, PART):
         looks.look(process.done)
-    return looks.grows(leaks.AFTER_LONG if requests > 1000 else leaks.CERTAIN)
+    return looks.leaks(1000)
 
 
 class Leaks(Case):
@@ -55,15 +57,26 @@ class Leaks(Case):
                  lambda done: kept * done + done * 20_000 % 9_000_000, 4000),
                 ("so many, after a heap has been filled",
                  lambda done: kept * done + min(12_000_000, 10_000 * done), 4000),
-                ("65,536 bytes of each request", lambda done: 65_536 * done, 1000)):
+                ("65,536 bytes of each request", lambda done: 65_536 * done, 1000),
+                ("so many, of as few as it takes to tell", lambda done: 65_536 * done, leaks.MANY)):
             self.check(f"{name} is a leak", grown(memory_after, requests) > 3000)
+        for name, memory_after in (
+                ("700 bytes of each request", lambda done: 700 * done),
+                ("so many, which are taken four thousand at a time", lambda done: 700 * done // 4096 * 4096),
+                ("so many, beside what a small heap is filled with",
+                 lambda done: 700 * done + done * 5000 % 100_000)):
+            self.check(f"{name} is a leak after long", 400 < grown(memory_after, 6000) < 1200)
+            self.check(f"{name} is none that is seen early", grown(memory_after, 2000), 0)
         for name, memory_after, requests in (
                 ("a heap that is filled before it is collected", lambda done: min(filled, 50_000 * done), 4000),
                 ("one that is filled and collected again and again", lambda done: done * 65_536 % filled, 4000),
                 ("one that grows until half of the requests", lambda done: 6_000 * min(done, 2000), 4000),
                 ("one that grows less and less", lambda done: 40_000_000 * (1 - 0.5 ** (done / 500)), 4000),
-                ("one that grows by little in all", lambda done: 900 * done, 4000),
-                ("one of few requests", lambda done: 65_536 * done, 300)):
+                ("one that grows by little in all", lambda done: 200 * done, 4000),
+                ("one that grows by little, less and less", lambda done: 900_000 * math.log(1 + done), 8000),
+                ("one that grows by little at some times", lambda done: 2_000_000 * (done // 1500), 6000),
+                ("a collected heap that grows towards its own limit", lambda done: 16_700 * min(done, 5000), 10_000),
+                ("one of few requests", lambda done: 65_536 * done, leaks.MANY - PART)):
             self.check(f"{name} is no leak", grown(memory_after, requests), 0)
 
 
@@ -103,7 +116,7 @@ class OwnTime(Case):
 
 def exchange(kind, begun, end, request_id=None, delivered=None, status=None, by_rule=None):
     return SimpleNamespace(kind=kind, begun=begun, asked=begun, end=end, request_id=request_id, delivered=delivered,
-                           status=status, by_rule=by_rule)
+                           status=status, by_rule=by_rule, is_reset=False, length=9)
 
 
 def stage_of(*exchanges):
@@ -124,14 +137,30 @@ class Conduct(Case):
         self.check("a Next before the response is told", bool(again.asked_early(early)))
         self.check("one after it is not", again.asked_early(late), None)
 
+    def test_an_invocation_that_is_left(self):
+        poll, later = exchange("next", 0, 1, delivered="a"), exchange("next", 3, 3.1, status=403)
+        refused, accepted = (exchange("response", 2, 2.5, "a", status=status) for status in (404, 202))
+        for one in (poll, later, refused, accepted):
+            one.refused = (one.status or 200) >= 400
+        for name, exchanges, since, wanted in (
+                ("one that asks again without an answer has gone on", (poll, later), 0, True),
+                ("so has one whose answer was refused", (poll, refused, later), 0, True),
+                ("one whose answer was accepted has not", (poll, accepted, later), 0, False),
+                ("nor has one that does not ask again", (poll,), 0, False),
+                ("nor one whose invocation was an earlier one", (poll, later), 2, False)):
+            self.check(name, Environment.has_gone_on(stage_of(*exchanges).environment, since), wanted)
+
     def test_refused_responses(self):
         response, same = exchange("response", 2, 3, "a", status=403), exchange("response", 4, 5, "a", status=403)
         again_told = refusals.sent_again(stage_of(response, same), response)
         self.check("a response that is sent again is told", bool(again_told))
         self.check("one that is sent once is not", refusals.sent_again(stage_of(response), response), None)
-        response.asked = 3.5
-        self.check("nor is one whose refusal came before it was whole",
+        response.is_reset = True
+        self.check("nor is one that may have lost its refusal with its connection",
                    refusals.sent_again(stage_of(response, same), response), None)
+        same.length = 5
+        self.check("another one in its place is told in any case",
+                   bool(refusals.sent_again(stage_of(response, same), response)))
 
     def test_outputs_that_are_lost(self):
         def answers(*bodies):

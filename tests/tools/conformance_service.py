@@ -1,29 +1,32 @@
 """Checks lambda_local conformance service: it finds nothing in lambda_local over a thousand random sequences and
-nothing in a sound emulator, and each fault that is planted in the emulator. The program is LAMBDA_LOCAL_PROGRAM, else
-./lambda_local.
+nothing in a sound emulator, also if that takes the liberties that Lambda's pages leave, and each fault that is planted
+in the emulator. The program is LAMBDA_LOCAL_PROGRAM, else ./lambda_local.
 
 Variable: CONFORMANCE_FAULTS has the faults that alone are planted."""
 import concurrent.futures
+import functools
 import os
 import re
 import socket
 import subprocess
 import sys
 import tempfile
+import time
+import unittest
 import xml.etree.ElementTree as xml
 
-from lambda_local.conformance.service import known, oracle, pairs, sequences
+from lambda_local.conformance.service import known, oracle, pairs, sequences, wire
 from lambda_local.service import Service, free_ports, program_path
 from tests import ROOT
 from tests.library.cases import Case
 from tests.library.forked_kit import Kits
-from tests.tools.emulator.faults import FAULTS, OF_PAIRS
+from tests.tools.emulator.faults import FAULTS, LIBERTIES, OF_PAIRS
 
 EMULATOR = os.path.join(ROOT, "tests", "tools", "emulator")
 KITS = Kits({})  # (before there are threads)
-POOL = concurrent.futures.ThreadPoolExecutor(4 * len(os.sched_getaffinity(0)))  # of runs, which wait most of the time
+POOL = concurrent.futures.ThreadPoolExecutor(6 * len(os.sched_getaffinity(0)))  # of runs, which wait most of the time
 CHOSEN = os.environ.get("CONFORMANCE_FAULTS", "").split()
-PARTS, IN_PART = 20, 50  # of the random sequences for lambda_local, each part with a service and a seed of its own
+PARTS, IN_PART = 4, 250  # of the random sequences for lambda_local, each part with a service and a seed of its own
 IN_EMULATOR = 60  # random sequences
 MOST_CALLS = 11  # of the fewest that show a difference: eleven extensions
 SERVICE_TIMEOUT, EMULATOR_TIMEOUT = 4, 3  # of the functions, in seconds
@@ -93,6 +96,14 @@ SHOWS_AS = {
                         for call in ("response", "failure", "next", "ext-next", "init-failure", "register")
                         for label in ("State", "Replaced", "BadId", "Unknown", "Container")},
     "breaks-down": {"response-too-large TooLarge connection", "invoke too-large-output connection"},
+    "tells-another-arn": {"ext-next tell function-arn"},
+    "tells-no-trace": {"ext-next tell tracing"},
+    "tells-a-later-end": {"ext-next shutdown deadline"},
+    "counts-the-init": {"next deliver deadline"},
+    "needs-no-error-type": {"ext-init-failure without-error-type status", "ext-exit-failure without-error-type status"},
+    "registers-for-anything": {"register unknown-event status"},
+    "loses-init-reports": {"invoke error-of-init report"},
+    "answers-null-for-extensions": {"invoke error-of-extension member-errorType"},
 }
 
 
@@ -102,7 +113,9 @@ SHOWS_IN_PAIRS = {
     "ends-both-environments": {"invoke waits answered", "next waits answered", "ext-next waits answered"},
     "shares-extensions": {"ext-next Unknown status", "ext-next Unknown connection"},
 }
-AT_THE_BEGINNING = {"accepts-with-200"}  # found before a sequence is played
+UNSEEN = {"names-the-request"}  # liberties that are no difference to accept
+# Found by a request, before a sequence is played.
+AT_THE_BEGINNING = {"accepts-with-200", "needs-no-error-type", "registers-for-anything"}
 
 
 class Run:
@@ -164,6 +177,48 @@ def against(name):
                             "--most", "1")
 
 
+def runs(name, *keys):
+    """A run for each of these, with its key."""
+    return {key: functools.partial(name, key) for key in keys}
+
+
+def part(seed):
+    return against_lambda_local("--seed", str(seed), "--sequences", str(IN_PART))
+
+
+def pair(name):
+    if name == "lambda_local":
+        return against_lambda_local(environments=2)
+    return against_emulator(() if name == "sound" else (name,), "--most", "1", is_pair=True)
+
+
+# Of each test, its runs: those that take longest first.
+RUNS = {"nothing_in_lambda_local": runs(part, *range(PARTS)),
+        "two_environments": runs(pair, *OF_PAIRS, "lambda_local", "sound"),
+        "nothing_in_a_sound_emulator": runs(against, "sound"),
+        "what_is_left_open": runs(against, *LIBERTIES),
+        "each_fault_is_found": runs(against, *reversed(CHOSEN or FAULTS))}
+
+
+@functools.lru_cache(None)
+def begun(test):
+    """The runs of a test, which go on beside all others."""
+    return {key: POOL.submit(run) for key, run in RUNS[test].items()}
+
+
+def each(tests):
+    return [one for test in tests for one in each(test)] if isinstance(tests, unittest.TestSuite) else [tests]
+
+
+def load_tests(_loader, chosen, _pattern):
+    """Begins the runs of the chosen tests."""
+    names = [test.id().rpartition(".test_")[2] for test in each(chosen)]
+    for test in RUNS:
+        if test in names:
+            begun(test)
+    return chosen
+
+
 def all_pairs():
     """The sequences with two environments, each of which is played."""
     return sequences.sequences_of(pairs.PAIRS, oracle.FRESH)
@@ -171,26 +226,31 @@ def all_pairs():
 
 class ConformanceService(Case):
     def test_nothing_in_lambda_local(self):
-        running = [POOL.submit(against_lambda_local, "--seed", str(seed), "--sequences", str(IN_PART))
-                   for seed in range(PARTS)]
-        runs = [run.result() for run in running]
-        for seed, run in enumerate(runs):
+        ended = {seed: run.result() for seed, run in begun("nothing_in_lambda_local").items()}
+        for seed, run in ended.items():
             seen = (run.status, run.words)
             self.check(f"nothing differs in lambda_local: {(run.output.splitlines() or [''])[-1]}, seed {seed}", seen,
                        (0, []))
             run.told(seen == (0, []))
-        self.check("a thousand random sequences", sum(run.random for run in runs) >= PARTS * IN_PART)
+        self.check("a thousand random sequences", sum(run.random for run in ended.values()) >= PARTS * IN_PART)
 
     def test_nothing_in_a_sound_emulator(self):
-        run = against("sound")
+        run = begun("nothing_in_a_sound_emulator")["sound"].result()
         self.check(f"nothing differs in an emulator without a fault: {(run.output.splitlines() or [''])[-1]}",
                    (run.status, run.words), (0, []))
         run.told(run.status == 0)
 
+    def test_what_is_left_open(self):
+        for name, started in begun("what_is_left_open").items():
+            run = started.result()
+            seen = (run.status, run.words, "accepted " in run.output or name in UNSEEN)
+            last = (run.output.splitlines() or [""])[-1]
+            self.check(f"nothing differs if {LIBERTIES[name]}: {last}", seen, (0, [], True))
+            run.told(seen == (0, [], True))
+
     def test_each_fault_is_found(self):
         self.check("each fault has what it shows as", set(FAULTS) ^ set(SHOWS_AS), set())
-        running = {name: POOL.submit(against, name) for name in CHOSEN or FAULTS}
-        for name, started in running.items():
+        for name, started in begun("each_fault_is_found").items():
             run = started.result()
             least = 0 if name in AT_THE_BEGINNING else 1
             seen = (run.status, len(run.words), bool(set(run.words) & SHOWS_AS[name]), least <= run.calls <= MOST_CALLS)
@@ -200,14 +260,15 @@ class ConformanceService(Case):
             run.told(seen == (1, 1, True, True))
 
     def test_two_environments(self):
-        for name, run in (("lambda_local", against_lambda_local(environments=2)),
-                          ("an emulator without a fault", against_emulator((), is_pair=True))):
+        ended = {name: run.result() for name, run in begun("two_environments").items()}
+        for name in ("lambda_local", "sound"):
+            run = ended[name]
             seen = (run.status, run.words, f"{len(all_pairs())} sequences" in run.output)
-            self.check(f"with two environments nothing differs in {name}", seen, (0, [], True))
+            self.check(f"with two environments nothing differs: {name}", seen, (0, [], True))
             run.told(seen == (0, [], True))
         self.check("each fault of two environments has what it shows as", set(OF_PAIRS) ^ set(SHOWS_IN_PAIRS), set())
         for name in OF_PAIRS:
-            run = against_emulator((name,), "--most", "1", is_pair=True)
+            run = ended[name]
             seen = (run.status, bool(set(run.words) & SHOWS_IN_PAIRS[name]))
             self.check(f"{name} is found: {' '.join(run.words) or 'nothing'}", seen, (1, True))
             run.told(seen == (1, True))
@@ -245,6 +306,19 @@ class ConformanceService(Case):
             self.check("its script can be replayed, and has the error",
                        (replayed.returncode, " error =" in replayed.stdout),
                        (0, True))
+
+    def test_answers_that_are_there_are_not_waited_for(self):
+        with socket.create_server(("127.0.0.1", 0)) as server:
+            sender = wire.Wire()
+            sent = [sender.send(server.getsockname(), "GET", "/") for _ in range(2)]
+            for connection, _ in [server.accept() for _ in sent]:
+                with connection:
+                    connection.sendall(b"HTTP/1.1 200 OK\r\nContent-Length: 0\r\n\r\n")
+            sender.collect(sent, 60)
+            begun = time.monotonic()
+            sender.collect(sent[1:], 60)
+            self.check("two answers that came together", (sent[1].status, time.monotonic() - begun < 30), (200, True))
+            sender.drop()
 
     def test_built_in_points_stand_in_the_page(self):
         with open(os.path.join(ROOT, "docs", "differences.md"), encoding="utf-8") as file:

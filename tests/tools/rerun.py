@@ -4,6 +4,7 @@ import contextlib
 import http.server
 import threading
 import time
+from typing import List, Tuple
 
 from lambda_local.rerun import compare, play, record, report
 from tests.library.cases import Case
@@ -35,9 +36,21 @@ HISTORY = WHOLE + f"""0 next 1
 """
 
 
+class FakeServer(http.server.ThreadingHTTPServer):
+    """Keeps what comes, and counts what it works at: now, and at most."""
+    daemon_threads = True
+
+    def __init__(self):
+        super().__init__(("127.0.0.1", 0), Fake)
+        self.lock = threading.Lock()
+        self.came: List[Tuple[str, str, str]] = []
+        self.now = self.most = 0
+
+
 class Fake(http.server.BaseHTTPRequestHandler):
     """A service that answers each payload after a while, and is asked twice for one that it throttles."""
     protocol_version = "HTTP/1.1"
+    server: FakeServer
 
     def do_POST(self):
         payload = self.rfile.read(int(self.headers["Content-Length"])).decode()
@@ -64,8 +77,7 @@ class Fake(http.server.BaseHTTPRequestHandler):
 
 @contextlib.contextmanager
 def fake():
-    server = http.server.ThreadingHTTPServer(("127.0.0.1", 0), Fake)
-    server.daemon_threads, server.lock, server.came, server.now, server.most = True, threading.Lock(), [], 0, 0
+    server = FakeServer()
     threading.Thread(target=server.serve_forever, args=(0.05,)).start()
     try:
         yield server
@@ -93,7 +105,8 @@ class Rerun(Case):
         self.check("those that reached a function", [each.was_served for each in recording.invocations],
                    [True, True, False, False])
         self.check("the others in words", report.left_out(recording.invocations), "1 throttled, 1 without an answer")
-        self.check("by a request identifier", record.find(recording.invocations, "f", REQUEST + "2").ticket, 3)
+        found = record.find(recording.invocations, "f", REQUEST + "2")
+        self.check("by a request identifier", found and found.ticket, 3)
         for name, text, words in (
             ("another file", "hello\n", "2: h: configuration: NotJson"),
             ("nothing", "", "2: h: configuration: NotJson"),
@@ -126,6 +139,7 @@ class Rerun(Case):
         self.check("no JSON", (told(b"\xff", b"\xff"), told(b"one", b"two")), ([], ["the whole: one -> two"]))
         self.check("a long value", len(told(b'"' + b"x" * 999 + b'"', b"1")[0]) < 150)
         self.check("equal bytes that are no value", told(b"[NaN]", b"[NaN]"), [])
+        self.check("beside a value that differs too", told(b"[NaN,1]", b"[NaN,2]"), ["/1: 1 -> 2"])
         self.check("numbers beyond binary64", told(b"[1e400]", b"[1e401]"), ['/0: "1E+400" -> "1E+401"'])
         self.check("a name twice", (told(b'{"a":1,"a":2}', b'{"a":1,"a":2}'), told(b'{"a":1,"a":2}', b'{"a":3,"a":2}')),
                    ([], ['the whole: {"a":1,"a":2} -> {"a":3,"a":2}']))

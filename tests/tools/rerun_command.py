@@ -13,6 +13,7 @@ import tempfile
 import threading
 import xml.etree.ElementTree as ElementTree
 
+from lambda_local.configuration import Members
 from lambda_local.rerun import command
 from lambda_local.service import Service, ask
 from tests import ROOT
@@ -58,7 +59,7 @@ def recorded_history():
             _, headers, body = ask(port, "GET", path + "next", timeout=600)
             event = json.loads(body)
             fails = event["fails"] == "old"
-            answer = {"errorType": "E", "errorMessage": "old"} if fails else {
+            answer: Members = {"errorType": "E", "errorMessage": "old"} if fails else {
                 "n": event["n"], "mode": "old", "parts": [{"id": 0}]}
             ask(port, "POST", f"{path}{headers['lambda-runtime-aws-request-id']}/{'error' if fails else 'response'}",
                 json.dumps(answer))
@@ -162,8 +163,8 @@ class RerunCommand(Case):
                                              for each in cases],
                        [("f", True)] * 3)
             self.check("a case has its event in its name, and below its failure",
-                       (re.sub(r"\d+", "N", cases[0].get("name"), count=1), cases[0].find("failure").text.splitlines()[
-                           -1]),
+                       (re.sub(r"\d+", "N", cases[0].get("name", ""), count=1),
+                        cases[0].findtext("failure", "").splitlines()[-1]),
                        ('call N: {"n": 0, "fails": "never"}', 'its event: {"n": 0, "fails": "never"}'))
             seen = run("--one-by-one", "--ignore", "/parts", history, up_json(folder, "new"))
             self.check("the new history", seen, (0, ["3 invocations: 3 equal"], ""))

@@ -2,19 +2,21 @@
 """A small emulator, shaped like AWS's Runtime Interface Emulator: one function named `function`, one port for callers,
 one for the Runtime API and the Extensions API. For tests of tools/conformance.
 
-usage: emulator.py ENVIRONMENTS TIMEOUT [FAULT ..]     of the function there are one or two; once it listens it writes
-a line with its ports, that for callers and one for each environment, and it runs until it is ended"""
+usage: emulator.py ENVIRONMENTS TIMEOUT [FAULT | LIBERTY ..]
+Of the function there are one or two environments. Once it listens it writes a line with its ports, that for callers and
+one for each environment, and it runs until it is ended."""
 import asyncio
 import json
 import re
 import sys
 
-from faults import FAULTS, OF_PAIRS
-from life import Life, Reply
+from faults import FAULTS, LIBERTIES, OF_PAIRS
+from life import CONTAINER, Life, Reply, refusal
 
 INVOKE = "/2015-03-31/functions/function/invocations"
 RUNTIME, EXTENSION = "/2018-06-01/runtime", "/2020-01-01/extension"
-NOT_FOUND = Reply(404, {"errorMessage": "no such path", "errorType": "NotFound"})
+REPORTS, ERROR_TYPE = (f"{EXTENSION}/init/error", f"{EXTENSION}/exit/error"), "lambda-extension-function-error-type"
+NOT_FOUND, INCOMPLETE = refusal(404, "NotFound"), refusal(400, "InvalidRequestFormat")
 
 
 class Lives(list):
@@ -50,17 +52,33 @@ def of_caller(lives, method, path, headers, body):
 
 def of_environment(life, method, path, headers, body):
     extension = headers.get("lambda-extension-identifier")
+    if life.phase == "closing" and path != f"{EXTENSION}/event/next":
+        if "hangs-up-at-end" in life.faults:
+            raise ConnectionResetError
+        if "answers-500-at-end" in life.faults:
+            return CONTAINER
     if found := re.fullmatch(f"{RUNTIME}/invocation/([^/]+)/(response|error)", path):
         return (life.response if found[2] == "response" else life.failure)(found[1], body)
     if path == f"{EXTENSION}/register":
-        wants_account = "accountId" in headers.get("lambda-extension-accept-feature", "")
-        return life.register(headers["lambda-extension-name"], json.loads(body)["events"], wants_account)
+        return registered(life, headers, body)
+    if path in REPORTS and ERROR_TYPE not in headers and "needs-no-error-type" not in life.faults:
+        return INCOMPLETE
     routes = {("GET", f"{RUNTIME}/invocation/next"): life.next,
               ("POST", f"{RUNTIME}/init/error"): lambda: life.init_failure(body),
               ("GET", f"{EXTENSION}/event/next"): lambda: life.ext_next(extension),
               ("POST", f"{EXTENSION}/init/error"): lambda: life.ext_init_failure(extension, body),
               ("POST", f"{EXTENSION}/exit/error"): lambda: life.ext_exit_failure(extension, body)}
     return routes.get((method, path), lambda: NOT_FOUND)()
+
+
+def registered(life, headers, body):
+    try:
+        events = json.loads(body)["events"]
+    except (ValueError, KeyError):
+        return INCOMPLETE
+    name, asked = headers.get("lambda-extension-name"), headers.get("lambda-extension-accept-feature", "")
+    is_known = "registers-for-anything" in life.faults or {"INVOKE", "SHUTDOWN"}.issuperset(events)
+    return life.register(name, events, "accountId" in asked) if name and is_known else INCOMPLETE
 
 
 async def answer(life, waiting, reader):
@@ -98,7 +116,7 @@ async def serve(life, routes, reader, writer):
 
 
 async def main(environments, timeout, *faults):
-    if unknown := set(faults) - set(FAULTS) - set(OF_PAIRS):
+    if unknown := set(faults).difference(FAULTS, OF_PAIRS, LIBERTIES):
         sys.exit(f"no such fault: {' '.join(unknown)}")
     lives = Lives(Life(float(timeout), faults) for _ in range(int(environments)))
     for life in lives:

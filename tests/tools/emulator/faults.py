@@ -1,4 +1,4 @@
-"""The faults that can be planted in the emulator, by their names."""
+"""The faults that can be planted in the emulator, and the liberties that it can take, by their names."""
 
 FAULTS = {
     "answers-twice": "a second answer to an invocation is accepted",
@@ -58,6 +58,14 @@ FAULTS = {
     "flags-outputs": "each answer to an Invoke has X-Amz-Function-Error",
     "counts-characters": "the length of a reply is that of its characters",
     "types-by-number": "errorType of a refusal is a number",
+    "tells-another-arn": "INVOKE has another ARN than the invocation",
+    "tells-no-trace": "INVOKE has not the caller's trace",
+    "tells-a-later-end": "SHUTDOWN has a deadline a minute later",
+    "counts-the-init": "the time that an invocation waits for the Init is part of its timeout",
+    "needs-no-error-type": "an extension's report is accepted without Lambda-Extension-Function-Error-Type",
+    "registers-for-anything": "an extension can register for an event that there is not",
+    "loses-init-reports": "an invocation that waits for an Init that fails is answered without its report",
+    "answers-null-for-extensions": "an invocation that the failure of an extension ends is answered null",
 }
 OF_PAIRS = {  # of a function with two environments
     "uses-one-environment": "its second environment gets no invocation",
@@ -65,4 +73,14 @@ OF_PAIRS = {  # of a function with two environments
     "ends-both-environments": "the failure of an extension ends both",
     "shares-extensions": "an extension is known to the other environment",
 }
-LATER = {"tells-a-later-deadline": 2000, "tells-events-another-deadline": 5000}  # milliseconds
+LIBERTIES = {  # what Lambda's pages leave open
+    "refuses-reports-at-end": "an extension's report to an environment that is ending is refused",
+    "takes-init-reports-at-end": "such a report is accepted, even that of a failed Init",
+    "answers-500-at-end": "a call to an environment that is ending is answered 500, unless a SHUTDOWN waits for it",
+    "hangs-up-at-end": "its connection ends",
+    "ends-once-told": "an environment ends once its extensions are told SHUTDOWN, and not when they ask again",
+    "retries-a-failed-init": "an invocation that waits for an Init that fails waits for the next one",
+    "names-the-request": "the report of a failed Init reaches the caller with one more member",
+}
+# Milliseconds.
+LATER = {"tells-a-later-deadline": 2000, "tells-events-another-deadline": 5000, "tells-a-later-end": 60_000}

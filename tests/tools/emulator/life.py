@@ -24,6 +24,7 @@ class Extension:
 class Invocation:
     def __init__(self, payload, trace, arn):
         self.id, self.payload, self.trace, self.arn = str(uuid.uuid4()), payload, trace, arn
+        self.has_waited, self.since = False, time.time()  # for an Init that failed
         self.caller = asyncio.get_running_loop().create_future()
 
 
@@ -78,7 +79,8 @@ class Life:
 
     def _deliver(self, invocation):
         self.phase, self.invocation, self.answered = "busy", invocation, False
-        self._clock(self.timeout, self._timed_out,
+        waited = time.time() - invocation.since if "counts-the-init" in self.faults else 0
+        self._clock(max(0.01, self.timeout - waited), self._timed_out,
                     2 * ("times-out-late" in self.faults) - ("times-out-early" in self.faults))
         deadline = self.deadline + self._later("tells-a-later-deadline")
         trace = None if "loses-the-trace" in self.faults else invocation.trace
@@ -97,8 +99,10 @@ class Life:
                 request = str(uuid.uuid4()) if "tells-another-request" in self.faults else invocation.id
                 self._answer_extension(one, {
                     "eventType": "INVOKE", "deadlineMs": self.deadline + self._later("tells-events-another-deadline"),
-                    "requestId": request, "invokedFunctionArn": invocation.arn,
-                    "tracing": {"type": "X-Amzn-Trace-Id", "value": ""}})
+                    "requestId": request,
+                    "invokedFunctionArn": ARN + ":1" if "tells-another-arn" in self.faults else invocation.arn,
+                    "tracing": {"type": "X-Amzn-Trace-Id",
+                                "value": "" if "tells-no-trace" in self.faults else trace or ""}})
 
     def _later(self, fault):
         return LATER[fault] if fault in self.faults else 0
@@ -167,10 +171,12 @@ class Life:
     def _tell_end(self, one):
         one.told = True
         reason = "failure" if "tells-another-reason" in self.faults else self.reason
-        self._answer_extension(one, {"eventType": "SHUTDOWN", "deadlineMs": self.deadline, "shutdownReason": reason})
+        self._answer_extension(one, {"eventType": "SHUTDOWN", "shutdownReason": reason,
+                                     "deadlineMs": self.deadline + self._later("tells-a-later-end")})
 
     def _look_at_end(self):
-        if all(one.ended for one in self.extensions.values() if self._is_for_shutdown(one)):
+        told = "ends-once-told" in self.faults
+        if all(one.ended or told and one.told for one in self.extensions.values() if self._is_for_shutdown(one)):
             self._begin_anew()
 
     def _begin_anew(self):
@@ -282,6 +288,14 @@ class Life:
     def init_failure(self, body):
         if self.phase != "starting":
             return STATE
+        if "retries-a-failed-init" in self.faults and self.invocation and not self.invocation.has_waited:
+            self.invocation.has_waited = True
+            self.queue.append(self.invocation)
+            self.invocation = None
+        if "loses-init-reports" in self.faults:
+            body = b'{"errorType":"Runtime.ExitError","errorMessage":"Runtime exited"}'
+        if "names-the-request" in self.faults:
+            body = json.dumps({**json.loads(body), "requestId": ""}).encode()
         self._fail(body)
         self._close("failure")
         return self._accepted()
@@ -321,13 +335,15 @@ class Life:
         if self._is_for_shutdown(one) and not one.told and not one.ended:
             mine = one.poll = asyncio.get_running_loop().create_future()
             self._tell_end(one)
+            self._look_at_end()
             return mine
         one.ended = True
         self._look_at_end()
         return CONTAINER
 
     def ext_init_failure(self, identifier, body):
-        if self._extension(identifier) and self.phase != "starting":
+        is_taken = self.phase == "closing" and "takes-init-reports-at-end" in self.faults
+        if self._extension(identifier) and self.phase != "starting" and not is_taken:
             return STATE
         return self.ext_exit_failure(identifier, body)
 
@@ -335,6 +351,8 @@ class Life:
         one = self._extension(identifier)
         if not one:
             return UNKNOWN
+        if self.phase == "closing" and "refuses-reports-at-end" in self.faults:
+            return STATE
         one.ended = True
         if "goes-on-after-failures" in self.faults and self.phase != "closing":
             return self._accepted()
@@ -342,7 +360,7 @@ class Life:
             self._look_at_end()
         else:
             for life in self.all if "ends-both-environments" in self.faults else [self]:
-                life._fail(body)
+                life._fail(b"null" if "answers-null-for-extensions" in self.faults else body)
                 life._close("failure")
         return self._accepted()
 

@@ -131,6 +131,30 @@ class WorksInAThread(Extension):
         del self.work[:-5]
 
 
+class CollectsAtItsLimit(Extension):
+    """Leaves garbage that is collected when its heap is full, as large as the machine's memory lets it be, or as
+    JAVA_TOOL_OPTIONS says."""
+
+    def begin(self):
+        said = os.environ.get("JAVA_TOOL_OPTIONS", "").rpartition("-XX:MaxRAM=")[2]
+        megabytes = int(said.rstrip("m") or 24_000)
+        self.heap, self.limit = [], megabytes * 1_000_000 // 64
+
+    def invoked(self, event):
+        super().invoked(event)
+        self.heap.append(os.urandom(16_000))
+        if 16_000 * len(self.heap) > self.limit:
+            self.heap.clear()
+
+
+class KnowsNoOptions(Extension):
+    """In a language whose version does not start with options that it does not know."""
+
+    def begin(self):
+        if "JAVA_TOOL_OPTIONS" in os.environ:
+            sys.exit("Unrecognized VM option")
+
+
 class Supervised(Extension):
     """A script that starts the one that works, and ends as it has ended."""
 

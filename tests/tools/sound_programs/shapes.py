@@ -104,6 +104,14 @@ class GoPanic(Runtime):
             sys.exit("calling the handler function resulted in a panic, the process should exit")
 
 
+class KnowsNoOptions(Runtime):
+    """In a language whose version does not start with options that it does not know."""
+
+    def begin(self):
+        if "NODE_OPTIONS" in os.environ:
+            sys.exit("--max-semi-space-size=1 is not allowed in NODE_OPTIONS")
+
+
 class Native(Runtime):
     """awslambdaric: a native client whose JSON is ASCII, and which asks for a new connection when one has ended."""
 

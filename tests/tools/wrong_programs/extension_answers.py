@@ -102,12 +102,22 @@ class DiesAfterFortyEvents(Extension):
 
 
 class KeepsMuchOfEachEvent(Extension):
-    settings = {"invocations": 150}
+    settings = {"invocations": 500}
     check, kept = "memory", []
 
     def invoked(self, event):
         super().invoked(event)
         self.kept.append(os.urandom(100_000))
+
+
+class KeepsATimerOfEachEvent(Extension):
+    """Some hundred bytes, which only very many events show."""
+    settings = {"invocations": None}
+    check, timers = "memory", []
+
+    def invoked(self, event):
+        super().invoked(event)
+        self.timers.append((time.time() + 1e6, lambda: event["requestId"], bytearray(200)))
 
 
 class LeavesFilesOpen(Extension):

@@ -242,6 +242,16 @@ class ReadsRefusalsByTheirLength(Runtime):
     connected = ByLength
 
 
+class ShortensWhatIsTooLarge(Runtime):
+    """Sends as much of it as there is room for."""
+    check = "too_large"
+
+    def sent(self, answer, request, output):
+        if answer.status == 413:
+            self.ask("POST", f"invocation/{request}/response", self.dump(output)[:-10] + b'"')
+        super().sent(answer, request, output)
+
+
 class RepeatsWhatIsTooLarge(Runtime):
     check = "too_large"
 

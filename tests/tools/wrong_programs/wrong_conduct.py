@@ -144,7 +144,7 @@ class GivesNextUp(shared_mistakes.GivesNextUp, Runtime):
 # ---- many invocations ------------------------------------------------------------------------------------------------
 
 class KeepsEveryEvent(Runtime):
-    check, settings = "memory", {"invocations": 800}
+    check, settings = "memory", {"invocations": 500}
     events = []
 
     def read(self, payload):
@@ -163,7 +163,7 @@ class LeavesFilesOpen(Runtime):
 
 class KeepsALittle(Runtime):
     """Twenty thousand bytes of each event, however large it is."""
-    check, settings = "memory", {"invocations": 1000}
+    check, settings = "memory", {"invocations": 500}
     kept = []
 
     def read(self, payload):

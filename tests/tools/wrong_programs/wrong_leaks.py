@@ -5,6 +5,7 @@ import socket
 import sys
 import threading
 import time
+from concurrent.futures import Future
 
 from shared_mistakes import is_scenario
 from sound_runtime import Parts, Runtime
@@ -58,12 +59,27 @@ class ListensForEach(Runtime):
 
 
 class KeepsEveryOutput(Runtime):
-    check, kept, settings = "memory", [], {"invocations": 800}
+    check, kept, settings = "memory", [], {"invocations": 500}
 
     def dump(self, output):
         body = super().dump(output)
         self.kept.append(bytearray(body))
         return body
+
+
+class WaitsForWhatNeverEnds(Runtime):
+    """Each invocation waits for its output or for a signal that never comes, and what waits for that stays."""
+    check, settings = "memory", {"invocations": 500}
+
+    def begin(self):
+        super().begin()
+        self.ends = Future()
+
+    def respond(self, request, output):
+        done = Future()
+        self.ends.add_done_callback(lambda _: done.done() or done.set_result(output))
+        done.set_result(output)
+        super().respond(request, done.result())
 
 
 class LogsToAFile(Runtime):

@@ -28,9 +28,11 @@ FOLLOWS: Dict[str, Tuple[str, ...]] = {
     "broken_handler": ("init_error",), "responds_once": ("error_reported",),
     "long_handler": ("late_response",),
     # of extensions
-    "ends_at_spindown": ("asks_after_invoke",), "many_events": ("asks_after_invoke",),
+    "ends_at_spindown": ("asks_after_invoke",), "many_events": ("asks_after_invoke", "invoke_in_time"),
+    "header_names": ("asks_after_invoke", "invoke_in_time"),
     "ends_at_timeout": ("asks_after_invoke", "ends_at_spindown"), "ends_at_failure": ("ends_at_spindown",),
-    "crash_noticed": ("ends_at_spindown",), "telemetry": ("asks_after_invoke",), "exit_error": ("init_error",),
+    "crash_noticed": ("ends_at_spindown",), "telemetry": ("asks_after_invoke", "identifier"),
+    "exit_error": ("init_error",),
     "takes_dropped": ("takes_telemetry",), "takes_logs": ("takes_telemetry",),
     "ends_at_500": ("init_error_ends", "ends_at_spindown", "crash_noticed"),
     "ends_at_500_register": ("crash_noticed", "ends_at_500"), "refused_registration": ("ends_at_500_register",),

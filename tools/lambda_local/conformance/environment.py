@@ -6,7 +6,7 @@ from typing import TYPE_CHECKING, Any, Callable, List, Optional
 from ..service import RUNTIME, ask
 from .exchanges import Exchange
 from .kit import Missing
-from .process import Process, variables_of
+from .process import Process, collecting_early, variables_of
 from .proxy import Proxy
 from .watch import OwnTime
 
@@ -42,8 +42,8 @@ class Environment:
     def start(self) -> Process:
         """Starts the command anew, as Lambda starts an environment."""
         stage = self.stage
-        variables = variables_of(stage.service.configuration, stage.function, self.proxy.port, self.number,
-                                 {"TMPDIR": self.folder, **stage.variables})
+        more = {"TMPDIR": self.folder, **stage.variables, **(collecting_early() if stage.collects_early else {})}
+        variables = variables_of(stage.service.configuration, stage.function, self.proxy.port, self.number, more)
         self._process = stage.tools.processes.start(stage.tools.command, variables)
         return self._process
 
@@ -85,6 +85,14 @@ class Environment:
         """Whether it asks again within this many seconds after this exchange is over."""
         before = sum(one.begun < exchange.end for one in self.proxy.of(kind))
         return self.asked(before + 1, seconds, kind, real_seconds)
+
+    def has_gone_on(self, since: float) -> bool:
+        """Whether it has asked for its next invocation, and the last one, which was delivered since this moment, has no
+        answer that could still count."""
+        polls = self.proxy.of("next")
+        delivered = next((poll for poll in reversed(polls) if poll.delivered), None)
+        return delivered is not None and since <= delivered.end <= polls[-1].begun and not any(
+            one.begun >= delivered.end and not one.refused for one in self.proxy.of("response", "error"))
 
     def given_up(self, kind: str, seconds: float) -> Optional[Exchange]:
         """Returns the poll of a kind that it gives up within this many seconds; None if it waits."""

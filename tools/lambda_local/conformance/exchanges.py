@@ -40,6 +40,7 @@ class Exchange:
         self.request = request
         self.reply: Optional[Message] = None
         self.by_rule: "Optional[Rule]" = None  # a rule with `close` may still be set while the exchange is open
+        self.is_reset = False  # the service has reset the connection within the request: its reply may be lost
         self.behind = b""  # what came behind the request and is not the beginning of another one
         self.kind, self.request_id = self._kind()
 
@@ -88,6 +89,12 @@ class Exchange:
     def end(self) -> float:
         """The same; never, if it is open."""
         return self.ended or math.inf
+
+    @property
+    def length(self) -> int:
+        """Bytes of the request's body, as it says or as they have come."""
+        said = self.request.headers.get("content-length", "")
+        return int(said) if said.isdigit() else len(self.request.body)
 
     @property
     def refused(self) -> bool:

@@ -14,10 +14,12 @@ PART = 50  # requests between two looks
 LEAST_PARTS = 6  # that a judgement takes
 EACH = 0.02  # of one thing, that is left behind for a request at least
 LEAKED = 12  # of one thing, that are left behind at least
-LARGEST = 4  # times as often as is asked for it is repeated, for as long as memory grows
 GROUPS = 8  # of looks, between which memory grows if it does not stop
-SHARE = 0.2  # of what it grows by on average, that it grows by between two of these at least
+SHARE = 0.2  # of what it grows by on average, that it grows by between two of these
 LONG = 3  # times as many requests as asked for, of which a collector has surely had its turn
+MANY = 400  # requests; what memory grows by in fewer says nothing
+CALM = 0.25  # of the requests so far, in which memory has not grown when it has stopped
+STRETCHED = 3  # times as long at most, on a busy machine
 READ = 200_000  # bytes of a file that are searched
 FILE = 1000  # bytes of a file that may be one for each request; a larger one is a payload
 LEFT = 5  # files, from which on they are one for each
@@ -33,11 +35,22 @@ class Rule(NamedTuple):
     least: int  # bytes
     even: float  # of the growth in the first half, that there is in the second one
     nearly: float  # of the groups, in which there is some
+    share: float = SHARE
+    requests: int = 0  # at least, in which it has grown
 
 
-SUSPECT = Rule(1_500_000, 0.1, 0.0)  # that it is worth to go on
+SUSPECT = Rule(700_000, 0.1, 0.0)  # that it is worth to go on
 CERTAIN = Rule(4_000_000, 0.5, 0.75)
 AFTER_LONG = Rule(4_000_000, 0.4, 0.5)
+STEADY = Rule(1_000_000, 0.6, 0.85, 0.4, 2500)  # little, but the same all the time, as no heap grows that is collected
+
+
+class Course(NamedTuple):
+    """How often a request is repeated."""
+    wanted: int
+    seconds: float  # that these may take
+    most: int  # for as long as memory grows
+    patience: float  # seconds more that this may take
 
 
 class Looks:
@@ -83,7 +96,9 @@ class Looks:
         steps = [after - before for before, after in zip(lowest, lowest[1:])]
         first, middle, last = lowest[0], lowest[len(lowest) // 2], lowest[-1]
         grown, average = last - first, (last - first) / max(1, len(steps))
-        rising = sum(step > SHARE * average for step in steps)
+        rising = sum(step > rule.share * average for step in steps)
+        if self.done - self._looks[quarter].done < rule.requests:
+            return 0
         if grown < rule.least or last - middle < rule.even * (middle - first) or rising < rule.nearly * len(steps):
             return 0
         return int(grown // max(1, self._looks[-size].done - self._looks[quarter].done))
@@ -93,26 +108,34 @@ class Looks:
         return f"{(values[-1] - values[len(values) // 4]) / 1e6:+.1f} MB in {self.done} invocations"
 
 
-def repeat(process: Process, files: "Files", once: Callable[[int], None], count: int, seconds: float,
-           patience: float) -> Looks:
-    """Calls `once` with the numbers from 0 on, this often or for so many seconds, and then for as long as memory grows,
-    up to `patience` seconds more. Returns what the process held; `files` looks as often."""
+    def leaks(self, wanted: int) -> int:
+        """How many bytes for each request memory does not stop growing by; 0 if it does, or may."""
+        if self.done < MANY:
+            return 0
+        return self.grows(AFTER_LONG if self.done >= LONG * wanted else CERTAIN) or self.grows(STEADY)
+
+
+def repeat(process: Process, files: "Files", once: Callable[[int], None], course: Course) -> Looks:
+    """Calls `once` with the numbers from 0 on. Returns what the process held; `files` looks as often."""
     looks, done, begun = Looks(process), 0, CLOCK.now()
+    part = max(1, min(PART, course.wanted // (4 * LEAST_PARTS)))
+
+    def go_on(done: int) -> int:
+        for number in range(done, done + part):
+            once(number)
+        looks.look(done + part)
+        files.look(done + part)
+        return done + part
     files.look(0)
-    part = max(1, min(PART, count // (4 * LEAST_PARTS)))
-    while done < count and CLOCK.now() - begun < seconds:
-        for _ in range(part):
-            once(done)
-            done += 1
-        looks.look(done)
-        files.look(done)
-    end = CLOCK.now() + patience
-    while looks.grows(SUSPECT) and CLOCK.now() < end and done < LARGEST * count:
-        for _ in range(part):
-            once(done)
-            done += 1
-        looks.look(done)
-        files.look(done)
+    while done < course.wanted and CLOCK.now() - begun < course.seconds:
+        done = go_on(done)
+    grew = done if looks.grows(SUSPECT) else 0
+    end, real_end = CLOCK.now() + course.patience, time.monotonic() + STRETCHED * course.patience
+    while done - grew < CALM * done and done < course.most and CLOCK.now() < end and time.monotonic() < real_end:
+        done = go_on(done)
+        grew = done if looks.grows(SUSPECT) else grew
+        if looks.grows(STEADY) or (done >= LONG * course.wanted and looks.leaks(course.wanted)):
+            break
     return looks
 
 
@@ -122,8 +145,7 @@ def judge(stage: Stage, looks: Looks, names: Dict[str, str], wanted: int) -> Non
     stage.jury.judge(names["processes"], left, words)
     if left == FAIL:  # (each has memory, descriptors and threads of its own)
         return stage.jury.rest(NOTE, "not judged: it leaves processes behind")
-    rate = looks.grows(AFTER_LONG if looks.done >= LONG * wanted else CERTAIN)
-    too_few = looks.done < wanted
+    rate, too_few = looks.leaks(wanted), looks.done < max(wanted, MANY)
     if rate:
         stage.jury.judge(names["memory"], FAIL, f"it does not stop growing: {rate:,} bytes more with each invocation, "
                                                 f"{looks.memory()}")

@@ -16,6 +16,9 @@ from .watch import OwnTime, open_descriptors, processes_of, resident, threads_of
 
 SHOWN = 400  # bytes of the end of what it wrote
 LOOK = 0.05  # seconds between two looks at what it does
+MEGABYTES = 128  # of a function's memory
+COLLECT_EARLY = {"NODE_OPTIONS": "--max-semi-space-size=1", "JAVA_TOOL_OPTIONS": f"-XX:MaxRAM={MEGABYTES}m"}
+LITTLE_HEAPS = {"DOTNET_GCHeapHardLimit": f"{MEGABYTES << 20:x}"}
 OPENED = 15  # seconds after which a stage that is being opened is not waited for any more
 
 
@@ -36,9 +39,16 @@ def variables_of(configuration: Dict[str, Any], function: Dict[str, Any], port: 
         "AWS_REGION": region, "AWS_DEFAULT_REGION": region, "TZ": ":UTC",
         "AWS_LAMBDA_RUNTIME_API": f"127.0.0.1:{port}", "_HANDLER": function["handler"], "LAMBDA_TASK_ROOT": os.getcwd(),
         "AWS_LAMBDA_FUNCTION_NAME": function["name"], "AWS_LAMBDA_FUNCTION_VERSION": "$LATEST",
-        "AWS_LAMBDA_FUNCTION_MEMORY_SIZE": "128", "AWS_LAMBDA_INITIALIZATION_TYPE": "on-demand",
+        "AWS_LAMBDA_FUNCTION_MEMORY_SIZE": str(MEGABYTES), "AWS_LAMBDA_INITIALIZATION_TYPE": "on-demand",
         "AWS_LAMBDA_LOG_GROUP_NAME": f"/aws/lambda/{function['name']}",
         "AWS_LAMBDA_LOG_STREAM_NAME": f"local/[$LATEST]{number}", **more}
+
+
+def collecting_early() -> Dict[str, str]:
+    """Variables with which what collects its garbage does so early and often, as where there is little memory: what a
+    process then holds is what it keeps. Options of the caller's own come first."""
+    options = {name: f"{os.environ.get(name, '')} {words}".strip() for name, words in COLLECT_EARLY.items()}
+    return {**LITTLE_HEAPS, **options}
 
 
 class Holds(NamedTuple):

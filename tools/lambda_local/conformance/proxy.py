@@ -28,6 +28,7 @@ class Proxy:
     def __init__(self, target: int) -> None:
         self.target, self.connections = target, 0
         self.exchanges: List[Exchange] = []
+        self._by_kind: Dict[str, List[Exchange]] = {}
         self.rule: Optional[Rule] = None  # for the next request of its kind
         self.then: Optional[Rule] = None  # for all of its kind, once that one has been made
         self.always: Dict[str, Rule] = {}  # by kind: rules for each request
@@ -50,8 +51,14 @@ class Proxy:
         with self.changed:
             return condition()
 
-    def of(self, *kinds: Any) -> List[Exchange]:
+    def add(self, exchange: Exchange) -> None:
+        self.exchanges.append(exchange)
+        self._by_kind.setdefault(exchange.kind, []).append(exchange)
+
+    def of(self, *kinds: str) -> List[Exchange]:
         with self.changed:
+            if len(kinds) == 1:  # (of very many)
+                return list(self._by_kind.get(kinds[0], ()))
             return [exchange for exchange in self.exchanges if exchange.kind in kinds]
 
     def close(self) -> None:
@@ -171,9 +178,17 @@ class Link:
     def reset_other(self, side: socket.socket) -> bool:
         """The side's peer has reset the connection: so does the link."""
         other = self.service if side is self.client else self.client
+        if side is not self.client:
+            self.note_reset()
         if other:
             other.setsockopt(socket.SOL_SOCKET, socket.SO_LINGER, struct.pack("ii", 1, 0))
         return False
+
+    def note_reset(self) -> None:
+        """The service has reset the connection: if that was within a request, the reply may not be seen."""
+        exchange = self.exchange
+        if exchange and not exchange.asked:
+            self.proxy.note(lambda: setattr(exchange, "is_reset", True))
 
     def stop_reading(self) -> bool:
         """From now on bytes are handed on as they are."""
@@ -239,7 +254,7 @@ class Link:
             self.note_behind(request.raw_head)
         exchange = Exchange(self.number, self.peer, request)
         exchange.by_rule = self.proxy.take_rule(exchange.kind)
-        self.proxy.note(lambda: self.proxy.exchanges.append(exchange))
+        self.proxy.note(lambda: self.proxy.add(exchange))
         return exchange
 
     def to_service(self, data: bytes) -> bool:
@@ -253,6 +268,7 @@ class Link:
             service.sendall(data)
         except OSError:
             self.service_refuses = True
+            self.note_reset()
         return not (self.service_refuses and self.service_ended) or self.reset_other(service)
 
     # -- replies

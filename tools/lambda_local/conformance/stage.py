@@ -22,11 +22,13 @@ Event = Union[bytes, Dict[str, Any]]  # as its bytes, or as a value
 
 KITS_HANDLER = "conformance.handler"
 ACCOUNT, REGION = "123456789012", "us-east-1"
-PATIENCE = 50  # seconds beyond an Init's limit: one check alone is about that limit
+PATIENCE = 10  # seconds beyond twice an Init's limit: one check alone is about that limit
 ANSWERED_WITHIN = 10  # seconds that a caller waits beyond the function's timeout
 SHOWN = 200  # letters of what came
 BEHIND = 3  # lines of what the connections show
 SILENT = 12  # seconds of its own after which a process that has to answer, or to ask, does not do so any more
+GONE_ON = 6  # seconds of its own in which a process that asks for its next invocation answers its last one all the same
+UNANSWERED = "the caller received no answer, and the next invocation is asked for"
 MALFORMED = (400, 404, 405, 411, 414, 431, 501, 505)  # statuses of requests that are wrong in whatever state
 REFUSED = 3  # polls that are refused for what they are, after which it is not waited for another one
 TWO_POLLS = "there is a second Next while one waits"
@@ -86,16 +88,18 @@ def compact(event: Event) -> bytes:
 class Stage:
     """Opened for one scenario, and ended with it in any case."""
     poll_kind = "next"  # of the requests with which it asks for what is to be done
+    first_kind = "next"  # of its first request
 
     def __init__(self, tools: Tools, scenario: Scenario, jury: Jury, environments: int = 1, timeout: int = 30,
                  handler: str = KITS_HANDLER, start: bool = True, extensions: Sequence[str] = (), lasts: int = 0,
                  drawn: bool = True, first: bool = False, variables: Optional[Dict[str, str]] = None,
-                 judged: str = FAIL, has_long_name: bool = False) -> None:
+                 judged: str = FAIL, has_long_name: bool = False, collects_early: bool = False) -> None:
         self.tools, self.scenario, self.jury, self.variables = tools, scenario, jury, dict(variables or {})
+        self.collects_early = collects_early
         # (the service's clock is the real one: on a busy machine a function has more of it)
         self.is_long, self.is_first = timeout > SILENT, first  # (no handler takes as long)
         self.timeout = timeout = math.ceil(timeout * CLOCK.slowness())
-        self.patience = tools.options.init_seconds + PATIENCE
+        self.patience = 2 * tools.options.init_seconds + PATIENCE
         self.name = (scenario.name + LONG_NAME)[:LONGEST_NAME] if has_long_name else scenario.name
         self._cause = ""
         function = {"name": self.name, "handler": handler, "timeout": timeout, "ports": [0] * environments,
@@ -123,11 +127,21 @@ class Stage:
         if self.function["handler"] != KITS_HANDLER:
             return
         for environment in self.environments:
-            if not environment.asked(in_vain=self.misdirected):
+            if not environment.asked(in_vain=self.misdirected) and not self.starts_plainly(environment):
                 if self.is_first:
                     self.refuse_if_it_ended()
                 raise Missing(self.misdirected() or f"no Next within {self.patience:g} s: {self.said()}")
         self.idle()  # (the service knows of it too)
+
+    def starts_plainly(self, environment: Environment) -> bool:
+        """Whether a process that has ended before it asked for anything, as one does that does not know the options
+        that have collectors work early, asks for its first invocation without these."""
+        if not self.collects_early or not environment.process.ended or environment.proxy.exchanges:
+            return False
+        self.collects_early = False
+        environment.kill()
+        environment.start()
+        return environment.asked(in_vain=self.misdirected, kind=self.first_kind)
 
     def __enter__(self) -> "Stage":
         return self
@@ -201,14 +215,20 @@ class Stage:
     def _received(self, path: str, body: bytes, headers: Dict[str, str]) -> Answer:
         """What the caller receives; Missing if the tested process ends without an answer, as Lambda would notice
         too."""
+        begun = time.monotonic()
         waiting = self._asking.submit(ask, self.service.port, "POST", path, body, headers,
                                       self.timeout + self.patience + ANSWERED_WITHIN)
         own = OwnTime(self.environment.process.number) if self.environment.is_started else None
+        gone_on: Optional[OwnTime] = None  # since it does not answer any more
         while not waiting.done():
-            concurrent.futures.wait([waiting], LOOK)
+            if concurrent.futures.wait([waiting], LOOK).done:
+                break
             if all(environment.is_started and environment.process.ended for environment in self.environments):
                 concurrent.futures.wait([waiting], 0.5)
                 break
+            gone_on = (gone_on or OwnTime(self.environment.process.number)) if self.has_gone_on(begun) else None
+            if gone_on and gone_on.look() > GONE_ON:
+                raise Missing(f"{UNANSWERED}: {self.said()}")
             if own and self.waits():
                 own = OwnTime(self.environment.process.number)
             if self.is_long and own and own.look() > SILENT:
@@ -224,6 +244,11 @@ class Stage:
         """Whether each tested process waits for what it has asked for: until that comes it is not late."""
         polls = [environment.proxy.of(self.poll_kind)[-1:] for environment in self.environments]
         return all(last and not last[0].ended for last in polls)
+
+    def has_gone_on(self, since: float) -> bool:
+        """Whether each tested process has asked for its next invocation and not answered the last one, which was
+        delivered since this moment."""
+        return all(environment.has_gone_on(since) for environment in self.environments)
 
     def said(self) -> str:
         """How the tested process ended, and its last line."""

@@ -140,5 +140,5 @@ def of_values(then: object, now: object, pointers: Sequence[Pointer]) -> Iterato
 
 
 def is_same(one: object, other: object) -> bool:
-    """Whether two values that are not both objects or both lists are the same: true is not 1."""
-    return isinstance(one, bool) == isinstance(other, bool) and one == other
+    """Whether two values that are not both objects or both lists are the same: true is not 1, and NaN is NaN."""
+    return isinstance(one, bool) == isinstance(other, bool) and (one == other or one != one and other != other)

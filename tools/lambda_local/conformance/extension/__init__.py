@@ -37,7 +37,7 @@ def main(words: List[str]) -> int:
     words, command = split(words)
     parser = parser_of("extension", __doc__,
                        "--name NAME [--events INVOKE,SHUTDOWN] [--init-seconds S] [--only NAME] [--strict] "
-                       "[--junit FILE] [--pictures DIR] [--program P]", "500, or as many as there are in 8 s")
+                       "[--junit FILE] [--pictures DIR] [--program P]", "2000, or as many as there are in 8 s")
     parser.add_argument("--name", metavar="NAME", help="the name under which it registers")
     parser.add_argument("--events", metavar="EVENTS", type=events, default=list(EVENTS),
                         help="what it registers for (INVOKE,SHUTDOWN)")

@@ -32,6 +32,8 @@ WAYS = (
 
 @scenario(*[way[:3] for way in WAYS], timeout=6, lasts=4)
 def another_lambda(stage: ExtensionStage) -> None:
+    if fault := fault_in(stage, Manner()):
+        raise Missing(fault)
     for way in WAYS:
         fault = next(filter(None, (fault_in(stage, manner) for manner in way.manners)), None)
         stage.check(way.name, not fault, fault)

@@ -1,4 +1,5 @@
 """Many events, one after the other."""
+from math import inf
 from typing import List
 
 from .. import leaks, pages
@@ -8,9 +9,9 @@ from .stage import ExtensionStage
 SCENARIOS: List[Scenario] = []
 scenario = scenarios_of(SCENARIOS)
 
-EVENTS = 500  # unless --invocations says how many
+EVENTS = 2000  # unless --invocations says how many
 SECONDS = 8  # that they may take, unless it does
-PATIENCE = 30  # seconds more, for as long as memory grows
+MOST, PATIENCE = 10_000, 30  # events, and seconds more for them, for as long as memory grows
 CHECKS = {"memory": "memory", "descriptors": "descriptors", "threads": "threads", "processes": "children",
           "zombies": "zombies"}
 
@@ -24,14 +25,14 @@ CHECKS = {"memory": "memory", "descriptors": "descriptors", "threads": "threads"
     ("children", pages.REUSE, "nor processes that run"),
     ("zombies", pages.REUSE, "nor ended ones that are not waited for"),
     ("files", pages.REUSE, "nor large files; a small one for each event is a SHOULD"),
-    lasts=10, drawn=False)
+    lasts=10, drawn=False, collects_early=True)
 def many_events(stage: ExtensionStage) -> None:
     stage.begin()
     stage.idle()
     if not stage.registered_for("INVOKE"):
         return stage.jury.rest(NOTE, "it does not register for INVOKE")
     process, given = stage.environment.process, stage.tools.options.invocations
-    wanted = given or EVENTS
+    course = leaks.Course(given, inf, given, 0) if given else leaks.Course(EVENTS, SECONDS, MOST, PATIENCE)
 
     def once(number: int) -> None:
         if stage.invoke(str(number).encode()).failed or process.ended:
@@ -41,12 +42,11 @@ def many_events(stage: ExtensionStage) -> None:
         return [stage.identifier.encode(), *requests]
     files = leaks.Files(stage, marks)
     try:
-        looks = leaks.repeat(process, files, once, wanted, float("inf") if given else SECONDS,
-                             0 if given and given < EVENTS // 2 else PATIENCE)
+        looks = leaks.repeat(process, files, once, course)
         stage.event("INVOKE", looks.done)
     except Missing as missing:
         stage.check("many_events", False, str(missing))
         return stage.jury.rest(NOTE, "not judged: it does not take as many")
     stage.check("many_events", not process.ended, stage.said(), f"{looks.done} events")
-    leaks.judge(stage, looks, CHECKS, wanted)
+    leaks.judge(stage, looks, CHECKS, course.wanted)
     return files.judge("files")

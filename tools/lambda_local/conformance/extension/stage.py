@@ -86,7 +86,7 @@ def report_failure(port: int, identifier: str, message: str) -> None:
 
 class ExtensionStage(Stage):
     """A stage whose environment has the extension; `begin` starts a generation of it."""
-    poll_kind = "event"
+    poll_kind, first_kind = "event", "register"
 
     def __init__(self, tools: Tools, scenario: Scenario, jury: Jury, telemetry: bool = True, companion: bool = False,
                  **settings: Any) -> None:
@@ -162,7 +162,8 @@ class ExtensionStage(Stage):
             """(A single poll may be the last one of the process before.)"""
             return len(environment.proxy.of("event")) > polls + 1
         self.start()
-        if (not environment.asked(before + 1, kind="register", in_vain=goes_on_without)
+        asked = environment.asked(before + 1, kind="register", in_vain=goes_on_without)
+        if (not (asked or self.starts_plainly(environment))
                 or environment.saw("register", 5, before + 1) is None):
             raise Missing(f"it did not register: {self.said()}")
         registered = environment.proxy.of("register")[before]

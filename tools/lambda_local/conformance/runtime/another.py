@@ -77,6 +77,8 @@ WAYS = (
 @scenario(*[way[:3] for way in WAYS], timeout=TIMEOUT, lasts=3)
 def another_lambda(stage: Stage) -> None:
     stage.idle()
+    if fault := fault_in(stage, "as usual", Manner()):
+        raise Missing(fault)
     for way in WAYS:
         fault = next(filter(None, (fault_in(stage, way.name, manner) for manner in way.manners)), None)
         stage.jury.judge(way.name, way.judged if fault else PASS, fault or "")

@@ -1,5 +1,6 @@
 """Many invocations, one after the other and at once."""
 import uuid
+from math import inf
 from typing import List
 
 from .. import leaks, pages
@@ -13,7 +14,7 @@ scenario = scenarios_of(SCENARIOS)
 ENVIRONMENTS = 3
 INVOCATIONS = 1000  # unless --invocations says how many
 SECONDS = 15  # that they may take, unless it does
-PATIENCE = 60  # seconds more, for as long as memory grows
+MOST, PATIENCE = 4000, 60  # invocations, and seconds more for them, for as long as memory grows
 PAYLOAD = 65_536  # bytes of each
 EVERY = 4  # invocations of which the last one fails, unless an error ends the process
 NOT_SO_MANY = "not judged: it does not take as many"
@@ -33,13 +34,13 @@ CHECKS = {"memory": "memory", "descriptors": "descriptors", "threads": "threads"
     ("children", pages.REUSE, "nor processes that run"),
     ("zombies", pages.REUSE, "nor ended ones that are not waited for"),
     ("files", pages.REUSE, "nor payloads in files; a small file for each invocation is a SHOULD"),
-    lasts=20, drawn=False)
+    lasts=20, drawn=False, collects_early=True)
 def a_thousand(stage: Stage) -> None:
-    given = stage.tools.options.invocations
-    wanted, mark = given or INVOCATIONS, uuid.uuid4().hex
+    given, mark = stage.tools.options.invocations, uuid.uuid4().hex
+    course = leaks.Course(given, inf, given, 0) if given else leaks.Course(INVOCATIONS, SECONDS, MOST, PATIENCE)
     event = compact({"do": "echo", "value": mark + "x" * (PAYLOAD - len(mark))})
     stage.idle()
-    with_errors = goes_on_after_errors(stage)
+    with_errors = False
 
     def once(number: int) -> None:
         fails = with_errors and number % EVERY == EVERY - 1
@@ -51,13 +52,13 @@ def a_thousand(stage: Stage) -> None:
         return [mark.encode(), *map(str.encode, requests)]
     files = leaks.Files(stage, marks, PAYLOAD // 5)
     try:
-        looks = leaks.repeat(stage.environment.process, files, once, wanted, float("inf") if given else SECONDS,
-                             0 if given and given < INVOCATIONS // 2 else PATIENCE)
+        with_errors = goes_on_after_errors(stage)
+        looks = leaks.repeat(stage.environment.process, files, once, course)
     except Missing as missing:
         stage.check("many_invocations", False, str(missing))
         return stage.jury.rest(NOTE, NOT_SO_MANY)
     stage.check("many_invocations", True, "", f"{looks.done} invocations")
-    leaks.judge(stage, looks, CHECKS, wanted)
+    leaks.judge(stage, looks, CHECKS, course.wanted)
     return files.judge("files")
 
 

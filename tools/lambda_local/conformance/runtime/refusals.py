@@ -36,12 +36,15 @@ def goes_on(stage: Stage, name: str, exchange: Exchange) -> None:
 
 
 def sent_again(stage: Stage, exchange: Exchange) -> Optional[str]:
-    """A refused response that is sent once more, in words. (One whose refusal came before it was whole may have lost
-    that with its connection.)"""
-    if exchange.asked is None or exchange.asked > exchange.end:
+    """A response that is sent once more after it was refused, or another one in its place, in words. (If the connection
+    was reset as the refusal came, that may be lost: then the same one may come again.)"""
+    sent = [one.length for one in stage.environment.proxy.of("response") if one.request_id == exchange.request_id]
+    others = sum(length != exchange.length for length in sent)
+    if others:
+        return f"after {exchange.status} it sends another response in its place: of {sent[-1]:,} bytes"
+    if len(sent) < 2 or exchange.is_reset:
         return None
-    times = sum(one.request_id == exchange.request_id for one in stage.environment.proxy.of("response"))
-    return f"after {exchange.status} it sends the same response again: {times} times in all" if times > 1 else None
+    return f"after {exchange.status} it sends the same response again: {len(sent)} times in all"
 
 
 @scenario(

@@ -23,8 +23,9 @@ from ..clock import CLOCK
 from ..run import Parser, ended_by_signal, seconds
 from .calls import Call
 from .course import ANSWER_SECONDS, SURELY, Course, Difference, Played, Unrecoverable
+from .incomplete import not_refused_by
 from .known import KnownDifferences
-from .minimise import Undecided, confirmed, minimised
+from .minimise import BUDGET, Undecided, confirmed, minimised
 from .oracle import FRESH, WARM, Oracle, Plan, counts_at, left_polls
 from .pairs import pairs_of
 from .random_sequences import Generator
@@ -38,6 +39,7 @@ FRESH_SHARE = 0.75  # of the random sequences begin with a fresh environment
 INIT_ERROR_ROUTE = "POST /2018-06-01/runtime/init/error"
 BATCH = 20  # random sequences that are made at once
 LATE, LATE_TIMES = ("invoke", "timeout", "moment"), 4  # a timeout that is late, and how often it has to be so again
+WHOLE_BUDGET = 2 * BUDGET  # seconds in which calls are left out of all that is found
 LATER = 3  # times that what was left undecided is looked into again, since this machine may be less busy then
 
 
@@ -52,6 +54,7 @@ class Run:
         self.generator, self.begun = Generator(random.Random(options.seed)), time.monotonic()
         self.reported: Set[Tuple[str, str, str]] = set()  # of differences, the words
         self.undecided: List[Plan] = []
+        self.budget = WHOLE_BUDGET
 
     def prepare(self) -> bool:
         """Finds out whether a Runtime API answers, and the function's timeout. Returns whether sequences can begin."""
@@ -91,6 +94,9 @@ class Run:
         if self.options.second:
             self.play(pairs_of(self.oracle), False)
             return
+        for one in not_refused_by(self.course):
+            if not self.over():
+                self.report.takes(one)
         with_timeouts = self.oracle.timeout <= MOST_TIMEOUT
         share = 0.0
         for start, until in ((FRESH, FRESH_SHARE), (WARM, 1.0)):
@@ -153,7 +159,9 @@ class Run:
             if not difference or difference.words in self.reported:
                 return
             if not self.options.second:
-                difference = minimised(self.course, self.oracle, difference)
+                begun = time.monotonic()
+                difference = minimised(self.course, self.oracle, difference, min(BUDGET, self.budget))
+                self.budget = max(0.0, self.budget - (time.monotonic() - begun))
         except Undecided:
             self.undecided.append(plan)
             return

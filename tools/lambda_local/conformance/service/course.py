@@ -2,7 +2,7 @@
 to."""
 import contextlib
 import time
-from typing import Dict, List, NamedTuple, Optional, Tuple, cast
+from typing import Dict, List, NamedTuple, Optional, Sequence, Tuple, cast
 
 from ...history.entries import count_in
 from ...history.words import Word
@@ -21,6 +21,7 @@ OF_TIMEOUT = 0.7  # of the function's timeout, as real time, that such an answer
 SURELY = 0.05  # how long a call waits that is to be taken before the next one
 RESTORE_SECONDS = 30  # and a timeout: how long a service is brought to a fresh environment
 STARVED_SECONDS = 10.0  # that a request may take which any service answers at once
+OF_INIT = ("register", "init-failure", "ext-init-failure")  # calls that an environment takes in its Init alone
 NO_ROUTE = "/conformance/no/such/route"
 PROBE = Call("invoke", "probe", ("={}",))
 
@@ -82,7 +83,8 @@ class Course:
             elif call.kind != "wait":
                 exchanges[step] = self.send(call, judge.ids)
             moments.append(since(begun))
-            self._await(plan, step, exchanges, self.wire.settle if settle is None else settle, patience)
+            self._await(plan, step, exchanges, self.wire.settle(exchanges.get(step)) if settle is None else settle,
+                        patience)
             if call.kind == "wait":
                 moments[-1] = since(begun)
             found, parted = self._compare(plan, step, exchanges, judge)
@@ -104,8 +106,9 @@ class Course:
     def _await(self, plan: Plan, step: int, exchanges: Dict[int, Exchange], settle: float, patience: float) -> None:
         """Waits for the answers that belong to the step; if its own call gets none, until it surely waits."""
         call, given = plan.sequence.calls[step], [one for one in plan.steps[step] if one.call in exchanges]
-        answered = [one for one in given
-                    if not self.known.accepts_silence((plan.sequence.calls[one.call].kind, label_of(one, False)))]
+        labels = labels_at(plan, step)
+        answered = [one for one in given if not self.known.accepts_silence(
+            (plan.sequence.calls[one.call].kind, labels[one.call]))]
         if answered:
             waited_for = [exchanges[one.call] for one in answered]
             if call.kind == "wait":
@@ -151,12 +154,7 @@ class Course:
         two have parted with one that is."""
         here = {given.call: given for given in plan.steps[step]}
         judge.since = exchanges[step].sent if step in exchanges and plan.sequence.calls[step].kind != "wait" else None
-        before = [given for earlier in plan.steps[:step] for given in earlier]
-        answered_before = (open_invocation(plan, step) is None
-                           and any(given.answer.word is Word.DELIVER for given in before))
-        over = {given.call for given in before}
-        asked_before = any(one.kind in POLLS and place not in over and one.label == plan.sequence.calls[step].label
-                           for place, one in enumerate(plan.sequence.calls[:step]))
+        over, labels = {given.call for earlier in plan.steps[:step] for given in earlier}, labels_at(plan, step)
         parted = False
 
         # (a delivery first, which makes an identifier known, and then the call itself)
@@ -165,7 +163,7 @@ class Course:
         for place in sorted(exchanges, key=order):
             exchange = exchanges[place]
             if place in here:
-                label = label_of(here[place], answered_before, asked_before)
+                label = labels[place]
                 aspects = judge.aspects(here[place], label, exchange)
             elif place not in over and exchange.over:
                 label, aspects = WAITS, [Aspect("answered", shown(exchange), "no answer: it waits", True)]
@@ -231,10 +229,7 @@ class Course:
     def learn_timeout(self) -> Optional[int]:
         """The function's timeout in seconds, by the deadline of an invocation in a fresh environment; none if it has
         none. With an extension, whose failure ends the environment at once."""
-        register = self.send(Call("register", "probe", ("=probe", "-")), {})
-        self.wire.collect([register], ANSWER_SECONDS)
-        if identifier := register.headers.get("lambda-extension-identifier"):
-            self.ids = {(True, "probe"): identifier}
+        if self.register():
             self.send(Call("ext-next", "probe"), self.ids)
         poll = self.send(Call("next"), {})
         self.wire.collect(seconds=SURELY)
@@ -243,6 +238,22 @@ class Course:
         deadline = poll.headers.get("lambda-runtime-deadline-ms", "")
         self.state = None
         return min(900, max(1, round((int(deadline) - poll.wall) / 1000))) if deadline.isdigit() else None
+
+    def register(self) -> str:
+        """The identifier of an extension that registers, or nothing."""
+        exchange = self.send(Call("register", "probe", ("=probe", "-")), {})
+        self.wire.collect([exchange], ANSWER_SECONDS)
+        identifier = exchange.headers.get("lambda-extension-identifier", "")
+        self.ids = {(True, "probe"): identifier} if identifier else {}
+        return identifier
+
+    def answer_to(self, method: str, path: str, headers: Sequence[Tuple[str, str]], body: Optional[bytes]) -> Exchange:
+        """What comes for a request from the environment that is answered at once."""
+        self.calls += 1
+        exchange = self.wire.send(self.tested.runtime, method, path, headers, body)
+        self.wire.collect([exchange], ANSWER_SECONDS)
+        self._outlast([] if exchange.over else [exchange])
+        return exchange
 
     def ask(self, call: Call, ids: Ids, seconds: float = 0.1) -> int:
         """The status of a call's answer; 0 if none comes."""
@@ -272,6 +283,28 @@ class Course:
 def since(begun: float, moment: Optional[float] = None) -> int:
     """Milliseconds from one moment to another, or to now."""
     return int(((time.monotonic() if moment is None else moment) - begun) * 1000)
+
+
+def labels_at(plan: Plan, step: int) -> Dict[int, str]:
+    """The words for the answers of a step, by the calls that they answer."""
+    calls, before = plan.sequence.calls, [given for earlier in plan.steps[:step] for given in earlier]
+    answered_before = (open_invocation(plan, step) is None
+                       and any(given.answer.word is Word.DELIVER for given in before))
+    over = {given.call for given in before}
+    asked_before = any(one.kind in POLLS and place not in over and one.label == calls[step].label
+                       for place, one in enumerate(calls[:step]))
+    found = {given.call: label_of(given, answered_before, asked_before) for given in plan.steps[step]}
+    if calls[step].kind in OF_INIT and has_left(plan, step) and found.get(step) in ("registered", "accepted"):
+        found[step] += "-after-leave"
+    return found
+
+
+def has_left(plan: Plan, step: int) -> bool:
+    """Whether the connection of the runtime's Next has ended, and it has not asked again."""
+    calls = plan.sequence.calls
+    last = next((place for place in reversed(range(step)) if calls[place].environment == calls[step].environment
+                 and (calls[place].kind == "next" or place in plan.tickets)), None)
+    return last is not None and calls[last].kind == "leave"
 
 
 def open_invocation(plan: Plan, step: int) -> Optional[int]:

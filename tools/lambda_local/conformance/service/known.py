@@ -17,14 +17,18 @@ class Known(NamedTuple):
         return all(mine in ("*", other) for mine, other in zip(self.words, words))
 
 
+END = "the end of an environment"
 BUILT_IN = (
-    Known(("next", "Container", "connection"), "the end of an environment"),
-    Known(("ext-next", "Container", "connection"), "the end of an environment"),
-    Known(("next", "Container", "refusal"), "the end of an environment"),
-    Known(("ext-next", "Container", "refusal"), "the end of an environment"),
+    *(Known(("*", refused, respect), END) for refused in ("Container", "State-at-end")
+      for respect in ("connection", "refusal")),
+    Known(("*", "accepted-at-end", "*"), END),
+    # (it may have begun anew before, or take the report of an extension that starts)
+    *(Known((call, "State-at-end", "status"), END) for call in ("register", "init-failure", "ext-init-failure")),
     Known(("init-failure", "accepted-after-next", "*"), "an Init that fails after its Next"),
     Known(("ext-init-failure", "accepted-after-next", "*"), "an Init that fails after its Next"),
-    Known(("invoke", "error-of-init", "*"), "a failed Init"),
+    *(Known(("*", f"{taken}-after-leave", "*"), "a Next whose connection ends")
+      for taken in ("registered", "accepted")),
+    Known(("invoke", "error-of-init", "connection"), "a failed Init"),
     Known(("invoke", "throttled-after-answer", "*"), "an environment that has answered and not asked again"),
 )
 # The points that comparing takes into account without a line above.

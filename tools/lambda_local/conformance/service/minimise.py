@@ -10,7 +10,7 @@ from .sequences import plans_of
 SLOW, SLOWEST = 0.03, 0.2  # seconds for which a call waits that is not answered, so that the order is sure
 PATIENCE = 0.5  # seconds for an answer, once it is known which one is missing
 TRIES = 3  # of a sequence in which a deadline came too early
-BUDGET = 60.0  # seconds; what was found until then is reported
+BUDGET = 60.0  # seconds for a difference; what was found until then is reported
 
 
 class Undecided(Exception):
@@ -51,9 +51,9 @@ def kinds(step: Tuple[Given, ...]) -> List[Tuple[int, str]]:
     return [(given.call, given.answer.word) for given in step]
 
 
-def minimised(course: Course, oracle: Oracle, difference: Difference) -> Difference:
-    """A difference of the same words with as few calls as were found."""
-    end = time.monotonic() + BUDGET
+def minimised(course: Course, oracle: Oracle, difference: Difference, seconds: float) -> Difference:
+    """A difference of the same words with as few calls as were found in this time."""
+    end = time.monotonic() + seconds
     best, size = difference, len(calls_before(difference)) // 2
     while size and time.monotonic() < end:
         first = 1 if best.plan.sequence.start == WARM else 0  # (the Next that waits stays)

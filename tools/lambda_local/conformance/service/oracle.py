@@ -10,7 +10,7 @@ from typing import Sequence as TypingSequence
 from ...history.entries import Answer, Entry, count_in
 from ...history.replay import entries_of_script
 from ...history.script import Script
-from ...history.words import TICK, Word
+from ...history.words import CLOSING, TICK, Word
 from .calls import MADE_BY_NONE, OF_EXTENSIONS, OF_INVOCATIONS, Call, Counts, about_extension
 Entries = Mapping[int, int]  # by the places of calls
 
@@ -35,6 +35,7 @@ class Given(NamedTuple):
     answer: Answer
     cause: str  # the kind of the call that gave it, or `expire`
     remaining: int  # until the deadline that it names, if it names one, in milliseconds
+    at_end: bool  # whether it answers a call to an environment that is ending
 
 
 class Plan(NamedTuple):
@@ -79,16 +80,18 @@ class Oracle:
         return self._some([sequence], moments)[0]
 
     def _some(self, sequences: TypingSequence[Sequence], moments: Optional[TypingSequence[int]] = None) -> List[Plan]:
-        registered: List[Optional[Set[int]]] = [None] * len(sequences)
-        tickets: List[Dict[int, int]] = [{} for _ in sequences]
-        while True:  # (which registrations are taken decides on the counts of the others)
-            counts = [counts_of(sequence.calls, taken) for sequence, taken in zip(sequences, registered)]
-            found = self._replayed(sequences, counts, tickets, moments)
-            seen: List[Optional[Set[int]]] = [taken_registrations(plan) for plan in found]
-            known = [plan.tickets for plan in found]
-            if seen == registered and known == tickets:
-                return found
-            registered, tickets = seen, known
+        found: Dict[int, Plan] = {}
+        left: Dict[int, Tuple[Counts, Dict[int, int]]] = {
+            number: (counts_of(sequence.calls, None), {}) for number, sequence in enumerate(sequences)}
+        while left:  # (which registrations are taken decides on the counts of the others)
+            plans = dict(zip(left, self._replayed([sequences[number] for number in left],
+                                                  [counts for counts, _ in left.values()],
+                                                  [tickets for _, tickets in left.values()], moments)))
+            seen = {number: (counts_of(plan.sequence.calls, taken_registrations(plan)), plan.tickets)
+                    for number, plan in plans.items()}
+            found.update((number, plan) for number, plan in plans.items() if seen[number] == left[number])
+            left = {number: seen[number] for number in left if number not in found}
+        return [found[number] for number in range(len(sequences))]
 
     def _replayed(self, sequences: TypingSequence[Sequence], counts: List[Counts], tickets: List[Dict[int, int]],
                   moments: Optional[TypingSequence[int]]) -> List[Plan]:
@@ -143,15 +146,28 @@ class Oracle:
             if kind not in BY_TICK:
                 calls[last], causes[last] = (number, place), kind
             before = last
+        ending = calls_at_end(entries_made)
         for entry, answer in answers:
             number, place = step_at[entry]
             if answer.ticket in calls and calls[answer.ticket][0] == number:
                 steps[number][place].append(Given(calls[answer.ticket][1], answer, causes[entry],
-                                                  (answer.deadline or times[number][place]) - times[number][place]))
+                                                  (answer.deadline or times[number][place]) - times[number][place],
+                                                  answer.ticket == entry and entry in ending))
         entries: List[Dict[int, int]] = [{} for _ in sequences]
         for entry, (number, place) in calls.items():
             entries[number][place] = entry
         return [tuple(map(tuple, of_one)) for of_one in steps], entries
+
+
+def calls_at_end(entries: List[Entry]) -> Set[int]:
+    """The entries of calls that came to an environment while it was closing."""
+    phases: Dict[int, str] = {}
+    found: Set[int] = set()
+    for entry in entries:
+        if phases.get(entry.call.environment or 0) == CLOSING:
+            found.add(entry.ticket)
+        phases.update((phase.environment, phase.name) for phase in entry.phases)
+    return found
 
 
 def left_polls(sequence: Sequence, steps: Steps, entries: Entries) -> Dict[int, int]:

@@ -4,8 +4,9 @@ from typing import Any, Callable, List, Optional
 
 from ... import junit
 from ...service import Fault
-from ..pages import INIT_ERROR
+from ..pages import INIT_ERROR, Page
 from .course import Course, Difference
+from .incomplete import REFUSALS, NotRefused
 from .judge import page_of
 from .oracle import WARM, Sequence
 
@@ -38,12 +39,20 @@ class Report:
 
     def missing(self, route: str, status: int) -> None:
         """A route of the Runtime API that is not there, without which no sequence has a known beginning."""
+        self._differs("init-failure accepted status", f"{route} is answered {status} instead of 202", INIT_ERROR)
+        self.write("      (no sequence can be played without it)")
+
+    def takes(self, one: NotRefused) -> None:
+        """A request that lacks what its page requires."""
+        statuses = " or ".join(map(str, REFUSALS))
+        self._differs(" ".join(one.words), f"{cut(one.theirs)} instead of {statuses}", one.page)
+
+    def _differs(self, words: str, how: str, page: Page) -> None:
+        """A difference that one request shows."""
         self.differences += 1
-        title = f"init-failure accepted status: {route} is answered {status} instead of 202"
-        page = f"page      {INIT_ERROR}"
-        for line in (f"DIFFERENCE  {title}", f"      {page}", "      (no sequence can be played without it)"):
+        for line in (f"DIFFERENCE  {words}: {how}", f"      page      {page}"):
             self.write(line)
-        self.suite.case("conformance service", "init-failure accepted status", 0.0, failure=title, details=page)
+        self.suite.case("conformance service", words, 0.0, failure=f"{words}: {how}", details=f"page      {page}")
 
     def finish(self, course: Course, seconds: float, needs_random: bool = True) -> int:
         """The last lines and the file: the exit status."""

@@ -43,7 +43,7 @@ bodies as they are written
   failure b ={"errorType":"A.Type","errorMessage":"two%20%20spaces","stackTrace":[],"cause":{"errorMessage":"why"}}
   next
 an invocation that waits for the runtime
-  register x =probe -
+  register x =probe i
   ext-next x
   invoke a trace=Root=1-65a1b2c3-0123456789abcdef01234567;Sampled=1 ={"text":"M%C3%BCller"}
   next
@@ -124,6 +124,12 @@ a Next of an Init whose connection ends
   next
   response a =2
   next
+an extension that registers after a Next whose connection ends
+  register x =probe -
+  ext-next x
+  next
+  leave
+  register y =late -
 an extension that fails as it starts
   register x =probe s
   register y =other is
@@ -137,6 +143,17 @@ an extension that ends while all wait
   ext-next x
   next
   ext-exit-failure x REPORT
+a second report of an extension
+  register x =probe s
+  register y =other is
+  ext-next y
+  ext-exit-failure x REPORT
+  ext-exit-failure x REPORT
+a second extension that fails as it starts
+  register x =probe s
+  register y =other s
+  ext-init-failure x REPORT
+  ext-init-failure y REPORT
 an invocation during the end
   register x =probe s
   ext-next x
@@ -245,6 +262,13 @@ a timeout with extensions
   ext-next x
   wait
   ext-next x
+  response a =2
+an Init that is longer than the timeout
+  register x =probe -
+  ext-next x
+  invoke a =1
+  wait
+  next
   response a =2
 """, WARM: """
 a late response

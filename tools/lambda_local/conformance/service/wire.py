@@ -6,13 +6,14 @@ import math
 import select
 import socket
 import time
-from typing import Deque, Dict, List, Optional, Sequence, Tuple
+from typing import Deque, Dict, List, Optional, Sequence, Set, Tuple
 
 from ...http1 import CutShort, Data, EndOfMessage, Malformed, Response, ResponseReader
 from ..clock import CLOCK
 from ..exchanges import shown_bytes
 
 LEAST_SETTLE, MOST_SETTLE = 0.002, 0.1  # seconds after which a request that is not answered is taken for one that waits
+WAKING_SETTLE = 0.03  # at least, on a connection that is new, or on which a request waited for this long
 RECENT = 64  # round trips by which that is measured
 
 
@@ -26,6 +27,7 @@ class Exchange:
         self.response: Optional[Response] = None
         self._body, self.is_whole = bytearray(), False
         self.sent = time.monotonic()
+        self.wakes = False  # on a connection on which a service may take longer to see it
         self.answered: Optional[float] = None
         self.wall = 0.0  # then, in Unix milliseconds
         self.status, self.ended = 0, ""
@@ -70,13 +72,14 @@ class Wire:
     def __init__(self) -> None:
         self.open: Dict[socket.socket, Exchange] = {}  # of exchanges that wait
         self.idle: Dict[Tuple[str, int], List[socket.socket]] = {}
+        self.awake: Set[socket.socket] = set()  # of the idle ones, those whose last request was answered at once
         self.trips: Deque[float] = collections.deque(maxlen=RECENT)
 
-    @property
-    def settle(self) -> float:
+    def settle(self, exchange: Optional[Exchange] = None) -> float:
         """How long a request may go without an answer until it surely waits: some round trips of late."""
         usual = sorted(self.trips)[len(self.trips) // 2] if self.trips else LEAST_SETTLE
-        return min(MOST_SETTLE, max(LEAST_SETTLE, 3 * usual))
+        least = WAKING_SETTLE if exchange and exchange.wakes else LEAST_SETTLE
+        return min(MOST_SETTLE, max(least, 3 * usual))
 
     def send(self, address: Tuple[str, int], method: str, path: str, headers: Sequence[Tuple[str, str]] = (),
              body: Optional[bytes] = None) -> Exchange:
@@ -87,24 +90,25 @@ class Wire:
             lines.append(f"Content-Length: {len(body)}")
         data = ("\r\n".join(lines) + "\r\n\r\n").encode() + (body or b"")
         exchange = Exchange(address, method)
-        connection = self._connection(address)
+        connection = self._kept(address)
+        if not connection:
+            connection = socket.create_connection(address, timeout=10)
+            connection.setsockopt(socket.IPPROTO_TCP, socket.TCP_NODELAY, 1)
+        exchange.wakes = connection not in self.awake
         # (what it answered before it had read all is read)
         with contextlib.suppress(BrokenPipeError, ConnectionResetError):
             connection.sendall(data)
         self.open[connection] = exchange
         return exchange
 
-    def _connection(self, address: Tuple[str, int]) -> socket.socket:
+    def _kept(self, address: Tuple[str, int]) -> Optional[socket.socket]:
         for connection in self.idle.pop(address, []):
             if select.select([connection], [], [], 0)[0]:  # the peer has ended it
-                connection.close()
+                self._close(connection)
             else:
                 self.idle.setdefault(address, []).append(connection)
-        if self.idle.get(address):
-            return self.idle[address].pop()
-        connection = socket.create_connection(address, timeout=10)
-        connection.setsockopt(socket.IPPROTO_TCP, socket.TCP_NODELAY, 1)
-        return connection
+        kept = self.idle.get(address, [])
+        return kept.pop(max(range(len(kept)), key=lambda place: kept[place] in self.awake)) if kept else None
 
     def collect(self, wanted: Sequence[Exchange] = (), seconds: float = 0.0, most: float = math.inf) -> None:
         """Reads until all that is wanted is over or the time is up, of which there are at most so many real seconds;
@@ -112,12 +116,12 @@ class Wire:
         now = CLOCK.now if wanted else time.monotonic  # (what is wanted may be late if this machine is busy)
         end, last = now() + seconds, time.monotonic() + most
         while True:
-            left = max(0.0, min(end - now(), last - time.monotonic()))
+            is_there = bool(wanted) and all(exchange.over for exchange in wanted)
+            left = 0.0 if is_there else max(0.0, min(end - now(), last - time.monotonic()))
             ready = select.select(list(self.open), [], [], left)[0]
             for connection in ready:
                 self._read(connection)
-            if (wanted and all(exchange.over for exchange in wanted)) or (
-                    not ready and (now() >= end or time.monotonic() >= last)):
+            if is_there or (not ready and (now() >= end or time.monotonic() >= last)):
                 return
 
     def _read(self, connection: socket.socket) -> None:
@@ -134,7 +138,7 @@ class Wire:
             self._end(connection, exchange)
         elif exchange.ended:
             del self.open[connection]
-            connection.close()
+            self._close(connection)
 
     def _end(self, connection: socket.socket, exchange: Exchange) -> None:
         response = exchange.response
@@ -145,9 +149,14 @@ class Wire:
         exchange.answered, exchange.wall = time.monotonic(), time.time() * 1000
         del self.open[connection]
         if exchange.ended or not response or not response.keeps_alive:
-            connection.close()
-        else:
-            self.idle.setdefault(exchange.address, []).append(connection)
+            self._close(connection)
+            return
+        self.idle.setdefault(exchange.address, []).append(connection)
+        (self.awake.add if exchange.answered - exchange.sent < WAKING_SETTLE else self.awake.discard)(connection)
+
+    def _close(self, connection: socket.socket) -> None:
+        self.awake.discard(connection)
+        connection.close()
 
     def note_trip(self, exchange: Exchange) -> None:
         """Notes how long an immediate answer takes."""
@@ -158,11 +167,11 @@ class Wire:
         for connection, exchange in list(self.open.items()):
             if exchange in exchanges:
                 del self.open[connection]
-                connection.close()
+                self._close(connection)
 
     def drop(self) -> None:
         """Ends all connections, as processes that are killed do."""
         for connection in [*self.open, *(one for kept in self.idle.values() for one in kept)]:
-            connection.close()
+            self._close(connection)
         self.open.clear()
         self.idle.clear()
