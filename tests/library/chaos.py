@@ -16,6 +16,7 @@ import urllib.parse
 from typing import Dict, List
 
 from tests.library.counted import check
+from tests.library.threads import together
 from tests.library.up_kit import ROOT, RUNTIME, Up, children, command_of, lives, until
 
 APP = """import os, random, time
@@ -158,13 +159,7 @@ def chaos(seconds, seed=None):
     one = Chaos(seconds, seed)
     pid = one.up.process.pid
     before = state_of(pid)
-    threads = [threading.Thread(target=work) for work in
-               (one.send_events, one.send_events, one.call, one.call, one.get, one.kill, one.stall,
-                one.kill_fronts)]
-    for thread in threads:
-        thread.start()
-    for thread in threads:
-        thread.join()
+    together(one.send_events, one.send_events, one.call, one.call, one.get, one.kill, one.stall, one.kill_fronts)
     one.up.reading.set()
     check("what was killed itself left nothing", one.counts["fronts that left something"], 0)
     check("lambda_local up is there after chaos", lives(pid), True)

@@ -26,7 +26,7 @@ LIES: Dict[str, Tuple[str, str, str, str]] = {
                       "        if status == 429:\n", "        if status == 429 and False:\n"),
     "events_load": ("LOAD_SECONDS=10", OF_TOOLS + "front/queue.py",
                     "        lane.ready.appendleft(event)\n", "        pass\n"),
-    "explained": ("", OF_TOOLS + "configuration.py", "256 is the most", "255 is the most"),
+    "explained": ("", OF_TOOLS + "configuration.py", "must be from 1 to 900 seconds", "must be from 1 to 800 seconds"),
     "forking": ("same_as_fresh", OF_TOOLS + "forker.py", "    sys.argv[:] = [path]\n", "    pass\n"),
     "from_template": ("conditions", OF_TOOLS + "from_template/values.py",
                       'raise Unknown(f"there is not a condition {condition}")', "return True"),

@@ -93,18 +93,21 @@ def is_left_alone(root, finding):
 
 def checks_of_types(root):
     """Whether tools/ is as `mypy --strict` has it, if it is here (Debian: mypy): its packages, modules and Python
-    programs, which have names without an ending. Of tests/library it looks into definitions without types too."""
+    programs, which have names without an ending. Of tests/library and tests/tools it looks into definitions without
+    types too."""
     tools = os.path.join(root, "tools")
     names = [name for name in sorted(os.listdir(tools)) if os.path.exists(os.path.join(tools, name, "__init__.py"))
              or os.path.isfile(os.path.join(tools, name)) and kind_of(os.path.join(tools, name), name) == "python"]
     names += [os.path.join("library", name) for name in sorted(os.listdir(os.path.join(tools, "library")))
               if kind_of(os.path.join(tools, "library", name), name) == "python"]
     yield from types_found(root, "mypy --strict", tools, ["--strict", "--scripts-are-modules"], names)
-    names = [name for name in files_of(root) if re.fullmatch(r"tests/library/[\w/]+\.py", name)]
+    # (the tests of the kit are not typed yet)
+    names = [name for name in files_of(root)
+             if re.fullmatch(r"tests/(library/[\w/]+|tools/(?!conformance)\w+)\.py", name)]
     paths = ":".join(os.path.join(root, *parts) for parts in (("tools",), ("tools", "library"),
                                                               ("tests", "tools", "wrong_programs"),
                                                               ("tests", "tools", "sound_programs")))
-    yield from types_found(root, "mypy of tests/library", root,
+    yield from types_found(root, "mypy of tests", root,
                            ["--check-untyped-defs", "--ignore-missing-imports", "--namespace-packages",
                             "--explicit-package-bases"], names, MYPYPATH=paths)
 

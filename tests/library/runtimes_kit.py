@@ -159,6 +159,16 @@ class RuntimeCase(Case):
                        bool(running.until(lambda: "is refused: 403 " in running.output(), 5)))
             self.check(f"{name}: and the next one is served", running.invoke({}), (False, pid))
 
+    def too_large(self, name, running):
+        """A response that is too large is refused and printed, and the same process serves on."""
+        first = running.invoke({})[1]
+        for _ in range(5):
+            self.check(f"{name}: a response too large", running.invoke({"do": "large"})[1]["errorType"],
+                       "Function.ResponseSizeTooLarge")
+            self.check(f"{name}: and the next one is served", running.invoke({}), (False, first))
+        self.check(f"{name}: the refusals are printed",
+                   running.until(lambda: running.output().count(": 413 ") == 5))
+
     def ends(self, name, command, files):
         """The container error ends it, as does the end of the service; without a service it says so."""
         with Running(command, files) as running:

@@ -1,5 +1,6 @@
 """The cases of a table of scripts, in the form that docs/checks.md describes under "Adding a case", and what a program
 makes of one."""
+import re
 import subprocess
 from typing import List, NamedTuple, Tuple
 
@@ -65,6 +66,12 @@ def words_of(table):
     """The words with which the program takes the cases of a table, by its folder: replays or traces."""
     folder, name = table.split("/")[-2:]
     return ["replay"] if folder != "traces" else ["trace", *["--bodies", "none"] * (name == "without_bodies.txt")]
+
+
+def status_of(case):
+    """The status that the program ends with."""
+    told = re.search(r", status (\d+)\n$", case.gives)
+    return int(told[1]) if told else 0
 
 
 def fault_of(program, case, words=("replay",)):

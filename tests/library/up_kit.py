@@ -115,6 +115,10 @@ class Up:
         """Whether a line has this text."""
         return any(text in line for line in list(self.lines))
 
+    def told(self, pattern):
+        """The pattern's group in the first of its lines that has it."""
+        return re.findall(pattern, "\n".join(self.lines))[0]
+
     def count(self, pattern):
         return sum(1 for line in list(self.lines) if re.search(pattern, line))
 

@@ -142,17 +142,17 @@ class Events(Case):
 
     def test_refusals(self):
         with self.running() as (up, caller):
-            for name, path, headers, body, wanted in (
-                    ("an unknown function", invoke_path("g"), {}, b"{}", (404, "ResourceNotFoundException")),
-                    ("a malformed name", invoke_path("f%2F"), {}, b"{}", (400, "InvalidParameterValueException")),
-                    ("a version", invoke_path("f") + "?Qualifier=7", {}, b"{}", (404, "ResourceNotFoundException")),
-                    ("what is no JSON", invoke_path("f"), {}, b"{", (400, "InvalidRequestContentException")),
-                    ("NaN", invoke_path("f"), {}, b"NaN", (400, "InvalidRequestContentException")),
-                    ("more than 1 MiB", invoke_path("f"), {}, b'"' + b"x" * (1 << 20) + b'"',
+            for name, path, kind, body, wanted in (
+                    ("an unknown function", invoke_path("g"), "Event", b"{}", (404, "ResourceNotFoundException")),
+                    ("a malformed name", invoke_path("f%2F"), "Event", b"{}", (400, "InvalidParameterValueException")),
+                    ("a version", invoke_path("f") + "?Qualifier=7", "Event", b"{}",
+                     (404, "ResourceNotFoundException")),
+                    ("what is no JSON", invoke_path("f"), "Event", b"{", (400, "InvalidRequestContentException")),
+                    ("NaN", invoke_path("f"), "Event", b"NaN", (400, "InvalidRequestContentException")),
+                    ("more than 1 MiB", invoke_path("f"), "Event", b'"' + b"x" * (1 << 20) + b'"',
                      (413, "RequestTooLargeException")),
-                    ("another type", invoke_path("f"), {"X-Amz-Invocation-Type": "Events"}, b"{}",
-                     (400, "InvalidParameterValueException"))):
-                status, answered, _ = caller.ask("POST", path, body, {"X-Amz-Invocation-Type": "Event", **headers})
+                    ("another type", invoke_path("f"), "Events", b"{}", (400, "InvalidParameterValueException"))):
+                status, answered, _ = caller.ask("POST", path, body, {"X-Amz-Invocation-Type": kind})
                 self.check(f"an event: {name}", (status, answered.get("x-amzn-errortype")), wanted)
             self.check("an unknown function, tried out",
                        caller.ask("POST", invoke_path("g"), b"{}", {"X-Amz-Invocation-Type": "DryRun"})[0], 404)
@@ -276,7 +276,8 @@ class Events(Case):
         up = Up(*READY, functions=functions(), app=APP, whole={"asynchronous": True},
                 environ={**os.environ, "LAMBDA_LOCAL_HOSTS": "listed.example,x.y"})
         up.until("[up] ready", READY_SECONDS)
-        service, statuses, taken = behind(up), Counter(), 0
+        statuses: Counter[bytes] = Counter()
+        service, taken = behind(up), 0
         for head in HEADS:
             wanted = raw_answer(service, head)
             self.check(f"the front answers {head!r} as the service", raw_answer(up.endpoint, head), wanted)

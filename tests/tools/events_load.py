@@ -11,6 +11,7 @@ import statistics
 import threading
 import time
 from collections import Counter
+from typing import Dict, List
 
 from tests.library.cases import Case
 from tests.library.events_kit import READY, READY_SECONDS, Caller, behind, invoke_path
@@ -163,7 +164,7 @@ def text_of(*path):
 
 def medians(callers, count):
     """The median milliseconds of a call of each, which take turns."""
-    taken = {name: [] for name in callers}
+    taken: Dict[str, List[float]] = {name: [] for name in callers}
     for _ in range(count):
         for name, caller in callers.items():
             begun = time.perf_counter()

@@ -9,7 +9,9 @@ import subprocess
 import sys
 import tempfile
 import time
+from typing import Dict, List, Tuple
 
+from lambda_local.configuration import Members
 from lambda_local.service import free_ports
 from tests import ROOT
 from tests.library.cases import Case
@@ -19,8 +21,9 @@ from tests.library.up_kit import children, command_of, until
 PROGRAM = program()
 LAUNCHERS = {"the launcher": [os.path.join(ROOT, "lambda_local")],
              "the package": [sys.executable, os.path.join(ROOT, "tools")]}
-CONFIGURATION = {"account": "123456789012", "region": "us-east-1",
-                 "functions": [{"name": "f", "ports": [19001], "timeout": 3}], "invokePort": 19000}
+CONFIGURATION: Members = {"account": "123456789012", "region": "us-east-1",
+                          "functions": [{"name": "f", "ports": [19001], "timeout": 3}], "invokePort": 19000}
+WAYS: Tuple[List[str], ...] = ([], ["replay"], ["trace"])
 
 
 def environ(**more):
@@ -31,6 +34,12 @@ def ended(words, stdin, **more):
     """Status, output, and the lines on standard error."""
     done = subprocess.run(words, stdin=stdin, stdout=subprocess.PIPE, stderr=subprocess.PIPE, env=environ(**more))
     return done.returncode, done.stdout, done.stderr.decode().splitlines()
+
+
+def take_signals():
+    """Also if the tests run in the background, where a shell has these ignored, and can catch none of them."""
+    for number in (signal.SIGINT, signal.SIGHUP):
+        signal.signal(number, signal.SIG_DFL)
 
 
 class Explained(Case):
@@ -55,7 +64,7 @@ class Explained(Case):
             with open(path) as file:
                 own = ended([PROGRAM], file)
             for launcher, words in LAUNCHERS.items():
-                for more in ([], ["replay"], ["trace"]):
+                for more in WAYS:
                     with open(path) as file:
                         status, output, said = ended([*words, *more], file)
                     self.check(f"{launcher} {' '.join(more)}: {name}", (
@@ -92,6 +101,7 @@ class Explained(Case):
                                                           in said[-1]), (2, "script: line 1200002", True))
             child = subprocess.Popen(words, stdin=subprocess.PIPE, stdout=subprocess.PIPE, stderr=subprocess.PIPE,
                                      env=environ())
+            assert child.stdin and child.stdout and child.stderr
             child.stdin.write(f"{opening}\n0 next 1\n5 invoke f - - =1\n".encode())
             child.stdin.flush()
             child.stdin.close()
@@ -112,6 +122,7 @@ class Explained(Case):
             with open(path) as file:
                 child = subprocess.Popen(words, stdin=file, stdout=subprocess.PIPE, stderr=subprocess.PIPE,
                                          env=environ())
+                assert child.stdout and child.stderr
                 child.stdout.close()
                 child.wait()
                 self.check(f"{launcher}: a reader that has gone", child.returncode, 4)
@@ -120,14 +131,14 @@ class Explained(Case):
     def test_serving(self):
         path = os.path.join(self.folder, "service.json")
         bad = {**CONFIGURATION, "invokePort": 19001}
-        for name, text, more, line, told in (
-                ("a port twice", json.dumps(bad, indent=2), {}, "configuration: DuplicatePort", "19001"),
-                ("no JSON", "{", {}, "configuration: NotJson", "this is not JSON"),
-                ("a patience that is no number", json.dumps(CONFIGURATION), {"LAMBDA_LOCAL_PATIENCE_MS": "abc"},
-                 "usage: ",
-                 "LAMBDA_LOCAL_PATIENCE_MS=abc: write a whole number of milliseconds from 0 to 2000"),
-                ("a host with a port", json.dumps(CONFIGURATION), {"LAMBDA_LOCAL_HOSTS": "a:80"}, "usage: ",
-                 "LAMBDA_LOCAL_HOSTS=a:80: write names of letters")):
+        refused: Tuple[Tuple[str, str, Dict[str, str], str, str], ...] = (
+            ("a port twice", json.dumps(bad, indent=2), {}, "configuration: DuplicatePort", "19001"),
+            ("no JSON", "{", {}, "configuration: NotJson", "this is not JSON"),
+            ("a patience that is no number", json.dumps(CONFIGURATION), {"LAMBDA_LOCAL_PATIENCE_MS": "abc"},
+             "usage: ", "LAMBDA_LOCAL_PATIENCE_MS=abc: write a whole number of milliseconds from 0 to 2000"),
+            ("a host with a port", json.dumps(CONFIGURATION), {"LAMBDA_LOCAL_HOSTS": "a:80"}, "usage: ",
+             "LAMBDA_LOCAL_HOSTS=a:80: write names of letters"))
+        for name, text, more, line, told in refused:
             with open(path, "w") as file:
                 file.write(text)
             for launcher, words in LAUNCHERS.items():
@@ -148,9 +159,10 @@ class Explained(Case):
                        "functions": [{"name": "f", "ports": [port], "timeout": 3}]}, file)
         with open(long, "w") as file:
             file.write(json.dumps({**CONFIGURATION, "maxEntries": 10_000_000}) + "\n"
-                       + "".join(f"{moment} tick\n" for moment in range(3_000_000)))
+                       + "".join(f"{moment} tick\n" for moment in range(300_000)))
         for launcher, words in LAUNCHERS.items():
             child = subprocess.Popen([*words, "serve", path], stderr=subprocess.PIPE, env=environ())
+            assert child.stderr
             listening = any(b"listening" in line for line in iter(child.stderr.readline, b""))
             self.check(f"{launcher} serve is the program", (listening, command_of(child.pid).split("\0")[0]),
                        (True, PROGRAM))
@@ -164,22 +176,27 @@ class Explained(Case):
                 until(lambda: any(command_of(pid).startswith(PROGRAM) for pid in children(child.pid)), 20)
                 time.sleep(0.1)
                 child.send_signal(number)
+                assert child.stderr
                 self.check(f"{launcher} replay of a pipe: {number.name}", (child.wait(10), child.stderr.read()),
                            (-number, b""))
                 child.stderr.close()
                 os.close(waiting)
                 os.close(kept)
+                unread, full = os.pipe()  # (so it does not end by itself)
                 with open(long) as file:
-                    child = subprocess.Popen(words, stdin=file, stdout=subprocess.DEVNULL, stderr=subprocess.PIPE,
-                                             env=environ())
+                    child = subprocess.Popen(words, stdin=file, stdout=full, stderr=subprocess.PIPE, env=environ(),
+                                             preexec_fn=take_signals)
                 until(lambda: any(command_of(pid).startswith(PROGRAM) for pid in children(child.pid)), 20)
                 below = children(child.pid)
                 time.sleep(0.1)
                 child.send_signal(number)
+                assert child.stderr
                 self.check(f"{launcher} replay: {number.name}", (child.wait(10), child.stderr.read(), len(below) > 0,
                                                                  [pid for pid in below if command_of(pid)]),
                            (-number, b"", True, []))
                 child.stderr.close()
+                os.close(unread)
+                os.close(full)
 
     def test_terminals(self):
         """Alone on a terminal there is nothing to replay: the help is printed."""

@@ -3,8 +3,10 @@ interpreter would be, ends as one would, is below the guard, and shares nothing 
 failed'."""
 import os
 import signal
+from typing import Dict
 
 from tests.library.cases import Case
+from tests.library.trees import write
 from tests.library.up_kit import Up, children, command_of, lives, until
 
 APP = r'''import os, random, sys
@@ -82,11 +84,6 @@ def again(up):
     until(lambda: up.count("exited") > seen, 20)
 
 
-def write(path, text):
-    with open(path, "w") as file:
-        file.write(text)
-
-
 class Forking(Case):
     def test_same_as_fresh(self):
         seen = {}
@@ -114,7 +111,7 @@ class Forking(Case):
         up = up_of(environments=4)
         up.until("ready")
         self.check("of four environments three are forked, by a fourth process", len(with_its_line(up)), 4)
-        draws = {}
+        draws: Dict[int, float] = {}
         for _ in range(60):
             pid, number, _ = up.invoke(patience=20, do="random")[0]
             draws.setdefault(pid, number)
@@ -165,8 +162,7 @@ class Forking(Case):
         site = "import threading, time\nthreading.Thread(target=time.sleep, args=(600,), daemon=True).start()\n"
         for name, text, count in (("that begins with threads", site, 0), ("with the function's own path", "", 2)):
             up = Up(app=APP, functions=[{**FUNCTION, "environments": 2, "variables": {"PYTHONPATH": "site"}}],
-                    prepare=lambda at: (os.mkdir(f"{at}/site"), write(f"{at}/site/sitecustomize.py",
-                                                                      text)))
+                    prepare=lambda at: write(f"{at}/site/sitecustomize.py", text.encode()))
             self.check(f"an interpreter {name}", (up.until("ready"), len(with_its_line(up))), (True, count))
             path = up.invoke(patience=20, do="describe")[0]["path"]
             self.check("its path", f"{up.at}/site" in path)

@@ -6,6 +6,7 @@ import json
 import os
 import tempfile
 
+from lambda_local.configuration import Members
 from lambda_local.from_template.command import up_of
 from tests.library.template_kit import HAS_YAML, SAM, TemplateCase, function_of, made_of, python
 
@@ -53,7 +54,7 @@ class FromTemplate(TemplateCase):
             "Four: the variable QUEUE is Queue.Arn")
 
     def test_cdk(self):
-        asset = {"Type": "AWS::Lambda::Function", "Metadata": {"aws:asset:path": "asset.1"}, "Properties": {
+        asset: Members = {"Type": "AWS::Lambda::Function", "Metadata": {"aws:asset:path": "asset.1"}, "Properties": {
             "Handler": "bootstrap", "Runtime": "provided.al2023", "Code": {"S3Bucket": {"Ref": "x"}}}}
         template = {"Resources": {
             "F1": asset, "F2": {**asset, "Metadata": {}, "Properties": {**asset["Properties"],
@@ -147,7 +148,7 @@ class FromTemplate(TemplateCase):
                 ("a number", {"Wanted": 5}, "5 is not a condition"),
                 ("what is not worked out", {"Wanted": {"Fn::Contains": [["a"], "a"]}},
                  "Fn::Contains is not worked out here")):
-            template = {**function_of(), "Conditions": conditions}
+            template: Members = {**function_of(), "Conditions": conditions}
             template["Resources"]["F"]["Condition"] = "Wanted"
             self.case(f"a condition: {name}", template, made_function(),
                       f"F: it is taken, since its condition Wanted is not known here: {reason}")

@@ -9,6 +9,7 @@ import tempfile
 import time
 
 from lambda_local.configuration import OF_SERVICE, mistakes
+from lambda_local.configuration import Members
 from lambda_local.from_template.command import up_of
 from lambda_local.from_template.messages import Fault
 from lambda_local.front import settings
@@ -94,7 +95,7 @@ class FromTemplateParts(TemplateCase):
     def test_other_types(self):
         """Of each part of a template a value of another type: no traceback, and never is it all refused for one
         function."""
-        one = {"Type": "AWS::Serverless::Function", "Properties": {
+        one: Members = {"Type": "AWS::Serverless::Function", "Properties": {
             "FunctionName": {"Fn::Join": ["-", ["a", {"Ref": "Stage"}]]},
             "Handler": {"Fn::Sub": ["${x}.h", {"x": "a"}]},
             "Timeout": {"Fn::FindInMap": ["M", "a", "b"]},
@@ -196,7 +197,7 @@ class FromTemplateParts(TemplateCase):
             "Far": {"Type": "AWS::Lambda::LayerVersion", "Properties": {"Content": {"S3Bucket": "b", "S3Key": "k"}}},
             "Gone": {"Type": "AWS::Serverless::LayerVersion", "Properties": {"ContentUri": "not/here"}},
             **{name: {"Type": "AWS::Serverless::Function", "Properties": {
-                "Runtime": "python3.12", "Handler": "app.run", "CodeUri": "src", "Layers": list(listed)}}
+                "Runtime": "python3.12", "Handler": "app.run", "CodeUri": "src", "Layers": listed}}
                for name, listed in {
                    "F": [{"Ref": "Shared"}, {"Ref": "Asset"}],
                    "G": [{"Ref": "Built"}, {"Ref": "Far"}, {"Ref": "Gone"},

@@ -7,6 +7,7 @@ import os
 import socket
 import struct
 import time
+from typing import Dict, List
 
 from lambda_local.front import patience
 from lambda_local.front.client import NoDescriptor
@@ -178,7 +179,7 @@ class FrontConnections(Case):
             await asyncio.gather(*tasks, return_exceptions=True)
             await asyncio.sleep(0)
 
-        told = []
+        told: List[str] = []
         asyncio.run(begin())
         self.check("what is told of two tasks", told, ["the one cannot go on: ValueError('no')"])
 
@@ -194,7 +195,8 @@ class FrontConnections(Case):
                          for name in ("nothing", "half a head", "a head byte by byte", "a body byte by byte")}
                 peers["half a head"].sendall(head)
                 peers["a body byte by byte"].sendall(head + b"Content-Length: 1000\r\n\r\n")
-                began, lived = time.monotonic(), {}
+                began = time.monotonic()
+                lived: Dict[str, float] = {}
                 dripping = {"a head byte by byte": iter(head), "a body byte by byte": iter(b"x" * 1000)}
                 while len(lived) < len(peers) and time.monotonic() < began + PATIENCE:
                     for name, peer in peers.items():

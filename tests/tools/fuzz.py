@@ -13,6 +13,7 @@ import os
 import re
 import tempfile
 import time
+from typing import List, Tuple
 
 from lambda_local import from_template, outgoing, reasons, reports
 from lambda_local.configuration import explained, mistakes
@@ -36,7 +37,7 @@ try:
     from hypothesis import HealthCheck, Phase, given, seed, settings
     from hypothesis import strategies as some
 except ImportError:
-    some = None
+    some = None  # type: ignore[assignment]  # (a module that is not here)
 HOURS = float(os.environ.get("FUZZ_HOURS", "0")) or 1 / 60
 FIRST_SEED = int(os.environ.get("FUZZ_SEED") or time.time() // 86400)
 CASES = os.path.join(ROOT, "tests", "tools", "fuzz.cases")
@@ -145,10 +146,14 @@ def of_results(data):
         reply_of(data)
 
 
+class SevenAtOnce(io.BytesIO):
+    def read1(self, _most=-1):
+        return self.read(7)
+
+
 def of_output(data):
-    stream, lines = io.BytesIO(data), []
-    stream.read1 = lambda most: stream.read(7)
-    output.read_lines(stream, lines.append)
+    lines: List[str] = []
+    output.read_lines(SevenAtOnce(data), lines.append)
     for line in lines:
         shown = outgoing.printable_output(line)
         assert not CONTROL.search(outgoing.COLOUR.sub("", shown)), shown
@@ -165,7 +170,7 @@ def written(name, data):
     return path
 
 
-assert from_template.main
+assert from_template.main is not None
 
 
 def fault_of(reader, data):
@@ -208,21 +213,26 @@ def value():
         some.lists(inner, max_size=4), some.dictionaries(some.text(max_size=5), inner, max_size=4)), max_leaves=12)
 
 
+def documents_of(original):
+    """What a JSON document says, or each of several that are lines."""
+    try:
+        return [json.loads(original)]
+    except json.JSONDecodeError:
+        return [json.loads(line) for line in original.splitlines()]
+
+
 def replaced(original):
-    """A JSON document in which one of its values is another one."""
-    whole = json.loads(original)
-    paths = list(paths_of(whole))
+    """A JSON document, or lines of them, in which one of the values is another one."""
+    paths = [path for path in paths_of(documents_of(original)) if path]
 
     def applied(choice):
         path, new = choice
-        copy = json.loads(original)
-        if not path:
-            return json.dumps(new).encode()
+        copy = documents_of(original)
         inner = copy
         for step in path[:-1]:
             inner = inner[step]
         inner[path[-1]] = new
-        return json.dumps(copy).encode()
+        return b"".join(json.dumps(document).encode() + b"\n" for document in copy)
     return some.tuples(some.sampled_from(paths), value()).map(applied)
 
 
@@ -254,7 +264,8 @@ PARTS.update(http_fuzz.parts(some, mutated))
 def tried_with(number, reader, inputs, end):
     """Runs a round with this seed until the time is over. How many inputs it was, and the shortest that breaks the
     reader, with its fault."""
-    tried, seen = 0, []
+    tried = 0
+    seen: List[Tuple[bytes, str]] = []
 
     @seed(number)
     @settings(max_examples=100, deadline=None, database=None, suppress_health_check=list(HealthCheck),

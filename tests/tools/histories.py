@@ -87,13 +87,8 @@ def fault_of(read, *words):
         return str(fault)
 
 
-@contextlib.contextmanager
 def script(text, name="h"):
-    made = Script(name, text if isinstance(text, bytes) else text.encode())
-    try:
-        yield made
-    finally:
-        made.close()
+    return contextlib.closing(Script(name, text if isinstance(text, bytes) else text.encode()))
 
 
 def program(folder, text):

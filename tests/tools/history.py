@@ -7,6 +7,7 @@ import json
 import socket
 import threading
 import time
+from typing import List, Tuple
 
 from lambda_local.history.entries import Answer, Call, Entry
 from lambda_local.history.running import Lost, Running
@@ -151,8 +152,8 @@ class History(Case):
         with following(b"", silent=True, silence=1.0) as (running, _):
             self.check("no answer", taken(running), ([], "no answer within 1 s"))
         with following(HEAD, silent=True) as (running, server):
+            came: List[Tuple[List[int], str]] = []
             thread = threading.Thread(target=lambda: came.append(taken(running)))
-            came = []
             thread.start()
             while not server.held:
                 time.sleep(0.01)

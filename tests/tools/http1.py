@@ -67,14 +67,16 @@ class Serving:
                        "functions": [{"name": "f", "ports": [port]}]}, file)
         program = os.environ.get("LAMBDA_LOCAL_PROGRAM") or os.path.join(ROOT, "lambda_local")
         self.process = subprocess.Popen([program, "serve", path], stderr=subprocess.PIPE, stdout=subprocess.DEVNULL)
-        while (line := self.process.stderr.readline()) and not line.endswith(b" listening\n"):
+        assert self.process.stderr
+        self.said = self.process.stderr
+        while (line := self.said.readline()) and not line.endswith(b" listening\n"):
             pass
         return self
 
     def __exit__(self, *_):
         self.process.kill()
         self.process.wait()
-        self.process.stderr.close()
+        self.said.close()
         self.folder.cleanup()
 
     def outcomes(self, requests):
@@ -90,7 +92,7 @@ OF_THE_SERVICE = (
 
 
 def read_response(method, data, size):
-    reader, response, body, at = ResponseReader(), None, b"", 0
+    reader, body, at = ResponseReader(), b"", 0
     reader.method = method
     try:
         while True:
@@ -147,7 +149,8 @@ class Http1(Case):
 
     def test_mutated(self):
         """The service and our reader take the same of them, and refuse the same with the same status."""
-        requests, counts, wrong = mutants(COUNT, SEED), Counter(), []
+        counts: Counter[str] = Counter()
+        requests, wrong = mutants(COUNT, SEED), []
         with Serving() as service:
             for data, seen in zip(requests, service.outcomes(requests)):
                 own = own_outcome(data)
@@ -166,7 +169,8 @@ class Http1(Case):
                 whole={"asynchronous": True})
         up.until("[up] ready", READY_SECONDS)
         ports = [urllib.parse.urlsplit(address).port for address in (up.endpoint, behind(up))]
-        requests, wrong, counts = mutants(COUNT // 10, SEED + 1), [], Counter()
+        counts: Counter[str] = Counter()
+        requests, wrong = mutants(COUNT // 10, SEED + 1), []
         with concurrent.futures.ThreadPoolExecutor(AT_ONCE) as pool:
             for data, seen in zip(requests, pool.map(lambda data: [outcome_of(answers_to(port, data))
                                                                    for port in ports],
@@ -183,7 +187,8 @@ class Http1(Case):
             import h11
         except ImportError:
             self.skipTest("there is no h11 (Debian: python3-h11)")
-        counts, wrong = Counter(), []
+        counts: Counter[str] = Counter()
+        wrong = []
         for data in mutants(COUNT, SEED + 2):
             own, seen, listed = compared(h11, data)
             counts[listed or ("differ" if own != seen else "taken" if own else "refused")] += 1

@@ -12,7 +12,9 @@ import subprocess
 import tempfile
 import time
 import urllib.parse
+from typing import Tuple
 
+from lambda_local.configuration import Members
 from tests import ROOT
 from tests.library.cases import Case
 from tests.library.events_kit import READY, READY_SECONDS, Caller, caller_of
@@ -144,8 +146,8 @@ class HttpEvents(Case):
             self.check("no body", giving(caller, {"statusCode": 204})[::2], (204, b""))
             self.check("a redirect", giving(caller, {"statusCode": 302, "headers": {"location": "/x"}})[1]["location"],
                        "/x")
-            given = json.dumps({"statusCode": 200, "cookies": ["a=1; Path=/", "b=2"]})
-            caller.connection.request("GET", "/?" + urllib.parse.urlencode({"gives": given}))
+            cookies = json.dumps({"statusCode": 200, "cookies": ["a=1; Path=/", "b=2"]})
+            caller.connection.request("GET", "/?" + urllib.parse.urlencode({"gives": cookies}))
             answer = caller.connection.getresponse()
             answer.read()
             self.check("cookies", answer.headers.get_all("set-cookie"), ["a=1; Path=/", "b=2"])
@@ -336,26 +338,27 @@ class HttpEvents(Case):
             self.check("after 20 seconds", 18 < time.monotonic() - begun < 35)
 
     def test_mistakes(self):
-        functions = [{"name": "f", "runtime": "python", "handler": "app.run"}]
-        for whole, members, wanted in (
-                ({"routes": {"GET orders": "f"}}, {},
-                 'routes: "GET orders": write it as METHOD /path, such as "GET /orders/{id}", or $default'),
-                ({"routes": {"GET /a": "g"}}, {}, 'routes: "GET /a": there is no function "g"'),
-                ({"routes": {"GET /{a}": "f", "GET /{b}": "f"}}, {},
-                 'routes: "GET /{b}": it takes the same requests as "GET /{a}": leave one of the two out'),
-                ({"api": {}}, {}, 'api: there are no routes: write "routes", or leave it out'),
-                ({}, {"url": "yes"}, 'function f: url must be true, or an object, not "yes"'),
-                ({}, {"url": {"prt": 1}}, "function f: url: unknown member prt, did you mean port?"),
-                ({}, {"url": {"cors": {"allowOrigin": []}}},
-                 "function f: url: cors: unknown member allowOrigin, did you mean allowOrigins?")):
-            up = Up(functions=[{**functions[0], **members}], app=APP, whole=whole)
+        function: Members = {"name": "f", "runtime": "python", "handler": "app.run"}
+        mistakes: Tuple[Tuple[Members, Members, str], ...] = (
+            ({"routes": {"GET orders": "f"}}, {},
+             'routes: "GET orders": write it as METHOD /path, such as "GET /orders/{id}", or $default'),
+            ({"routes": {"GET /a": "g"}}, {}, 'routes: "GET /a": there is no function "g"'),
+            ({"routes": {"GET /{a}": "f", "GET /{b}": "f"}}, {},
+             'routes: "GET /{b}": it takes the same requests as "GET /{a}": leave one of the two out'),
+            ({"api": {}}, {}, 'api: there are no routes: write "routes", or leave it out'),
+            ({}, {"url": "yes"}, 'function f: url must be true, or an object, not "yes"'),
+            ({}, {"url": {"prt": 1}}, "function f: url: unknown member prt, did you mean port?"),
+            ({}, {"url": {"cors": {"allowOrigin": []}}},
+             "function f: url: cors: unknown member allowOrigin, did you mean allowOrigins?"))
+        for whole, members, wanted in mistakes:
+            up = Up(functions=[{**function, **members}], app=APP, whole=whole)
             self.check(f"a mistake: {whole or members}", (up.end(None), up.lines),
                        ((2, []), [f"up: up.json: {wanted}"]))
         with socket.socket() as listener:
             listener.bind(("127.0.0.1", 0))
             listener.listen()
             port = listener.getsockname()[1]
-            up = Up(functions=[{**functions[0], "url": {"port": port}}], app=APP)
+            up = Up(functions=[{**function, "url": {"port": port}}], app=APP)
             self.check("a taken port", (up.end(None), up.lines), ((4, []), [
                 f"up: up.json: port {port} (url of function f): another program listens there: leave the port out, and "
                 f"a free one is used"]))

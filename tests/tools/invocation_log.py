@@ -12,6 +12,7 @@ import time
 import unittest.mock
 import urllib.error
 import urllib.request
+from typing import List
 
 from lambda_local.up import processes
 from lambda_local.up.invocation_lines import MOST_KEPT, Line, Printed
@@ -156,7 +157,7 @@ class InvocationLog(Case):
         self.check("its memory is the most that it has used", int(parts(tail_of(up, do="memory"))[1][3]) > 85)
         self.check("also later", int(parts(tail_of(up, do="nothing"))[1][3]) > 85)
         log = tail_of(up, do="many", count=1000, name="\u00e9" * 7)
-        whole = f"START RequestId: {re.search(END, log)[1]} Version: $LATEST\n{log}"
+        whole = f"START RequestId: {re.findall(END, log)[0]} Version: $LATEST\n{log}"
         self.check("the last 4 KB, from a whole character on", (len(log.encode()) in range(4094, 4097),
                                                                 log[0] in "\u00e9 line0123456789\n",
                                                                 parts(whole)[0][-1]),
@@ -256,7 +257,7 @@ class InvocationLog(Case):
         """A function whose runtime somebody else has started: nothing that it prints is known, nor its memory."""
         up = Up(functions=[{"name": "f", "timeout": 5}])
         self.check("its address is told", up.until("start its runtime yourself"))
-        address = re.search(r"f/1: (127\.0\.0\.1:\d+)", "\n".join(up.lines))[1]
+        address = up.told(r"f/1: (127\.0\.0\.1:\d+)")
         runtime = subprocess.Popen([sys.executable, os.path.join(ROOT, "examples", "runtime.py"), address])
         log = tail_of(up, name="x")
         self.check("START, END and REPORT", bool(re.fullmatch(
@@ -322,7 +323,7 @@ class InvocationLog(Case):
                   "\0" + "a1" * 15 + "a", "last\0" + "a1" * 16 + "3" * 20]
         wrong = []
         for size in range(1, len(printed) + 1):
-            seen = []
+            seen: List[object] = []
             splitter = MarkedSplitter(seen.append, lambda identifier: seen.append((identifier, )), mark)
             for place in range(0, len(printed), size):
                 splitter.feed(printed[place:place + size])
@@ -345,8 +346,10 @@ class InvocationLog(Case):
         self.check("what is not whole is told", of("a", until), ["a 1", "a 2"])
         self.check("what is to be read is waited for", printed.deliver_at_once("b"), False)
         printed.deliver("b")
-        self.check("a delivery to a second process is the same one", (
-            printed.deliver_at_once("b"), printed.deliver("b"), len(printed.divisions)), (True, None, 2))
+        is_here_at_once = printed.deliver_at_once("b")
+        printed.deliver("b")
+        self.check("a delivery to a second process is the same one", (is_here_at_once, len(printed.divisions)),
+                   (True, 2))
         printed.take("f/1", "b 1")
         self.check("each has its own", (of("a"), of("b"), of("c")), (["a 1", "a 2"], ["b 1"], []))
         self.check("as far as it was taken then", of("a", until), ["a 1", "a 2"])
@@ -371,7 +374,8 @@ class InvocationLog(Case):
         self.check("one that could not be started is not read", printed.processes, [])
 
     def test_parts_alone(self):
-        printed, seen = Printed(), []
+        printed = Printed()
+        seen: List[Line] = []
         printed.follow(seen.append)
         for number in range(3):
             printed.take("f/1", f"line {number}")

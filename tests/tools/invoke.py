@@ -10,6 +10,7 @@ import subprocess
 import sys
 import tempfile
 import threading
+from typing import List, Optional, Tuple
 
 from lambda_local.in_process import LambdaLocal
 from tests import ROOT
@@ -29,7 +30,7 @@ def invoke(*words, stdin="", **environ):
 
 class AsDocumented(http.server.BaseHTTPRequestHandler):
     """Answers as Invoke's page of Lambda's API Reference says: the log of a Tail, the acceptance of an Event."""
-    seen = []
+    seen: List[Tuple[str, Optional[str], Optional[str], bytes]] = []
 
     def do_POST(self):
         body = self.rfile.read(int(self.headers["Content-Length"]))
@@ -57,10 +58,11 @@ class Invoke(Case):
             path = os.path.join(folder, "event.json")
             with open(path, "w", encoding="utf-8") as file:
                 file.write('{"name": "Ada \u00e9\u4e2d"}')
-            for name, words, stdin, wanted in (
-                    ("nothing", [], "", {}), ("an object", ['{"name": "Ada"}'], "", {"name": "Ada"}),
-                    ("a number", ["-7"], "", -7), ("a string", ['"\u00e9"'], "", "\u00e9"),
-                    ("a file", [path], "", {"name": "Ada \u00e9\u4e2d"}), ("standard input", ["-"], "[1]", [1])):
+            payloads: Tuple[Tuple[str, List[str], str, object], ...] = (
+                ("nothing", [], "", {}), ("an object", ['{"name": "Ada"}'], "", {"name": "Ada"}),
+                ("a number", ["-7"], "", -7), ("a string", ['"\u00e9"'], "", "\u00e9"),
+                ("a file", [path], "", {"name": "Ada \u00e9\u4e2d"}), ("standard input", ["-"], "[1]", [1]))
+            for name, words, stdin, wanted in payloads:
                 status, output, said = invoke("same", *words, stdin=stdin, **here)
                 self.check(f"the payload is {name}", (status, json.loads(output or "0"), said), (0, wanted, ""))
             for kind in glob.glob(os.path.join(ROOT, "examples", "events", "*.json")):
@@ -73,7 +75,7 @@ class Invoke(Case):
                                                       bool(re.fullmatch(r"\d{4}-\d\d-\d\dT\d\d:\d\d:\d\dZ",
                                                                         event["time"]))),
                        ("aws.events", "Scheduled Event", True))
-            self.check("--endpoint", invoke("same", "1", "--endpoint", service.endpoint_url + "/"), (0, "1\n", ""))
+            self.check("--endpoint", invoke("same", "1", "--endpoint", f"{service.endpoint_url}/"), (0, "1\n", ""))
             self.check("an ARN", invoke("arn:aws:lambda:us-east-1:123456789012:function:same", "1", **here),
                        (0, "1\n", ""))
             status, output, said = invoke("fails", **here)

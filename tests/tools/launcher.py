@@ -172,6 +172,7 @@ class Launcher(Case):
             for words, begins in ((["build"], "proving the program and the"), (["build", "--quick"], "without proof")):
                 child = subprocess.Popen([os.path.join(root, "lambda_local"), *words], cwd=root, env=variables,
                                          stderr=subprocess.PIPE, text=True)
+                assert child.stderr
                 try:
                     self.check(f"{' '.join(words)} says what it does", begins in child.stderr.readline())
                     end = time.monotonic() + 60
@@ -231,6 +232,7 @@ class Launcher(Case):
             write(os.path.join(root, "own.json"), json.dumps(own).encode())
             words = [os.path.join(root, "lambda_local"), "serve", "own.json"]
             child = subprocess.Popen(words, cwd=root, env=plain(), stderr=subprocess.PIPE, text=True)
+            assert child.stderr
             try:
                 self.check("serve listens", "listening" in child.stderr.readline())
                 self.check("it is the program itself", os.readlink(f"/proc/{child.pid}/exe"),

@@ -4,6 +4,7 @@ killed, counts each call once, and stops by itself; its history replays; lambda_
 If this user may make control groups of version 1, the service runs in one of 200 MB, else with
 LAMBDA_LOCAL_MEMORY=200."""
 import contextlib
+import functools
 import http.client
 import json
 import os
@@ -18,6 +19,7 @@ from typing import Dict, Iterator, List, Optional, Tuple
 from tests import ROOT
 from tests.library.cases import Case
 from tests.library.ports import free_range
+from tests.library.threads import together
 from tests.library.up_kit import Up
 
 LAUNCHER = os.path.join(ROOT, "lambda_local")
@@ -140,11 +142,7 @@ class Load:
         for number in range(SIDES):
             threading.Thread(target=self.run_runtime, args=(number,), daemon=True).start()
         self.run_caller(0, 1)  # (while there is memory)
-        callers = [threading.Thread(target=self.run_caller, args=(number,)) for number in range(SIDES)]
-        for caller in callers:
-            caller.start()
-        for caller in callers:
-            caller.join()
+        together(*(functools.partial(self.run_caller, number) for number in range(SIDES)))
 
 
 def in_words(port: int, method: str, path: str) -> Tuple[int, bytes]:

@@ -103,7 +103,7 @@ def github_steps(text):
 
 def gitlab_steps(text):
     """The commands below `script:`."""
-    return re.findall(r"^ *- (.+)$", re.search(r"^ *script:\n((?: *- .+\n)+)", text, re.M)[1], re.M)
+    return re.findall(r"^ *- (.+)$", re.findall(r"^ *script:\n((?: *- .+\n)+)", text, re.M)[0], re.M)
 
 
 class Made:
@@ -119,16 +119,17 @@ class Made:
         self.archive, self.wheel, self.deb = self.paths
 
 
-def setUpModule():
-    global made
-    made = Made()
-
-
 class Package(Case):
+    made: Made
+
+    @classmethod
+    def setUpClass(cls):
+        cls.made = Made()
+
     def test_made(self):
-        root, paths, said = made.root, made.paths, made.said
-        self.check("the packages are made without the kit", (made.status, [os.path.isfile(path) for path in paths]),
-                   (0, [True] * 3))
+        root, paths, said = self.made.root, self.made.paths, self.made.said
+        self.check("the packages are made without the kit",
+                   (self.made.status, [os.path.isfile(path) for path in paths]), (0, [True] * 3))
         proved = text_of(root, "release", "PROVED").splitlines()
         self.check("what proved the program is said",
                    ([line.split(" ")[0] for line in proved], [f"package: {line}" for line in proved]),
@@ -178,8 +179,9 @@ class Package(Case):
                 if data is not None:
                     write(given, data, mode)
                 status, output, said = package(root, LAMBDA_LOCAL_PROGRAM=given)
-                seen = (status, output, word in said.splitlines()[-1], glob.glob(os.path.join(root, "*.gz*")))
-                self.check(f"a program that is named: {name}", seen, (1 if "answers" in name else 4, "", True, []))
+                left = glob.glob(os.path.join(root, "*.gz*"))
+                self.check(f"a program that is named: {name}", (status, output, word in said.splitlines()[-1], left),
+                           (1 if "answers" in name else 4, "", True, []))
         with tempfile.TemporaryDirectory() as folder:
             root = copy_tree(os.path.join(folder, "tree"), program())
             status, output, said = package(root)
@@ -192,7 +194,8 @@ class Package(Case):
             self.skipTest("only root can be another user")
         with copied() as root, tempfile.TemporaryDirectory() as home:
             os.chmod(home, 0o777)
-            words = [sys.executable, os.path.join(root, "tools", "package"), home]
+            # (the Python of the tests may be in a folder that only its user reads)
+            words = ["/usr/bin/python3", os.path.join(root, "tools", "package"), home]
             status, output, said = run(words, user=65534, HOME=home)
             seen = (status, output, said.count("\n"), "of another user" in said, "safe.directory" in said)
             self.check("another user's checkout: one line", seen, (4, "", 1, True, True))
@@ -252,7 +255,7 @@ class Package(Case):
         with tempfile.TemporaryDirectory() as folder, tempfile.TemporaryDirectory() as work:
             there = os.path.join(folder, "a folder")
             os.mkdir(there)
-            subprocess.run(["tar", "-C", there, "-xzf", made.archive], check=True)
+            subprocess.run(["tar", "-C", there, "-xzf", self.made.archive], check=True)
             root = glob.glob(f"{there}/*")[0]
             launcher = os.path.join(root, "lambda_local")
             self.check("a maker's tools are not in it",
@@ -279,7 +282,7 @@ class Package(Case):
 
     def test_wheel(self):
         with tempfile.TemporaryDirectory() as folder, tempfile.TemporaryDirectory() as work:
-            commands = environment(sys.executable, os.path.join(folder, "fresh"), made.wheel)
+            commands = environment(sys.executable, os.path.join(folder, "fresh"), self.made.wheel)
             command = os.path.join(commands, "lambda_local")
             self.used(command, work)
             print(f"     (a start and a replay take {took([command])})")
@@ -294,7 +297,7 @@ class Package(Case):
             self.check("sample events are in it", (events[0], "127.0.0.1:1: Connection refused" in events[2]),
                        (4, True))
             pages = re.search(r"^The pages docs/\*\.md are in (\S+)\.$", run([command, "--help"])[1], re.M)
-            self.check("so are the pages, and --help says where", bool(pages) and sorted(os.listdir(pages[1]))
+            self.check("so are the pages, and --help says where", pages is not None and sorted(os.listdir(pages[1]))
                        == sorted(os.listdir(os.path.join(ROOT, "docs"))))
             told = run([f"{commands}/python", "-c",
                         "import importlib.metadata as m; print(m.metadata('lambda_local'))"])[1]
@@ -312,7 +315,7 @@ class Package(Case):
         if python is None:
             self.skipTest("no Python here has pytest")
         with tempfile.TemporaryDirectory() as folder, tempfile.TemporaryDirectory() as work:
-            commands = environment(python, os.path.join(folder, "fresh"), made.wheel, "--system-site-packages")
+            commands = environment(python, os.path.join(folder, "fresh"), self.made.wheel, "--system-site-packages")
             write(os.path.join(work, "test_greet.py"), TEST.encode())
             status, output, said = run([f"{commands}/python", "-m", "pytest", "-q", "-p", "no:cacheprovider"], cwd=work)
             self.check("pytest finds the plugin, with no option", (status, "1 passed" in output),
@@ -327,7 +330,7 @@ class Package(Case):
         if not shutil.which("dpkg-deb"):
             self.skipTest("no dpkg-deb is here")
         with tempfile.TemporaryDirectory() as folder, tempfile.TemporaryDirectory() as work:
-            subprocess.run(["dpkg-deb", "-x", made.deb, folder], check=True)
+            subprocess.run(["dpkg-deb", "-x", self.made.deb, folder], check=True)
             command = os.path.join(folder, "usr", "bin", "lambda_local")
             self.used(command, work)
             print(f"     (a start and a replay take {took([command])})")
@@ -340,11 +343,11 @@ class Package(Case):
             self.check("the man page has each command of --help",
                        [it for it in listed if not re.search(rf'^\.BI? "?{it}\b', page, re.M)], [])
             self.try_plugin(os.path.join(folder, "usr", "lib", "lambda_local", "tools"))
-            control = run(["dpkg-deb", "-f", made.deb, "Version", "Architecture", "Depends"])[1]
+            control = run(["dpkg-deb", "-f", self.made.deb, "Version", "Architecture", "Depends"])[1]
             seen = (bool(VERSION.search(control)), "Architecture: amd64" in control, "libc6 (>= 2.34)" in control)
             self.check("its control file", seen, (True, True, True))
         if shutil.which("lintian"):
-            said = run(["lintian", "--allow-root", made.deb])
+            said = run(["lintian", "--allow-root", self.made.deb])
             self.check("lintian finds no error", said[0] == 0, shown=said[1])
         else:
             print("     (lintian is not installed)")
@@ -354,11 +357,11 @@ class Package(Case):
         python = python_with_pytest()
         if python is None:
             return print("note no Python here has pytest")
-        told = re.search(r"`PYTHONPATH=/usr/lib/lambda_local/tools python3 (-m pytest[^`]*)`",
-                         text_of(ROOT, "docs", "pytest.md"))
+        told = re.findall(r"`PYTHONPATH=/usr/lib/lambda_local/tools python3 (-m pytest[^`]*)`",
+                          text_of(ROOT, "docs", "pytest.md"))[0]
         with tempfile.TemporaryDirectory() as work:
             write(os.path.join(work, "test_greet.py"), TEST.encode())
-            status, output, said = run([python, *told[1].split(), "-q", "-p", "no:cacheprovider"], cwd=work,
+            status, output, said = run([python, *told.split(), "-q", "-p", "no:cacheprovider"], cwd=work,
                                        PYTHONPATH=tools)
             self.check("pytest has the plugin as docs/pytest.md says", (status, "1 passed" in output), (0, True))
 
@@ -380,5 +383,5 @@ class Package(Case):
                 self.check(f"{name} has steps", len(found) > 1)
                 for step in found:
                     ran = run(["bash", "-e", "-c", step], cwd=work, PATH=f"{folder}/fresh/bin:/usr/bin:/bin",
-                              PIP_NO_INDEX="1", LAMBDA_LOCAL_WHEEL="file://" + made.wheel)
+                              PIP_NO_INDEX="1", LAMBDA_LOCAL_WHEEL="file://" + self.made.wheel)
                     self.check(f"{name}: {step}", ran[0] == 0, shown=ran)

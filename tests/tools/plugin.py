@@ -13,6 +13,7 @@ import time
 from pytest_lambda_local import FunctionError, LambdaLocal
 from tests import ROOT, TOOLS
 from tests.library.cases import Case
+from tests.library.threads import together
 
 # What a user's tests may be like: those that are named so fail, the others hold.
 TESTS = '''import os, sys, threading, time
@@ -151,6 +152,7 @@ class Plugin(Case):
                     service.client()
                 except RuntimeError as fault:
                     self.check("boto3 is not here, and the fault says so", "pip install boto3" in str(fault))
+        assert service.service
         self.check("the service has ended", service.service.process.returncode, 0)
         self.check("its history is kept", service.history().startswith("form 2\n"))
         self.check("an invoke after its end", fault_of(service.invoke, "double"),
@@ -163,6 +165,7 @@ class Plugin(Case):
                 service.invoke("fails", {})
                 self.check("a handler's fault is raised", False)
             except FunctionError as fault:
+                assert isinstance(fault.report, dict)
                 told = dict(fault.report)
                 self.check("a handler's fault is raised",
                            (told.pop("errorMessage"), told.pop("errorType"), len(told.pop("requestId"))),
@@ -198,7 +201,7 @@ class Plugin(Case):
         with LambdaLocal({"f": {"memory": 256, "timeout": 60}}, f=lambda event,
                          context: seen.append(context)) as service:
             service.invoke("f")
-            context = vars(seen[0])
+            context = dict(vars(seen[0]))
             left, request, _ = context.pop("get_remaining_time_in_millis")(), context.pop("aws_request_id"), \
                 context.pop("log")
             self.check("the time that is left, the request and the trace", (0 < left <= 60000, len(request),
@@ -219,12 +222,7 @@ class Plugin(Case):
         meet = threading.Barrier(3)
         with LambdaLocal({"f": {"environments": 3}},
                          f=lambda event: (meet.wait(10), threading.current_thread().name)[1]) as service:
-            names = []
-            callers = [threading.Thread(target=lambda: names.append(service.invoke("f"))) for _ in range(3)]
-            for caller in callers:
-                caller.start()
-            for caller in callers:
-                caller.join()
+            names = together(*3 * [lambda: str(service.invoke("f"))])
             self.check("three environments run at once", len(set(names)), 3)
 
     def test_wrong_uses(self):

@@ -6,7 +6,9 @@ import threading
 import time
 import urllib.error
 import urllib.request
+from typing import List
 
+from lambda_local.configuration import Members
 from pytest_lambda_local import LambdaLocal
 from tests.library.cases import Case
 from tests.tools.plugin import fault_of
@@ -26,7 +28,8 @@ def send(service, name, body=b"{}"):
 
 class PluginEvents(Case):
     def test_taken(self):
-        seen, records = [], []
+        seen: List[object] = []
+        records: List[Members] = []
 
         def flaky(event):
             seen.append(event)

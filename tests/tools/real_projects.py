@@ -4,11 +4,12 @@ template of YAML needs PyYAML."""
 import importlib.util
 import json
 import os
-import re
 import subprocess
 import tempfile
 import urllib.request
+from typing import List, Tuple
 
+from lambda_local.configuration import Members
 from tests import ROOT
 from tests.library.cases import Case
 from tests.library.up_kit import Up
@@ -125,7 +126,8 @@ def made_of(template, name):
         said.append((done.returncode, done.stderr))
         with open(os.path.join(at, "made.json")) as file:
             made.update(json.load(file))
-    made, said = {}, []
+    made: Members = {}
+    said: List[Tuple[int, str]] = []
     with tempfile.TemporaryDirectory() as folder:
         prepare(folder)
     return made, said[0], prepare
@@ -140,8 +142,8 @@ class RealProjects(Case):
         up = Up("--report", functions=made["functions"], whole={name: value for name, value in made.items()
                                                                   if name != "functions"}, prepare=prepare)
         self.check(f"{kind}: it is ready", up.until("ready"))
-        address = re.search(r"routes: (http://[0-9.:]+)", "\n".join(up.lines))
-        with urllib.request.urlopen(address[1] + front, timeout=30) as answer:
+        address = up.told(r"routes: (http://[0-9.:]+)")
+        with urllib.request.urlopen(address + front, timeout=30) as answer:
             self.check(f"{kind}: its route answers", json.load(answer), wanted)
         with open(os.path.join(ROOT, "examples", "events", "schedule.json")) as file:
             self.check(f"{kind}: what a schedule invokes", up.invoke(nightly, 20, **json.load(file))[0],

@@ -6,6 +6,7 @@ import re
 import shutil
 import tempfile
 import unittest
+from typing import Dict, List, Tuple
 
 from tests.library.runtimes_kit import EXAMPLES, TIME, TRACE, Running, RuntimeCase, report
 
@@ -58,7 +59,7 @@ NODE_MODULE = NODE_APP.replace("EXPORT handler", "export const handler")
 NODE_COMMON = NODE_APP.replace("EXPORT handler", "exports.handler")
 
 # What aws-lambda-nodejs-runtime-interface-client says of each (its UserFunction.js and Errors.js).
-NODE_INITS = [
+NODE_INITS: List[Tuple[str, Dict[str, str], str, str]] = [
     ("app.handler", {}, "Runtime.ImportModuleError", "Error: Cannot find module 'app'\nRequire stack:\n- "),
     ("app.handler", {"app.js": "require('nothing-here');"}, "Runtime.ImportModuleError",
      "Error: Cannot find module 'nothing-here'\nRequire stack:\n- "),
@@ -122,12 +123,7 @@ class RuntimesNode(RuntimeCase):
             self.check("Node: a promise that is never kept", running.invoke({"do": "never"}), (False, None))
             self.check("Node: a report that would be too long is cut", running.invoke({"do": "long"})[1]["errorType"],
                        "Error")
-            first = running.invoke({})[1]
-            for _ in range(5):
-                self.check("Node: a response too large", running.invoke({"do": "large"})[1]["errorType"],
-                           "Function.ResponseSizeTooLarge")
-                self.check("Node: and the next one is served", running.invoke({}), (False, first))
-            self.check("Node: the refusals are printed", running.until(lambda: running.output().count(": 413 ") == 5))
+            self.too_large("Node", running)
         for do, kind, message, status in (("uncaught", "OrderError", "later", 129),
                                           ("rejected", "Runtime.UnhandledPromiseRejection", "OrderError: alone", 128)):
             with Running([*NODE, "app.handler"], {"app.mjs": NODE_MODULE}) as running:
@@ -181,9 +177,9 @@ class RuntimesNode(RuntimeCase):
                                ("throws", ("RangeError", "thrown")), ("fail", ("RangeError", "failed"))):
                 self.check(f"Node: callback, {do}", report(running.invoke({"do": do})[1], "errorType", "errorMessage"),
                            wanted)
-            for do, wanted in (("done", "done"), ("succeed", "succeeded"), ("silent", None), ("waits", "waits"),
-                               ("ran", True)):
-                self.check(f"Node: callback, {do}", running.invoke({"do": do}), (False, wanted))
+            for do, gives in (("done", "done"), ("succeed", "succeeded"), ("silent", None), ("waits", "waits"),
+                              ("ran", True)):
+                self.check(f"Node: callback, {do}", running.invoke({"do": do}), (False, gives))
             self.check("Node: callbackWaitsForEmptyEventLoop = false", [running.invoke({"do": do}) for do in ("hurries",
                                                                                                               "ran")],
                        [(False, "hurries"), (False, True)])

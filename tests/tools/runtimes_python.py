@@ -5,6 +5,7 @@ import os
 import re
 import sys
 import tempfile
+from typing import Dict, Tuple
 
 from tests.library.runtimes_kit import EXAMPLES, TIME, TRACE, Running, RuntimeCase, report
 
@@ -126,12 +127,7 @@ class RuntimesPython(RuntimeCase):
             self.check("Python: a decimal is a number", running.invoke({"do": "decimal"}), (False, {"price": 1.5}))
             failed, told = running.invoke({"do": "long"})
             self.check("Python: a report that would be too long is cut", (failed, told["errorType"]), (True, "Odd"))
-            first = running.invoke({})[1]
-            for _ in range(5):
-                self.check("Python: a response too large", running.invoke({"do": "large"})[1]["errorType"],
-                           "Function.ResponseSizeTooLarge")
-                self.check("Python: and the next one is served", running.invoke({}), (False, first))
-            self.check("Python: the refusals are printed", running.until(lambda: running.output().count(": 413 ") == 5))
+            self.too_large("Python", running)
 
     def test_context(self):
         with Running([*PYTHON, "app.handler"], {"app.py": PYTHON_APP}) as running:
@@ -192,16 +188,17 @@ class RuntimesPython(RuntimeCase):
 
     def test_log(self):
         """The lines of the module logging, as awslambdaric prints them."""
-        for name, variables, shown in (("without a level", {}, ()),
-                                       ("at the level of the code", {"SET": "INFO"}, ("INFO",)),
-                                       ("AWS_LAMBDA_LOG_LEVEL", {"AWS_LAMBDA_LOG_LEVEL": "TRACE"}, ("DEBUG", "INFO")),
-                                       ("an unknown level", {"AWS_LAMBDA_LOG_LEVEL": "LOUD"}, ())):
+        levels: Tuple[Tuple[str, Dict[str, str], Tuple[str, ...]], ...] = (
+            ("without a level", {}, ()), ("at the level of the code", {"SET": "INFO"}, ("INFO",)),
+            ("AWS_LAMBDA_LOG_LEVEL", {"AWS_LAMBDA_LOG_LEVEL": "TRACE"}, ("DEBUG", "INFO")),
+            ("an unknown level", {"AWS_LAMBDA_LOG_LEVEL": "LOUD"}, ()))
+        for name, variables, shown in levels:
             with Running([*PYTHON, "app.handler"], {"app.py": PYTHON_LOG}, **variables) as running:
                 request = running.invoke({"order": 7})[1]
                 begun = lambda level: rf"\[{level}\]\t{TIME}\.\d\d\dZ\t{request}\t"
-                lines = {"DEBUG": begun("DEBUG") + "debugged\n", "INFO": begun("INFO") + "order 7 accepted\n"}
+                lower = {"DEBUG": begun("DEBUG") + "debugged\n", "INFO": begun("INFO") + "order 7 accepted\n"}
                 wanted = (rf"\[WARNING\]\t{TIME}\.\d\d\dZ\t\tat the import\n"
-                          + "".join(lines[level] for level in ("DEBUG", "INFO") if level in shown)
+                          + "".join(lower[level] for level in ("DEBUG", "INFO") if level in shown)
                           + begun("WARNING") + "few are left\n" + begun("ERROR") + "no price\n" + TRACEBACK)
                 self.check(f"Python: logging, {name}", bool(re.fullmatch(wanted, running.output())),
                            shown=running.output())

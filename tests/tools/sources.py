@@ -8,7 +8,9 @@ import re
 import time
 import unittest
 from datetime import datetime, timedelta, timezone
+from typing import Tuple
 
+from lambda_local.configuration import Members
 from lambda_local.up import sources
 from lambda_local.up.expressions import WrongExpression, cron_of, expression_of, rate_of
 from lambda_local.up.queues import failures_in
@@ -32,8 +34,8 @@ def run(event, context):
 '''
 
 
-def utc(*parts):
-    return datetime(*parts, tzinfo=timezone.utc)
+def utc(year, month, day, hour=0, minute=0):
+    return datetime(year, month, day, hour, minute, tzinfo=timezone.utc)
 
 
 # What the guide says of each expression of its, as moments: the first ones after a moment.
@@ -78,13 +80,13 @@ def seen_by(up):
 class Sources(Case):
     def test_expressions(self):
         for text, after, wanted in FIRES:
-            expression, seen = cron_of(text), []
+            expression, moments = cron_of(text), [after]
             for _ in wanted:
-                seen.append(expression.next_after(seen[-1] if seen else after))
-            self.check(f"cron({text})", seen, wanted)
-        for text, wanted in (("rate(1 minute)", 60), ("rate(5 minutes)", 300), ("rate(1 hour)", 3600),
+                moments.append(expression.next_after(moments[-1]))
+            self.check(f"cron({text})", moments[1:], wanted)
+        for text, period in (("rate(1 minute)", 60), ("rate(5 minutes)", 300), ("rate(1 hour)", 3600),
                              ("rate(12 hours)", 43200), ("rate(1 day)", 86400), ("rate(7 days)", 604800)):
-            self.check(text, rate_of(text).next_after(utc(2026, 1, 1)), utc(2026, 1, 1) + timedelta(seconds=wanted))
+            self.check(text, rate_of(text).next_after(utc(2026, 1, 1)), utc(2026, 1, 1) + timedelta(seconds=period))
         for text in WRONG:
             begun = time.process_time()
             try:
@@ -96,20 +98,21 @@ class Sources(Case):
 
     def test_mistakes(self):
         url = "http://127.0.0.1:9324/0/q"
-        for members, wanted in (
-                ({"queue": {}}, "queue: there is no url, which must be"),
-                ({"queue": {"url": 5}}, "queue: url must be a string"),
-                ({"queue": {"url": url, "batch": 5}}, "queue: unknown member batch, did you mean batchSize?"),
-                ({"queue": {"url": url, "batchSize": 0}},
-                 "queue: batchSize must be a whole number from 1 to 10000, not 0"),
-                ({"queue": {"url": url, "window": 301}}, "queue: window must be"),
-                ({"queue": {"url": url, "batchSize": 11}}, "queue: batchSize: more than 10 messages need a window"),
-                ({"queue": {"url": url + ".fifo", "batchSize": 11, "window": 1}},
-                 "queue: batchSize: a FIFO queue gives 10"),
-                ({"schedule": "cron(* * * * * *)"}, 'schedule: "cron(* * * * * *)": one of day-of-month and'),
-                ({"schedule": ["rate(1 minute)", "x"]}, 'schedule: number 2: "x": write "rate(5 minutes)" or'),
-                ({"schedule": {"expresion": "x"}}, "schedule: unknown member expresion, did you mean expression?"),
-                ({"schedule": {"expression": 5}}, "schedule: expression must be a string")):
+        mistakes: Tuple[Tuple[Members, str], ...] = (
+            ({"queue": {}}, "queue: there is no url, which must be"),
+            ({"queue": {"url": 5}}, "queue: url must be a string"),
+            ({"queue": {"url": url, "batch": 5}}, "queue: unknown member batch, did you mean batchSize?"),
+            ({"queue": {"url": url, "batchSize": 0}},
+             "queue: batchSize must be a whole number from 1 to 10000, not 0"),
+            ({"queue": {"url": url, "window": 301}}, "queue: window must be"),
+            ({"queue": {"url": url, "batchSize": 11}}, "queue: batchSize: more than 10 messages need a window"),
+            ({"queue": {"url": url + ".fifo", "batchSize": 11, "window": 1}},
+             "queue: batchSize: a FIFO queue gives 10"),
+            ({"schedule": "cron(* * * * * *)"}, 'schedule: "cron(* * * * * *)": one of day-of-month and'),
+            ({"schedule": ["rate(1 minute)", "x"]}, 'schedule: number 2: "x": write "rate(5 minutes)" or'),
+            ({"schedule": {"expresion": "x"}}, "schedule: unknown member expresion, did you mean expression?"),
+            ({"schedule": {"expression": 5}}, "schedule: expression must be a string"))
+        for members, wanted in mistakes:
             seen = next(sources.mistakes({"functions": [{"name": "f", **members}]}), "")
             self.check(f"a mistake: {members}", seen[:len("function f: " + wanted)], "function f: " + wanted)
         for wrong in ("", "x", "file:///etc/passwd", "http://", "http://h", "http://h/", "ftp://h/q", "http://a b/q",
@@ -117,14 +120,16 @@ class Sources(Case):
                       "http://[/q", "http://h/q\r\nX: y", "http://h/" + "q" * 2000, "http://h/\u00e9"):
             seen = next(sources.mistakes({"functions": [{"name": "f", "queue": {"url": wrong}}]}), "")
             self.check(f"no address: {wrong[:30]!r}", "must be the address of a queue" in seen)
-        for given in ({"schedule": "rate(1 minute)"},
-                      {"schedule": ["rate(1 minute)", {"expression": "rate(1 day)", "input": 1}]},
-                      {"queue": {"url": url, "batchSize": 100, "window": 1}}):
+        right: Tuple[Members, ...] = (
+            {"schedule": "rate(1 minute)"},
+            {"schedule": ["rate(1 minute)", {"expression": "rate(1 day)", "input": 1}]},
+            {"queue": {"url": url, "batchSize": 100, "window": 1}})
+        for given in right:
             self.check(f"what is right: {given}", list(sources.mistakes({"functions": [{"name": "f", **given}]})), [])
         off = {"asynchronous": False, "functions": [{"name": "f", "schedule": "rate(1 minute)"}]}
         self.check("a schedule without events", "leave one of the two out" in next(sources.mistakes(off)))
         kinds = sources.OF_FUNCTION["schedule"]
-        others = ([], 5, None, True, [5], ["rate(1 day)"] * 101)
+        others: Tuple[object, ...] = ([], 5, None, True, [5], ["rate(1 day)"] * 101)
         self.check("other types", [kinds.accepts(value) for value in others], [False] * 6)
 
     def test_of_aws(self):

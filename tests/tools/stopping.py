@@ -11,6 +11,7 @@ import sys
 import tempfile
 import threading
 import time
+from typing import Set, Union
 
 from lambda_local.service import RUNTIME, Fault, Service, ask, wait_for
 from tests.library.cases import Case
@@ -77,17 +78,17 @@ class Stopping(Case):
 
     def test_waits_beside_another(self):
         """lambda_local up has a thread that waits for the service as well."""
-        seen = []
+        seen: Set[Union[int, str]] = set()
         for _ in range(30):
             with subprocess.Popen(["sleep", "0.02"]) as child:
                 other = threading.Thread(target=child.wait)
                 other.start()
                 try:
-                    seen.append(wait_for(child, 30))
+                    seen.add(wait_for(child, 30))
                 except subprocess.TimeoutExpired:
-                    seen.append("goes on")
+                    seen.add("goes on")
                 other.join()
-        self.check("a process that another thread waits for too", set(seen), {0})
+        self.check("a process that another thread waits for too", seen, {0})
 
     def test_stops(self):
         service = Service(CONFIGURATION)

@@ -1,6 +1,7 @@
 """Checks streamed responses of lambda_local up: by Function URLs with "invoke": "RESPONSE_STREAM" and by
 InvokeWithResponseStream, of a custom runtime and of Node's streaming handlers. The program is LAMBDA_LOCAL_PROGRAM,
 else ./lambda_local."""
+import functools
 import http.client
 import json
 import re
@@ -8,13 +9,13 @@ import shutil
 import socket
 import struct
 import sys
-import threading
 import time
 import zlib
 
 from lambda_local.streaming import frames
 from tests.library.cases import Case
 from tests.library.telemetry_kit import PROBE, events, function, probe
+from tests.library.threads import together
 from tests.library.up_kit import Up, until
 
 # A runtime that streams: its event says the parts, the seconds before each, and how it ends.
@@ -64,6 +65,14 @@ while True:
         pass
     peer.close()
 '''
+
+
+class WithUrl(Up):
+    """lambda_local up of a function with a URL, whose port it has once it is ready."""
+
+    @property
+    def url(self):
+        return int(self.told(r"its URL is http://127\.0\.0\.1:(\d+)/"))
 
 
 class Got:
@@ -149,10 +158,9 @@ export const run = awslambda.streamifyResponse(async (event, stream, context) =>
 
 class Streaming(Case):
     def started(self, url={"invoke": "RESPONSE_STREAM"}, **members):
-        up = Up(functions=[{"name": "f", "command": ["./streaming"], "timeout": 5, "url": url, **members}],
-                files={"streaming": STREAMING})
+        up = WithUrl(functions=[{"name": "f", "command": ["./streaming"], "timeout": 5, "url": url, **members}],
+                     files={"streaming": STREAMING})
         self.check("it is ready", up.until("[up] ready"), True)
-        up.url = int(re.search(r"its URL is http://127\.0\.0\.1:(\d+)/", "\n".join(up.lines))[1])
         return up
 
     def test_by_url(self):
@@ -220,16 +228,9 @@ class Streaming(Case):
     def test_several(self):
         """Callers at the same time get each their own."""
         up = self.started(environments=4)
-        found = {}
-
-        def call(number):
-            found[number] = Got(up, parts=[str(number)] * 5, pause=0.1).seen
-        threads = [threading.Thread(target=call, args=(number, )) for number in range(4)]
-        for thread in threads:
-            thread.start()
-        for thread in threads:
-            thread.join()
-        self.check("four callers", found, {number: (200, str(number).encode() * 5, True) for number in range(4)})
+        got = together(*(functools.partial(Got, up, parts=[letter] * 5, pause=0.1) for letter in "abcd"))
+        self.check("four callers", [each.seen for each in got],
+                   [(200, letter.encode() * 5, True) for letter in "abcd"])
         self.check("it ends", up.end(), (0, []))
 
     def test_framing(self):
@@ -332,10 +333,9 @@ class Streaming(Case):
         if not shutil.which("node"):
             print("note node is not here")
             return
-        up = Up(functions=[{"name": "f", "runtime": "node", "handler": "app.run", "timeout": 10,
-                            "url": {"invoke": "RESPONSE_STREAM"}}], files={"app.mjs": NODE})
+        up = WithUrl(functions=[{"name": "f", "runtime": "node", "handler": "app.run", "timeout": 10,
+                                 "url": {"invoke": "RESPONSE_STREAM"}}], files={"app.mjs": NODE})
         self.check("it is ready", up.until("[up] ready"), True)
-        up.url = int(re.search(r"its URL is http://127\.0\.0\.1:(\d+)/", "\n".join(up.lines))[1])
         got = Got(up)
         self.check("a streaming handler", (got.seen, got.headers["Content-Type"]), ((200, b"one,f", True),
                                                                                     "text/plain"))

@@ -2,7 +2,9 @@
 stays byte for byte what it was, and subscriptions are as AWS's pages have them."""
 import json
 import random
+from typing import Dict, List, Tuple, Union
 
+from lambda_local.configuration import Members
 from lambda_local.telemetry.conversation import Answer, Conversation, Ears, Exchange
 from lambda_local.telemetry.desk import Desk
 from lambda_local.telemetry.story import About
@@ -56,6 +58,15 @@ class NotedEars(Ears):
         return Answer(200, "OK", b"OK")
 
 
+def refusal_of(body):
+    """Why a subscription is refused; nothing if it is taken."""
+    try:
+        subscription_of(TELEMETRY, body)
+    except Refused as reason:
+        return str(reason)
+    return ""
+
+
 def in_pieces(data, size):
     return [data[at:at + size] for at in range(0, len(data), size)]
 
@@ -67,7 +78,8 @@ def passed(requests, answers, size):
     for piece in in_pieces(requests, size):
         talk.client_sent(piece)
         service, client = service + bytes(talk.to_service), client + bytes(talk.to_client)
-        talk.to_service.clear(), talk.to_client.clear()
+        talk.to_service.clear()
+        talk.to_client.clear()
     for piece in in_pieces(answers, size):
         talk.service_sent(piece)
         client += bytes(talk.to_client)
@@ -76,9 +88,9 @@ def passed(requests, answers, size):
 
 
 URI = "http://sandbox.localdomain:8080/path?x=1"
-RIGHT = {"schemaVersion": "2022-12-13", "types": ["platform", "function"],
-         "destination": {"protocol": "HTTP", "URI": URI}}
-WRONG = {
+RIGHT: Members = {"schemaVersion": "2022-12-13", "types": ["platform", "function"],
+                  "destination": {"protocol": "HTTP", "URI": URI}}
+WRONG: Dict[str, Tuple[Union[bytes, Members], str]] = {
     "no JSON": (b"{", "the body is not JSON"), "a list": (b"[]", "the body is not a JSON object"),
     "no schema": ({"schemaVersion": None}, "schemaVersion must be one of 2022-07-01, 2022-12-13, 2025-01-29, not null"),
     "a schema of the Logs API": ({"schemaVersion": "2020-08-15"}, "schemaVersion must be one of"),
@@ -184,32 +196,24 @@ class Telemetry(Case):
             for value in (least, most):
                 given = {**RIGHT, "buffering": {name: value}}
                 scale = 1000 if name == "timeoutMs" else 1
-                seen = dict(zip(("maxItems", "maxBytes", "timeoutMs"),
-                                subscription_of(TELEMETRY, json.dumps(given).encode()).buffering))[name]
-                self.check(f"{name} may be {value}", round(scale * seen), value)
+                taken = dict(zip(("maxItems", "maxBytes", "timeoutMs"),
+                                 subscription_of(TELEMETRY, json.dumps(given).encode()).buffering))[name]
+                self.check(f"{name} may be {value}", round(scale * taken), value)
         logs = subscription_of(LOGS, json.dumps({**RIGHT, "schemaVersion": None}).encode())
         self.check("the Logs API's schema is 2020-08-15 if none is said", (logs.schema, logs.is_of_logs),
                    ("2020-08-15", True))
         for name, (change, wanted) in WRONG.items():
             body = change if isinstance(change, bytes) else json.dumps({**RIGHT, **change}).encode()
-            try:
-                seen = subscription_of(TELEMETRY, body)
-            except Refused as reason:
-                seen = str(reason)[:len(wanted)]
-            self.check(f"a subscription with {name} is refused", seen, wanted)
-        try:
-            subscription_of(TELEMETRY, json.dumps({**RIGHT, "types": [], "destination": {
-                "protocol": "HTTP", "URI": "http://sandbox.localdomain/"}}).encode())
-            seen = None
-        except Refused as reason:
-            seen = str(reason)
-        self.check("two faults are told in one message", seen, "types should not be empty; URI port is not provided")
+            self.check(f"a subscription with {name} is refused", refusal_of(body)[:len(wanted)], wanted)
+        two = {**RIGHT, "types": [], "destination": {"protocol": "HTTP", "URI": "http://sandbox.localdomain/"}}
+        self.check("two faults are told in one message", refusal_of(json.dumps(two).encode()),
+                   "types should not be empty; URI port is not provided")
 
     def test_random_bodies(self):
         """Whatever comes, it is a subscription or is refused."""
         chosen = random.Random(SEEDS)
-        values = [None, True, 0, -1, 1e300, 10**40, "", "x", "\ud83d", [], [[]], {}, {"protocol": "HTTP"}, "http://[",
-                  URI]
+        values: List[object] = [None, True, 0, -1, 1e300, 10**40, "", "x", "\ud83d", [], [[]], {}, URI, "http://[",
+                                {"protocol": "HTTP"}]
         raised = []
         for _ in range(5000):
             given = {name: chosen.choice([value, *values]) for name, value in RIGHT.items()}
@@ -228,7 +232,7 @@ class Telemetry(Case):
         self.check("5,000 bodies are taken or refused, and raise nothing else", raised[:1], [])
 
     def test_desks(self):
-        said = []
+        said: List[str] = []
         desk = Desk(About("f", 128, "i"), said.append)
 
         def status(identifier, body=json.dumps(RIGHT).encode(), path=TELEMETRY):

@@ -6,8 +6,11 @@ import json
 import os
 import re
 import time
+from typing import Dict, Tuple, Union
 
+from lambda_local.configuration import Members
 from lambda_local.life import Ended, Life
+from lambda_local.service import ask
 from tests import ROOT
 from tests.library.cases import Case
 from tests.library.telemetry_kit import (APP, LOGS, PROBE, TELEMETRY, events, function, noted, probe, subscription,
@@ -63,7 +66,7 @@ def run(event):
 '''
 
 
-MISTAKES = {
+MISTAKES: Dict[str, Tuple[Members, str]] = {
     "telemetry that is a text": ({"telemetry": "yes", "extensions": {"x": "true"}, "command": "true"},
                                  'telemetry must be true or false, not "yes"'),
     "telemetry without extensions": ({"telemetry": True, "command": "true"},
@@ -272,6 +275,7 @@ class TelemetryLive(Case):
                     found[name] = [json.loads(line) for line in file]
         up.process.send_signal(15)
         until(lambda: up.process.poll() is not None or keep(), 20)
+        keep()
         up.end(None)
         for name in "xy":
             kinds = [kind for kind, _ in found.get(name, [])]
@@ -339,19 +343,32 @@ class TelemetryLive(Case):
         self.check("its telemetry too", types(events(up)).count("report:success"), 5)
         self.check("it ends", up.end(), (0, []))
 
+    def test_connections_that_end(self):
+        """Of connections that their processes have closed nothing is kept, as of those of curl."""
+        up = self.started({"x": probe()})
+        proxy = int(up.told(r"f/1: 127\.0\.0\.1:(\d+)"))
+        descriptors = lambda: len(os.listdir(f"/proc/{up.process.pid}/fd"))
+        before = descriptors()
+        for _ in range(40):
+            self.assertEqual(ask(proxy, "GET", "/")[0], 404)
+        until(lambda: descriptors() < before + 10, 20)
+        self.check("descriptors return after 40 connections", descriptors() < before + 10, shown=descriptors())
+        self.check("it ends", up.end(), (0, []))
+
     def test_passes_what_it_is(self):
         """The answers to odd requests are those of the environment's own port."""
         up = self.started({"x": probe()})
         port = json.loads(up.history().splitlines()[1])["functions"][0]["ports"][0]
-        proxy = int(re.search(r"f/1: 127\.0\.0\.1:(\d+)", "\n".join(up.lines))[1])
-        for method, path, body, headers in (
-                ("GET", "/", None, {}), ("GET", "/2022-07-01/telemetry", None, {}), ("POST", TELEMETRY, "{}", {}),
-                ("DELETE", "/2018-06-01/runtime/invocation/next", None, {}),
-                ("GET", "/x", None, {"Origin": "http://a"}),
-                ("POST", "/2018-06-01/runtime/invocation/x/response", "1", {}),
-                ("POST", "/2018-06-01/runtime/invocation/x/response", b"1" * (7 << 20), {}),
-                ("POST", "/2020-01-01/extension/register", "{}", {"Lambda-Extension-Name": "late"}),
-                ("GET", "/2020-01-01/extension/event/next", None, {"Host": "example.com"})):
+        proxy = int(up.told(r"f/1: 127\.0\.0\.1:(\d+)"))
+        requests: Tuple[Tuple[str, str, Union[None, str, bytes], Dict[str, str]], ...] = (
+            ("GET", "/", None, {}), ("GET", "/2022-07-01/telemetry", None, {}), ("POST", TELEMETRY, "{}", {}),
+            ("DELETE", "/2018-06-01/runtime/invocation/next", None, {}),
+            ("GET", "/x", None, {"Origin": "http://a"}),
+            ("POST", "/2018-06-01/runtime/invocation/x/response", "1", {}),
+            ("POST", "/2018-06-01/runtime/invocation/x/response", b"1" * (7 << 20), {}),
+            ("POST", "/2020-01-01/extension/register", "{}", {"Lambda-Extension-Name": "late"}),
+            ("GET", "/2020-01-01/extension/event/next", None, {"Host": "example.com"}))
+        for method, path, body, headers in requests:
             seen = []
             for each in (port, proxy):
                 connection = http.client.HTTPConnection("127.0.0.1", each, timeout=20)
@@ -369,7 +386,7 @@ class TelemetryLive(Case):
         """The extension of examples/, as its own words and docs/telemetry.md say."""
         path = os.path.join(ROOT, "examples", "telemetry.py")
         with open(path) as file:
-            members = json.loads(re.search(r'\{"functions".*?\}\]\}', file.read(), re.S)[0])["functions"][0]
+            members = json.loads(re.findall(r'\{"functions".*?\}\]\}', file.read(), re.S)[0])["functions"][0]
         up = Up(functions=[{**members, "handler": "app.run", "extensions": {"telemetry.py": path}}], app=APP)
         self.check("it is ready", up.until("[up] ready"), True)
         self.check("an invocation", up.invoke("greet", lines=["hello"])[0], 1)

@@ -2,7 +2,9 @@
 AWS's pages have them."""
 import json
 import random
+from typing import Dict, List, Optional, Tuple
 
+from lambda_local.configuration import Members
 from lambda_local.telemetry.buffer import Buffer
 from lambda_local.telemetry.schema import Event, rendered
 from lambda_local.telemetry.story import About, Moment, Story
@@ -28,9 +30,10 @@ EVENTS = {
     "end": ("platform.end", {"requestId": "r"}), "fault": ("platform.fault", {"text": "RequestId: r Process exited"}),
     "line": ("function", '{"level":"INFO"}'), "plain": ("function", "hello"), "of extension": ("extension", "{}"),
 }
+Wanted = Dict[Tuple[str, str], Optional[Members]]  # (event, schema)
 START_OF_LOGS = {"time": "2022-10-12T00:00:00.064Z", "type": "platform.start",
                  "record": {"requestId": "r", "version": "$LATEST"}}
-OF_LOGS = {  # (event, schema): what the Logs API's page has
+OF_LOGS: Wanted = {  # what the Logs API's page has
     ("start", "2020-08-15"): START_OF_LOGS, ("start", "2021-03-18"): START_OF_LOGS,
     ("done", "2020-08-15"): None,
     ("done", "2021-03-18"): {"type": "platform.runtimeDone", "record": {"requestId": "r", "status": "failure"}},
@@ -46,7 +49,7 @@ OF_LOGS = {  # (event, schema): what the Logs API's page has
     ("fault", "2020-08-15"): {"type": "platform.fault", "record": "RequestId: r Process exited"},
     ("line", "2020-08-15"): {"type": "function", "record": '{"level":"INFO"}'},
 }
-OF_TELEMETRY = {
+OF_TELEMETRY: Wanted = {
     ("start", "2022-07-01"): {"type": "platform.start", "record": EVENTS["start"][1]},
     ("done", "2025-01-29"): {"type": "platform.runtimeDone", "record": EVENTS["done"][1]},
     ("init", "2022-07-01"): {"type": "platform.initStart",
@@ -70,7 +73,8 @@ class Clock:
 
 
 def story_of(expected=()):
-    told, clock = [], Clock()
+    told: List[Event] = []
+    clock = Clock()
     story = Story(About("f", 128, "i", False, expected), told.append, lambda: 34_000_000, clock)
     return story, told, clock
 
@@ -164,7 +168,7 @@ class TelemetryStories(Case):
             seen = None if text is None else json.loads(text)
             self.check(f"{name} in {schema}", seen, wanted and {"time": "2022-10-12T00:00:00.064Z", **wanted})
         self.check("a line of a function that logs text is text", json.loads(rendered(Event(AT, *EVENTS["line"]),
-                                                                                      "2022-12-13")),
+                                                                                      "2022-12-13") or b""),
                    {"time": "2022-10-12T00:00:00.064Z", "type": "function", "record": '{"level":"INFO"}'})
 
     def test_stories(self):

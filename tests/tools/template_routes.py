@@ -3,7 +3,9 @@ CDK and Serverless templates, as their public references have them, and that wha
 LAMBDA_LOCAL_PROGRAM, else ./lambda_local."""
 import json
 import re
+from typing import Dict
 
+from lambda_local.configuration import Members
 from tests.library.cases import Case
 from tests.library.events_kit import READY, READY_SECONDS, Caller
 from tests.library.template_kit import up_and_said
@@ -77,7 +79,7 @@ class TemplateRoutes(Case):
                 {"http": {"path": "d", "method": "post"}}, {"sqs": "arn"}]},
             "g": {"handler": "x", "url": {"cors": {"allowedOrigins": ["*"]}}}}})
         self.check("Serverless: routes", made["routes"],
-                   {**dict.fromkeys(("GET /a/{b}", "ANY /c", "$default"), "s-dev-f"),
+                   {"GET /a/{b}": "s-dev-f", "ANY /c": "s-dev-f", "$default": "s-dev-f",
                     "POST /d": {"function": "s-dev-f", "payload": "1.0", "stage": "dev"}})
         self.check("Serverless: URLs", [function["url"] for function in made["functions"]],
                    [True, {"cors": {"allowOrigins": ["*"]}}])
@@ -89,8 +91,9 @@ class TemplateRoutes(Case):
             return {"Type": "AWS::Lambda::Url",
                     "Properties": {"AuthType": "NONE", "TargetFunctionArn": target, **properties}}
 
-        functions = {key: {"Type": "AWS::Lambda::Function", "Properties": {"Runtime": "provided", **properties}}
-                     for key, properties in (("F", {}), ("G", {"FunctionName": "shop-g"}), ("H", {}), ("I", {}))}
+        function = {"Type": "AWS::Lambda::Function", "Properties": {"Runtime": "provided"}}
+        named = {"Type": "AWS::Lambda::Function", "Properties": {"Runtime": "provided", "FunctionName": "shop-g"}}
+        functions = {"F": function, "G": named, "H": function, "I": function}
         cors = {"AllowOrigins": ["https://shop.example"], "AllowMethods": ["GET"], "AllowHeaders": ["x-one"],
                 "ExposeHeaders": ["x-two"], "AllowCredentials": True, "MaxAge": 60}
         made, said = up_and_said({"Conditions": {"Never": {"Fn::Equals": ["a", "b"]}}, "Resources": {
@@ -118,10 +121,10 @@ class TemplateRoutes(Case):
         """What an HTTP API says of cross-origin requests: for all of SAM's, for one of its own, and in Serverless."""
         def template(shared=None, **apis):
             """A function with a route of each API, and one of SAM's own if there is none."""
-            events = {key: {"Type": "HttpApi",
-                            "Properties": {"Path": f"/{key}", "Method": "GET", **({"ApiId": {"Ref": key}} if apis
-                                                                                  else {})}}
-                      for key in apis or ("own",)}
+            events: Dict[str, Members] = {
+                key: {"Type": "HttpApi", "Properties": {"Path": f"/{key}", "Method": "GET",
+                                                        **({"ApiId": {"Ref": key}} if apis else {})}}
+                for key in apis or ("own",)}
             function = {"Type": "AWS::Serverless::Function", "Properties": {"Runtime": "provided", "Events": events}}
             return {"Globals": {"HttpApi": shared or {}}, "Resources": {"F": function, **{
                 key: {"Type": "AWS::Serverless::HttpApi", "Properties": properties} for key,
@@ -155,15 +158,14 @@ class TemplateRoutes(Case):
         made, said = up_and_said(unused)
         self.check("an HTTP API without routes",
                    ("api" in made, "leaves out Shop: none of the routes is of this API" in said), (False, True))
-        for cors, wanted in ((True, any_site),
-                             ({"allowedOrigins": ["http://a"], "maxAge": 5}, {"allowOrigins": ["http://a"],
-                                                                              "maxAge": 5})):
+        for cors, made_cors in ((True, any_site), ({"allowedOrigins": ["http://a"], "maxAge": 5},
+                                                   {"allowOrigins": ["http://a"], "maxAge": 5})):
             made, said = up_and_said({"service": "s",
                                       "provider": {"runtime": "provided", "httpApi": {"cors": cors, "metrics": True}},
                                       "functions": {"f": {"handler": "x", "events": [{"httpApi": "GET /a"}]}}})
             self.check(f"Serverless: Cors of routes {cors}",
                        (made["api"], "leaves out metrics of the HTTP API provider.httpApi" in said),
-                       ({"cors": wanted}, True))
+                       ({"cors": made_cors}, True))
 
     def test_rest_of_sam(self):
         """AWS::Serverless::Api and the events Api: payload format 1.0, and the stage Prod of an API that is not

@@ -7,7 +7,9 @@ import random
 import re
 import subprocess
 import tempfile
+from typing import List
 
+from lambda_local.configuration import Members
 from tests import ROOT
 
 from tests.library.timelines import (
@@ -80,10 +82,12 @@ def written(parts):
 def random_script(seed, count=250):
     """A script that a careless client might make, of all calls."""
     pick = random.Random(seed)
-    functions, port = [], 9001
+    functions: List[Members] = []
+    port = 9001
     for name in pick.sample("fgh", pick.randint(1, 3)):
         environments = pick.randint(1, 3)
-        function = {"name": name, "ports": list(range(port, port + environments)), "timeout": pick.randint(1, 3)}
+        function: Members = {"name": name, "ports": list(range(port, port + environments)),
+                             "timeout": pick.randint(1, 3)}
         port += environments
         if pick.random() < 0.3:
             function["extensions"] = ["x"]
@@ -91,7 +95,7 @@ def random_script(seed, count=250):
             function["reserved"] = pick.randint(0, environments)
         functions.append(function)
     owners = [function["name"] for function in functions for _ in function["ports"]]
-    configuration = {"account": "123456789012", "region": "us-east-2", "functions": functions}
+    configuration: Members = {"account": "123456789012", "region": "us-east-2", "functions": functions}
     if pick.random() < 0.3:
         configuration["maxEntries"] = pick.randint(60, 300)
     lines, moment, invokes = ["form 2", json.dumps(configuration)], 0, dict.fromkeys(owners, 0)
@@ -153,6 +157,7 @@ def measured(arguments, pieces, environment=ENVIRONMENT):
     """Runs the tool over what is piped into it: its status, its greatest memory in MB, and the seconds of the
     processor."""
     process = subprocess.Popen([*TOOL, *arguments], stdin=subprocess.PIPE, env=environment, stderr=subprocess.DEVNULL)
+    assert process.stdin
     for piece in pieces:
         process.stdin.write(piece.encode())
     process.stdin.close()
@@ -199,12 +204,12 @@ class Timeline(TimelineCase):
             trace = self.draw(name, f"{configuration}\n{calls}\n" if calls else configuration)
             # a phase that ends in the entry in which it began says nothing; the very first one may
             went = [re.sub(r" \((\w+)\)", r":\1", phase) for phase in phases(trace, 1)]
-            wanted = wanted.replace("Starting Starting", "Starting").split()
-            self.check(f"{name}: the phases", went == wanted, shown=" ".join(went))
+            in_turn = wanted.replace("Starting Starting", "Starting").split()
+            self.check(f"{name}: the phases", went == in_turn, shown=" ".join(went))
             resets = [event["name"].replace("reset: ", "Closing:") for event in events(trace, "reset")
                       if event["pid"] == 11]
             self.check(f"{name}: a reset for each Closing",
-                       resets == [phase for phase in wanted if phase.startswith("Closing")], shown=str(resets))
+                       resets == [phase for phase in in_turn if phase.startswith("Closing")], shown=str(resets))
 
     def test_worked(self):
         """Draws the cases of worked examples that are scripts without a fault."""

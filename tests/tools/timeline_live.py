@@ -12,6 +12,7 @@ import time
 import xml.etree.ElementTree as ElementTree
 
 from lambda_local.service import Service, ask, free_ports
+from tests.library.threads import together
 from tests.library.timelines import TimelineCase, ENVIRONMENT, TOOL, run
 
 SVG = "{http://www.w3.org/2000/svg}"
@@ -28,6 +29,7 @@ class Live:
         self.runtime = self.service.configuration["functions"][0]["ports"][0]
         self.tool = subprocess.Popen([*TOOL, "--live", self.service.endpoint_url, *arguments], stdout=subprocess.PIPE,
                                      stderr=subprocess.PIPE, text=True, env=ENVIRONMENT)
+        assert self.tool.stdout
         self.line = self.tool.stdout.readline()
         self.port = int(self.line.split(" ")[0].rstrip("/").rpartition(":")[2])
         self.version = 0
@@ -84,13 +86,8 @@ class Live:
         self.service.kill()
 
 
-@contextlib.contextmanager
 def live(*arguments, **more):
-    made = Live(*arguments, **more)
-    try:
-        yield made
-    finally:
-        made.close()
+    return contextlib.closing(Live(*arguments, **more))
 
 
 def parts_of(drawn):
@@ -170,11 +167,7 @@ class TimelineLive(TimelineCase):
         with live("--limit", "20") as page:
             page.call()
             page.reserve(0)
-            threads = [threading.Thread(target=lambda: [page.invoke() for _ in range(400)]) for _ in range(4)]
-            for thread in threads:
-                thread.start()
-            for thread in threads:
-                thread.join()
+            together(*4 * [lambda: [page.invoke() for _ in range(400)]])
             page.reserve(1)
             page.call(b'"the last one"')
             drawn = page.until(lambda drawn: "the last one" in drawn and "output" in drawn)

@@ -5,12 +5,13 @@ import json
 import os
 import re
 import tempfile
+from typing import Dict
 
 from tests.library.timelines import ONE, TimelineCase, run
 from tests.tools.timeline import random_script
 
 # The members of each message that are used, with the JSON type of each.
-MEMBERS = {
+MEMBERS: Dict[str, Dict[str, type]] = {
     "request": {"resourceSpans": list}, "resourceSpans": {"resource": dict, "scopeSpans": list},
     "resource": {"attributes": list}, "scopeSpans": {"scope": dict, "spans": list}, "scope": {"name": str},
     "spans": {"traceId": str, "spanId": str, "parentSpanId": str, "name": str, "kind": int, "startTimeUnixNano": str,

@@ -6,7 +6,9 @@ import socket
 import subprocess
 import threading
 import time
+from typing import List
 
+from lambda_local.history.entries import Entry
 from lambda_local.history.running import Running
 from lambda_local.service import RUNTIME, Service, ask, wait_for
 from tests.library.cases import Case
@@ -120,7 +122,8 @@ class TraceFollowed(Case):
             bare = Follower(service.port, FOLLOWED + "&bodies=none&from=3")
             past = Follower(service.port, FOLLOWED + "&from=14")
             leaving = Follower(service.port)
-            entries, tools = [], threading.Thread(target=lambda: entries.extend(Running(service.port, 2).entries()))
+            entries: List[Entry] = []
+            tools = threading.Thread(target=lambda: entries.extend(Running(service.port, 2).entries()))
             tools.start()
             for turn in range(20):
                 invoke(service, "fg"[turn % 2], turn % 2)

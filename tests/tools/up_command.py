@@ -12,6 +12,7 @@ import sys
 import tempfile
 import time
 import urllib.error
+from typing import List, Tuple
 
 from tests.library.cases import Case
 from tests.library.up_kit import LAUNCHER, RUNTIME, TOOLS, Up, children, lives, until
@@ -165,8 +166,10 @@ class UpCommand(Case):
                        2 * ("example.org,127.0.0.1,localhost",))
 
     def test_old_clients(self):
-        for versions, wanted in ((("2.9.19", "1.26.27"), ["aws 2.9 ignores", "boto3 1.26 ignores"]),
-                                 (("1.22.34", "1.28.0"), ["aws 1.22 ignores"]), (("2.13.0", "1.43.1"), [])):
+        clients: Tuple[Tuple[Tuple[str, str], List[str]], ...] = (
+            (("2.9.19", "1.26.27"), ["aws 2.9 ignores", "boto3 1.26 ignores"]),
+            (("1.22.34", "1.28.0"), ["aws 1.22 ignores"]), (("2.13.0", "1.43.1"), []))
+        for versions, wanted in clients:
             with tempfile.TemporaryDirectory() as folder:
                 with open(os.path.join(folder, "aws"), "w") as file:
                     file.write(f"#!/bin/sh\necho aws-cli/{versions[0]} Python/3.11.2 Linux/6.1 source/x86_64\n")
@@ -202,8 +205,8 @@ class UpCommand(Case):
             listener.bind(("127.0.0.1", 0))
             listener.listen()
             port = listener.getsockname()[1]
-            for name, more in (("invokePort", {"whole": {"invokePort": port}}), ("function f", {"ports": [0, port]})):
-                up = Up(**more)
+            for name, whole, ports in (("invokePort", {"invokePort": port}, [0]), ("function f", {}, [0, port])):
+                up = Up(whole=whole, ports=ports)
                 status = up.end(None)
                 self.check(f"a taken port of {name} is named", (status, up.lines),
                            ((4, []),

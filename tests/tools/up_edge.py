@@ -8,6 +8,7 @@ import signal
 import socket
 import time
 import urllib.request
+from typing import List, Union
 
 from lambda_local.service import Fault, Service, ask
 from lambda_local.up.watch import Watch
@@ -163,7 +164,7 @@ class UpEdge(Case):
         """Services one after the other on few ports, whose connections have ended a moment ago."""
         first = free_range(6)
         os.environ["LAMBDA_LOCAL_PORTS"] = f"{first}-{first + 5}"
-        seen = []
+        seen: List[Union[int, str]] = []
         try:
             for _ in range(12):
                 service = Service({"account": "123456789012", "region": "us-east-1",
@@ -237,6 +238,7 @@ class UpEdge(Case):
         limits = resource.getrlimit(resource.RLIMIT_NOFILE)
         resource.setrlimit(resource.RLIMIT_NOFILE, (3, limits[1]))
         try:
+            assert watch.running._socket
             watch.running._socket.shutdown(socket.SHUT_RDWR)
             self.check("without a descriptor it is lost", until(lambda: "descriptors" in watch.warnings, 60))
             time.sleep(1)

@@ -242,8 +242,9 @@ class UpFailures(Case):
         up = Up(functions=[{"name": "f", "command": RUNTIME, "timeout": 1}, {"name": "none", "ports": [0],
                                                                              "reserved": 0}])
         up.until("[up] ready")
-        for event in ({}, {"do": "fail"}, {"do": "hang"}, {"do": "crash"}):
-            up.invoke(**event)
+        up.invoke()
+        for do in ("fail", "hang", "crash"):
+            up.invoke(do=do)
         for _ in range(5):
             up.invoke("none", patience=0)
         wanted = {"an invocation": r"ok \d+ ms", "an error": r"error KeyError: 'missing' \(app\.py:7\)",
@@ -254,7 +255,8 @@ class UpFailures(Case):
                        until(lambda: up.count(rf"^\d\d:\d\d:\d\d\.\d{{3}} \[f/1\] {REQUEST} {pattern}$"), 5)
                        and up.count(f"{REQUEST} {pattern}"), 1)
         self.check("one line for a burst of throttles", up.until("[none] throttled 5 times: reserved concurrency", 5))
-        self.check("and no other", up.count("throttled"), 1 + up.count("admitted"))
+        # (f may be throttled too, on a busy machine: its runtime is started again)
+        self.check("and no other", up.count(r"\[none\] throttled"), 1)
         self.check("a line names the request as the history does",
                    re.findall(f"({REQUEST}) ok", "\n".join(up.lines))[0] in up.history())
         self.check("nothing is left of lines", up.end(), (0, []))

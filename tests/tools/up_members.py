@@ -5,8 +5,10 @@ import json
 import os
 import subprocess
 import tempfile
+from typing import Dict, Tuple
 
 from lambda_local.configuration import SENTENCES, explained
+from lambda_local.configuration import Members
 from lambda_local.program import place_of_fault
 from tests import ROOT
 from tests.library.cases import Case
@@ -24,7 +26,7 @@ def told(text, folder, *options):
 
 # Members of the function greet, whose command is `true`, and what is said after "up: up.json: function greet: ".
 ENVIRONMENTS = 'environments must be a whole number from 1 to 256, or an object with "min" and "max", not '
-OF_FUNCTION = {
+OF_FUNCTION: Dict[str, Tuple[Members, str]] = {
     "a member that nobody knows": ({"timeuot": 5}, "unknown member timeuot, did you mean timeout?"),
     "one that is like no other": ({"zzz": 1}, "unknown member zzz; there are command, directory, environments, "
                                               "extensions, handler, init, layers, memory, name, ports, python, "
@@ -89,7 +91,7 @@ OF_FUNCTION = {
                   'functions[0].handler)'),
 }
 # What UP.json says instead of one function `a`, and what is said after "up: up.json: ".
-OF_SERVICE = {
+OF_SERVICE: Dict[str, Tuple[Members, str]] = {
     "a member that is nearly one": ({"acount": "123456789012"}, "unknown member acount, did you mean account?"),
     "a function without a name": ({"functions": [{"command": ["true"]}]},
                                   "function number 1: there is no name, which must be a string"),
@@ -114,7 +116,7 @@ OF_SERVICE = {
 
 
 # Of each fault of docs/formats.md a configuration that has it, and words that the sentence must have.
-FAULTS = {
+FAULTS: Dict[str, Tuple[Members, str]] = {
     "BadAccount": ({"account": "1"}, "12 digits"),
     "BadRegion": ({"region": ""}, "region"),
     "BadAccountLimit": ({"accountLimit": 0}, "1 to 1000000"),

@@ -11,7 +11,9 @@ import subprocess
 import sys
 import tempfile
 import zipfile
+from typing import Tuple
 
+from lambda_local.configuration import Members
 from lambda_local.service import Fault
 from lambda_local.up import layers, programs
 from lambda_local.up.members import load
@@ -126,12 +128,15 @@ class UpProjects(Case):
         if shutil.which("node"):
             functions.append({"name": "js", "runtime": "nodejs20.x", "handler": "index.run", "layers": ["folder"]})
         mine = f"#!/bin/sh\nexec {sys.executable} \"$@\"\n"
+
+        def prepare(at):
+            file_of(packed(("python/shop.py", b"NAME = 'zip'\n", 0o644)), at)
+            os.makedirs(f"{at}/folder/nodejs/node_modules/shop")
+            file_of(b"exports.name = 'folder';\n", f"{at}/folder/nodejs/node_modules/shop", "index.js")
+
         up = Up("--allow-unready", functions=functions, app=APP, whole={"asynchronous": True},
                 files={"slow.py": SLOW, "index.js": NODE, "mine": mine}, command=["--", "sleep", "100"],
-                prepare=lambda at: (
-                    file_of(packed(("python/shop.py", b"NAME = 'zip'\n", 0o644)), at),
-                    os.makedirs(f"{at}/folder/nodejs/node_modules/shop"),
-                    file_of(b"exports.name = 'folder';\n", f"{at}/folder/nodejs/node_modules/shop", "index.js")))
+                prepare=prepare)
         self.check("functions that cannot be started do not stop the command", up.until("ready but for ", 120))
         self.check("what is wrong is told", up.has("unbuilt: directory: there is no folder ") and up.has(
             "unbuilt: ./bootstrap is not a program") and up.has("[broken/1] Init failed Runtime.ImportModuleError"))
@@ -166,24 +171,25 @@ class UpProjects(Case):
         up.end()
 
     def test_wrong_members(self):
-        base = {"name": "f", "runtime": "python", "handler": "app.run"}
-        for members, wanted in (
-                ({"runtime": "ruby3.2"}, 'function f: runtime must be "python" or "node", not "ruby3.2"'),
-                ({"init": 0}, "function f: init must be a whole number of seconds, from 1 to 900, not 0"),
-                ({"layers": "x"}, 'function f: layers must be a list of folders and .zip files, not "x"'),
-                ({"python": ""}, 'function f: python must be a string: a Python interpreter, not ""'),
-                ({"runtime": "node", "python": "python3"},
-                 'function f: python is for "runtime": "python": leave it out'),
-                ({"python": "./nothing"}, 'function f: "runtime": "python" needs the program '),
-                ({"environments": {"min": 3, "max": 2}},
-                 "function f: environments: min is 3, which is more than max, 2"),
-                ({"environments": {"most": 2}},
-                 "function f: environments: unknown member most; there are idle, max, min"),
-                ({"environments": {"max": 0}},
-                 "function f: environments: max must be a whole number from 1 to 256, not 0"),
-                ({"environments": {"idle": 0}}, "function f: environments: idle must be a whole number of seconds"),
-                ({"environments": True}, "function f: environments must be a whole number from 1 to 256, or an object"),
-                ({"environments": {"max": 3}, "ports": [0, 0]}, "function f: 2 ports for 3 environments")):
+        base: Members = {"name": "f", "runtime": "python", "handler": "app.run"}
+        mistakes: Tuple[Tuple[Members, str], ...] = (
+            ({"runtime": "ruby3.2"}, 'function f: runtime must be "python" or "node", not "ruby3.2"'),
+            ({"init": 0}, "function f: init must be a whole number of seconds, from 1 to 900, not 0"),
+            ({"layers": "x"}, 'function f: layers must be a list of folders and .zip files, not "x"'),
+            ({"python": ""}, 'function f: python must be a string: a Python interpreter, not ""'),
+            ({"runtime": "node", "python": "python3"},
+             'function f: python is for "runtime": "python": leave it out'),
+            ({"python": "./nothing"}, 'function f: "runtime": "python" needs the program '),
+            ({"environments": {"min": 3, "max": 2}},
+             "function f: environments: min is 3, which is more than max, 2"),
+            ({"environments": {"most": 2}},
+             "function f: environments: unknown member most; there are idle, max, min"),
+            ({"environments": {"max": 0}},
+             "function f: environments: max must be a whole number from 1 to 256, not 0"),
+            ({"environments": {"idle": 0}}, "function f: environments: idle must be a whole number of seconds"),
+            ({"environments": True}, "function f: environments must be a whole number from 1 to 256, or an object"),
+            ({"environments": {"max": 3}, "ports": [0, 0]}, "function f: 2 ports for 3 environments"))
+        for members, wanted in mistakes:
             with tempfile.TemporaryDirectory() as folder:
                 path = file_of(json.dumps({"functions": [{**base, **members}]}).encode(), folder, "up.json")
                 try:

@@ -2,7 +2,9 @@
 program is LAMBDA_LOCAL_PROGRAM, else ./lambda_local."""
 import os
 import tempfile
+import threading
 import types
+from unittest import mock
 
 from lambda_local.up import reload
 from tests.library.cases import Case
@@ -49,14 +51,10 @@ class UpReload(Case):
         with tempfile.TemporaryDirectory() as root:
             functions = [types.SimpleNamespace(name=name, watch=[root], handler=handler, command=["x"])
                          for name, handler in (("a", "app.run"), ("b", "app.run"), ("c", "other.run"))]
-            walks, walk = [], reload.Files.walk
-            reload.Files.walk = lambda self, *words: (walks.append(self), walk(self, *words))[1]
-            try:
-                looker = reload.Reload([], None, None, None, os.path.join(root, "up.json"))
+            looker = reload.Reload([], mock.Mock(), threading.Event(), mock.Mock(), os.path.join(root, "up.json"))
+            with mock.patch.object(reload.Files, "walk", autospec=True, side_effect=reload.Files.walk) as walk:
                 looker.look({function.name: reload.Files(function) for function in functions})
-            finally:
-                reload.Files.walk = walk
-            self.check("functions with the same files are walked once", len(walks), 2)
+            self.check("functions with the same files are walked once", walk.call_count, 2)
 
     def test_under_up(self):
         up = Up("--reload", functions=[{"name": "f", "command": RUNTIME}], files={".gitignore": "data\n"})

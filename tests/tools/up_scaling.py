@@ -3,11 +3,11 @@ Init that fails, reserved concurrency, and that idle ones end. The program is LA
 ./lambda_local."""
 import json
 import os
-import threading
 
 from lambda_local.life import Life
 from tests import ROOT
 from tests.library.cases import Case
+from tests.library.threads import together
 from tests.library.up_kit import Up, lives, until
 from tests.library.traces import entries_in
 
@@ -38,13 +38,7 @@ def settle(up):
 def at_once(up, count, **event):
     """What this many callers get who come at once."""
     settle(up)
-    seen = []
-    threads = [threading.Thread(target=lambda: seen.append(up.invoke(patience=0, **event)[0])) for _ in range(count)]
-    for thread in threads:
-        thread.start()
-    for thread in threads:
-        thread.join()
-    return seen
+    return together(*count * [lambda: up.invoke(patience=0, **event)[0]])
 
 
 def processes(answers):

@@ -6,8 +6,7 @@ import difflib
 import json
 import re
 from collections import Counter
-from typing import (Any, Callable, Dict, Hashable, Iterable, Iterator, List, Mapping, NamedTuple, Optional, Sequence,
-                    Tuple)
+from typing import Any, Callable, Dict, Hashable, Iterable, Iterator, List, Mapping, NamedTuple, Optional, Sequence
 
 
 Members = Dict[str, Any]  # of an object of JSON that has been looked at: what they may be is said where that is done

@@ -16,7 +16,7 @@ import subprocess
 import tempfile
 import threading
 import time
-from typing import Callable, Collection, Dict, Iterator, List, Mapping, Optional, Tuple, Union
+from typing import AnyStr, Callable, Collection, Dict, Iterator, List, Mapping, Optional, Tuple, Union
 
 from .configuration import Members, explained, says
 from .guard import GUARD
@@ -113,7 +113,7 @@ def is_taken(port: int) -> bool:
     return False
 
 
-def wait_for(child: "subprocess.Popen[str]", seconds: float) -> int:
+def wait_for(child: "subprocess.Popen[AnyStr]", seconds: float) -> int:
     """Waits for the end of a child. `Popen.wait` with a limit looks again and again, up to 50 ms apart; a descriptor of
     the child (Linux 5.3) says at once that it has ended."""
     try:

@@ -9,9 +9,10 @@ import tempfile
 import time
 from typing import Dict, List, Tuple
 
+from lambda_local.service import ask
 from tests import ROOT
-from tests.library.clients.kit import (INVOKE, NEXT, PORT, PROGRAM, Service, later, raw, replay_of, request,
-                                       runtime_once, until)
+from tests.library.clients.kit import (INVOKE, NEXT, PORT, PROGRAM, Service, later, raw, replay_of, runtime_once,
+                                       until)
 from tests.library.counted import check
 
 
@@ -38,25 +39,25 @@ def sleep_of_the_machine():
 
         sleep(0)
         with Service([("f", 1, {"timeout": 3})], variables={"LD_PRELOAD": library, "DAY_AHEAD": ahead}) as service:
-            before = later(request, PORT + 1, "GET", NEXT)
+            before = later(ask, PORT + 1, "GET", NEXT)
             service.entries(1)
-            first = later(request, PORT, "POST", INVOKE % "f", b"1")
+            first = later(ask, PORT, "POST", INVOKE % "f", b"1")
             _, headers, _ = before()
             sleep(3600)  # while the invocation runs
             time.sleep(0.3)
             path = f"/2018-06-01/runtime/invocation/{headers['lambda-runtime-aws-request-id']}/response"
             check("an invocation that runs while the clock is set forward does not time out",
-                  (request(PORT + 1, "POST", path, b"2")[0], first()[2]), (202, b"2"))
+                  (ask(PORT + 1, "POST", path, b"2")[0], first()[2]), (202, b"2"))
             entries = service.stats()["entries"]
-            after = later(request, PORT + 1, "GET", NEXT)
+            after = later(ask, PORT + 1, "GET", NEXT)
             check("the clock follows within moments, by a tick", service.entries(entries + 2), True)
-            second = later(request, PORT, "POST", INVOKE % "f", b"1")
+            second = later(ask, PORT, "POST", INVOKE % "f", b"1")
             _, headers, _ = after()
             left = left_of(headers) - 3_600_000
             check("a deadline after an hour's sleep is three seconds ahead of the time of day",
                   1500 < left <= 3100, shown=left)
             path = f"/2018-06-01/runtime/invocation/{headers['lambda-runtime-aws-request-id']}/response"
-            check("and is kept", (request(PORT + 1, "POST", path, b"3")[0], second()[2]), (202, b"3"))
+            check("and is kept", (ask(PORT + 1, "POST", path, b"3")[0], second()[2]), (202, b"3"))
             check("the history of a service whose clock was set forward replays", *replay_of(service.history()))
             check("and the service settles", service.stop(), (202, 0, "admitted 2 throttled 0 failed 0\n"))
 
@@ -81,12 +82,12 @@ def unread_log():
 
         def answers():
             try:
-                return request(PORT, "GET", "/_local/stats", timeout=2)[0] == 200
+                return ask(PORT, "GET", "/_local/stats", timeout=2)[0] == 200
             except (OSError, http.client.HTTPException):
                 return False
         try:
             check("a service whose log no one reads answers", until(answers), True)
-            request(PORT, "POST", "/_local/stop", timeout=2)
+            ask(PORT, "POST", "/_local/stop", timeout=2)
             check("and settles", (process.wait(10), process.stdout.read()), (0, "admitted 0 throttled 0 failed 0\n"))
         except (OSError, http.client.HTTPException, subprocess.TimeoutExpired) as fault:
             check("and settles", repr(fault), "it ends")
@@ -104,7 +105,7 @@ def salt_and_room():
         check("a service tells its salt and its room", (setup["salt"], setup["maxEntries"]), (0x123456789ABCDEF0, 50))
         waiting = later(runtime_once, PORT + 1)
         service.entries(1)
-        answer = request(PORT, "POST", INVOKE % "f", b"1")
+        answer = ask(PORT, "POST", INVOKE % "f", b"1")
         check("identifiers have the salt", (answer[1]["x-amzn-requestid"], waiting()),
               ("12345678-9abc-8ef0-8001-000000000001",) * 2)
         service.stop()
@@ -113,7 +114,7 @@ def salt_and_room():
 def invoke(function="f"):
     """Status of an invocation, and after how many seconds it came."""
     start = time.monotonic()
-    return request(PORT, "POST", INVOKE % function, b"1")[0], time.monotonic() - start
+    return ask(PORT, "POST", INVOKE % function, b"1")[0], time.monotonic() - start
 
 
 def patience():
@@ -140,13 +141,13 @@ def patience():
               (200, 429))
         service.stop()
     with Service([("f", 1, {"reserved": 1}), ("g", 1, {})], patience=2000) as service:
-        serving = later(request, PORT + 1, "GET", NEXT)
+        serving = later(ask, PORT + 1, "GET", NEXT)
         service.entries(1)
         first = later(invoke)
         identifier = serving()[1]["lambda-runtime-aws-request-id"]
         status, seconds = invoke()
         check("a call whose environments are all at work is throttled at once", (status, seconds < 1), (429, True))
-        request(PORT + 1, "POST", f"/2018-06-01/runtime/invocation/{identifier}/response", b"1")
+        ask(PORT + 1, "POST", f"/2018-06-01/runtime/invocation/{identifier}/response", b"1")
         first()
         held = later(invoke)
         gone = raw(PORT, b"POST " + (INVOKE % "f").encode() + b" HTTP/1.1\r\nHost: l\r\nContent-Length: 1\r\n\r\n2")
@@ -154,12 +155,12 @@ def patience():
         gone.close()
         before = service.stats()["entries"]
         concurrency = "/2017-10-31/functions/f/concurrency"
-        request(PORT, "PUT", concurrency, b'{"ReservedConcurrentExecutions":0}')
+        ask(PORT, "PUT", concurrency, b'{"ReservedConcurrentExecutions":0}')
         check("where the reservation falls to 0 a held call is throttled", (held()[0], before), (429, 4))
         check("a held call whose caller has gone is submitted too", service.entries(before + 3), True)
         status, seconds = invoke()
         check("a reservation of 0 throttles at once", (status, seconds < 1), (429, True))
-        request(PORT, "DELETE", concurrency)
+        ask(PORT, "DELETE", concurrency)
         held = later(invoke)
         time.sleep(0.2)
         service.stop()

@@ -9,7 +9,8 @@ import tempfile
 import threading
 import time
 
-from tests.library.clients.kit import INVOKE, NEXT, PORT, PROGRAM, Service, later, raw, replay_of, request, until
+from lambda_local.service import ask
+from tests.library.clients.kit import INVOKE, NEXT, PORT, PROGRAM, Service, later, raw, replay_of, until
 from tests.library.counted import check
 
 
@@ -77,14 +78,14 @@ def threads_that_are_kept():
 
         before = threads()
         for _ in range(200):
-            request(PORT, "GET", "/_local/stats")
+            ask(PORT, "GET", "/_local/stats")
         check("few threads serve 200 connections, one after the other", before <= threads() <= before + 8, True)
         together = [socket.create_connection(("127.0.0.1", PORT)) for _ in range(30)]
         check("each of 30 connections at once has a thread", until(lambda: threads() >= 30), True)
         for connection in together:
             connection.close()
         check("threads for which no connection comes end by themselves", until(lambda: threads() <= before, 15), True)
-        check("and others serve then", request(PORT, "GET", "/_local/stats")[0], 200)
+        check("and others serve then", ask(PORT, "GET", "/_local/stats")[0], 200)
         check("a service whose threads wait ends at once, and settles", service.stop(),
               (202, 0, "admitted 0 throttled 0 failed 0\n"))
 
@@ -106,7 +107,7 @@ def few_descriptors():
 
         def is_served():
             try:
-                return request(PORT, "GET", "/_local/stats")[0] == 200
+                return ask(PORT, "GET", "/_local/stats")[0] == 200
             except (OSError, http.client.HTTPException):
                 return False
 
@@ -136,7 +137,7 @@ def too_few_descriptors():
 def refused_polls():
     """A poll that is refused is followed by a pause, so that a poller which loops on it fills no journal."""
     with Service([("f", 1, {"timeout": 30})]) as service:
-        caller = later(request, PORT, "POST", INVOKE % "f", b"1")
+        caller = later(ask, PORT, "POST", INVOKE % "f", b"1")
         connection = http.client.HTTPConnection("127.0.0.1", PORT + 1, timeout=20)
         connection.request("GET", NEXT)
         delivered = connection.getresponse()
@@ -165,8 +166,8 @@ def leaked_connections():
             leaked.append(raw(PORT, b"GET /_local/stats HTTP/1.1\r\nHost: h\r\n\r\n"))
             leaked[-1].recv(12)
         check("a caller is answered beside 1,040 connections that ask nothing",
-              request(PORT, "GET", "/_local/stats")[0], 200)
-        check("and an environment's port", request(PORT + 1, "GET", "/")[0], 404)
+              ask(PORT, "GET", "/_local/stats")[0], 200)
+        check("and an environment's port", ask(PORT + 1, "GET", "/")[0], 404)
         check("and a stop", service.stop()[:2], (202, 0))
         for connection in leaked:
             connection.close()

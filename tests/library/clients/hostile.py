@@ -4,7 +4,8 @@ import socket
 import threading
 import time
 
-from tests.library.clients.kit import INVOKE, NEXT, PORT, Service, later, raw, read_all, request, runtime_once
+from lambda_local.service import ask
+from tests.library.clients.kit import INVOKE, NEXT, PORT, Service, later, raw, read_all, runtime_once
 from tests.library.counted import check
 
 
@@ -22,14 +23,14 @@ def hostile():
             check("a runtime that goes away while it waits is withdrawn" + name, service.entries(before + 2), True)
             waiting = later(runtime_once, PORT + 1)
             service.entries(before + 3)
-            answer = request(PORT, "POST", INVOKE % "f", b"7")
+            answer = ask(PORT, "POST", INVOKE % "f", b"7")
             check("a new one gets the next invocation" + name, (answer[0], answer[2]), (200, b"7"))
             waiting()
         older = raw(PORT + 1, parked)
         service.entries(service.stats()["entries"] + 1)
         newer = later(runtime_once, PORT + 1)
         check("a second Next replaces the first", older.recv(12), b"HTTP/1.1 403")
-        answer = request(PORT, "POST", INVOKE % "f", b"8")
+        answer = ask(PORT, "POST", INVOKE % "f", b"8")
         check("and gets the next invocation", (answer[0], answer[2]), (200, b"8"))
         newer()
         before = service.stats()["entries"]
@@ -55,7 +56,7 @@ def hostile():
         waiting()
         waiting = later(runtime_once, PORT + 1, b"x" * 6_291_457)
         service.entries(service.stats()["entries"] + 1)
-        answer = request(PORT, "POST", INVOKE % "f", b"1")
+        answer = ask(PORT, "POST", INVOKE % "f", b"1")
         check("a response of one byte too many", (answer[0], json.loads(answer[2])["errorType"]),
               (200, "Function.ResponseSizeTooLarge"))
         waiting()
@@ -96,7 +97,7 @@ def codings():
 def web_pages():
     """A browser's requests, and hosts that are not this machine's."""
     def asked(port, method, path, **fields):
-        return request(port, method, path, None, {name.replace("_", "-"): value for name, value in fields.items()})[0]
+        return ask(port, method, path, None, {name.replace("_", "-"): value for name, value in fields.items()})[0]
     with Service([("f", 1, {})], hosts="api.example,other.test") as service:
         page = {"Origin": "https://evil.example", "Sec_Fetch_Site": "cross-site", "Content_Type": "text/plain"}
         for name, port, method, path in (("stop", PORT, "POST", "/_local/stop"),
@@ -143,17 +144,17 @@ def floods_and_stalls():
     """Peers that flood, stop responding, send far too much or end their side."""
     with Service([("f", 3, {"timeout": 60})]) as service:
         long = b'"' + b"x" * 40_000_000 + b'"'
-        check("a payload of 40 MB is told so", request(PORT, "POST", INVOKE % "f", long)[0], 413)
-        check("a report of 40 MB is told so", request(PORT + 1, "POST", "/2018-06-01/runtime/init/error", long)[0], 413)
+        check("a payload of 40 MB is told so", ask(PORT, "POST", INVOKE % "f", long)[0], 413)
+        check("a report of 40 MB is told so", ask(PORT + 1, "POST", "/2018-06-01/runtime/init/error", long)[0], 413)
         quiet = slowest_of(service.stats)
         over = threading.Event()
         floods = [threading.Thread(target=flood, args=(PORT + 3, over)) for _ in range(2)]
-        for flood in floods:
-            flood.start()
+        for thread in floods:
+            thread.start()
         slowest = slowest_of(service.stats)
         over.set()
-        for flood in floods:
-            flood.join()
+        for thread in floods:
+            thread.join()
         check("a crowd at one port keeps nobody at another waiting", slowest < 1.5 + 10 * quiet,
               shown=(slowest, quiet))
         runtime = later(runtime_once, PORT + 1)

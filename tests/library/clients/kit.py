@@ -1,5 +1,4 @@
 """A service on free ports, and single requests to it."""
-import http.client
 import json
 import os
 import resource
@@ -10,6 +9,7 @@ import tempfile
 import threading
 import time
 
+from lambda_local.service import ask
 from tests import ROOT
 from tests.library.ports import free_range
 
@@ -21,17 +21,6 @@ EXAMPLES = os.path.join(ROOT, "examples")
 PORT = free_range(64)  # the first of those of each service
 NEXT = "/2018-06-01/runtime/invocation/next"
 INVOKE = "/2015-03-31/functions/%s/invocations"
-
-
-def request(port, method, path, body=None, headers={}, timeout=20):
-    """Status, headers and body of one request on a connection of its own."""
-    connection = http.client.HTTPConnection("127.0.0.1", port, timeout=timeout)
-    try:
-        connection.request(method, path, body, headers)
-        answer = connection.getresponse()
-        return answer.status, {name.lower(): value for name, value in answer.getheaders()}, answer.read()
-    finally:
-        connection.close()
 
 
 def later(work, *words):
@@ -86,17 +75,17 @@ class Service:
             return log.read()
 
     def stats(self):
-        return json.loads(request(PORT, "GET", "/_local/stats")[2])
+        return json.loads(ask(PORT, "GET", "/_local/stats")[2])
 
     def entries(self, count):
         return until(lambda: self.stats()["entries"] >= count)
 
     def history(self):
-        return request(PORT, "GET", "/_local/history")[2].decode()
+        return ask(PORT, "GET", "/_local/history")[2].decode()
 
     def stop(self):
         """Status and standard output of the service after a stop."""
-        status = request(PORT, "POST", "/_local/stop")[0]
+        status = ask(PORT, "POST", "/_local/stop")[0]
         output, _ = self.process.communicate(timeout=30)
         return status, self.process.returncode, output
 
@@ -117,11 +106,11 @@ def replay_of(history):
 
 def runtime_once(port, body=None, path="response"):
     """Asks for one invocation and responds with its payload, or with a body; gives the request identifier."""
-    status, headers, payload = request(port, "GET", NEXT, timeout=60)
+    status, headers, payload = ask(port, "GET", NEXT, timeout=60)
     if status != 200:
         return status
     request_id = headers["lambda-runtime-aws-request-id"]
-    request(port, "POST", f"/2018-06-01/runtime/invocation/{request_id}/{path}", payload if body is None else body)
+    ask(port, "POST", f"/2018-06-01/runtime/invocation/{request_id}/{path}", payload if body is None else body)
     return request_id
 
 

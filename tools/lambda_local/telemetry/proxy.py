@@ -142,6 +142,8 @@ class Pair:
         self.client.write(self.conversation.to_client)
         if self.service.has_ended:
             self.client.end()
+        if self.service.has_ended and self.client.has_ended:
+            self.client.close()  # (once what it gets is written; the service's side follows)
         if self.conversation.closes and not self.conversation.open:
             self.client.close()
 
