@@ -181,8 +181,8 @@ impl<S: Identity, B: Bell> Account<S, B> {
     /// happen under one lock.
     ///
     /// # Errors
-    /// As `Desk::apply_unless_premature`, for the history that the token has then seen. The tally is unchanged, and the bell
-    /// is returned, with the call if that is premature.
+    /// As `Desk::apply_unless_premature`, for the history that the token has then seen. The tally is unchanged,
+    /// and the bell is returned, with the call if that is premature.
     pub fn submit_unless_premature<K: Keep>(
         &self,
         rt: &impl Wait,

@@ -116,7 +116,8 @@ impl<S: Identity> Ports<S> {
     ) -> Result<Ports<S>, HostFault>
         requires configured { arc_value config.now ≡ S.config }
         requires salted { salt ≡ S.salt }
-        ensures all_served { IfOk result (λ ports. all_served ports.listeners.items ≡ all_served_of (arc_value config.now) salt) }
+        ensures all_served { IfOk result (λ ports.
+            all_served ports.listeners.items ≡ all_served_of (arc_value config.now) salt) }
         ensures fault { IfErr result IsOfMachine }
     {
         let mut ports = Ports::new(net, alloc)?;
@@ -153,7 +154,8 @@ impl<S: Identity> Ports<S> {
         requires configured { arc_value config.now ≡ S.config }
         requires salted { salt ≡ S.salt }
         requires account { all_served self.old.listeners.items ≡ served (arc_value config.now) salt Account ∷ [] }
-        ensures all_served { OnOk result (all_served self.new.listeners.items ≡ all_served_of (arc_value config.now) salt) }
+        ensures all_served { OnOk result
+            (all_served self.new.listeners.items ≡ all_served_of (arc_value config.now) salt) }
         ensures fault { IfErr result IsOfMachine }
     {
         let ports = ports_in_order(alloc, config)?;

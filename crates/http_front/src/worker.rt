@@ -134,7 +134,8 @@ fn serve_by<
     pulse: Arc<Pulse>,
 ) -> Ended<Wire>
     requires { IsFresh ends.wire }
-    ensures written { Written ⟦<Either<Full<Bytes>, StreamedBody<R, A, A::Trail, K, L>> as Body>⟧.yields ⟦<Bytes as Into<Bytes>>⟧.converts
+    ensures written { Written ⟦<Either<Full<Bytes>, StreamedBody<R, A, A::Trail, K, L>> as Body>⟧.yields
+        ⟦<Bytes as Into<Bytes>>⟧.converts
         (IsAnswer N.Clock ⟦<Incoming<Wire> as Body>⟧.yields ⟦<Bytes as Into<Bytes>>⟧.converts front)
         result.io (outcome_of result.outcome) }
     ensures same { name_of result.io ≡ name_of ends.wire }

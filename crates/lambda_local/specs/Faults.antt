@@ -1,4 +1,6 @@
 -- The faults of a service, from the faults of its parts.
+use Rattle.std.specs.declared.io.ErrorKind.{ErrorKind}
+use Rattle.std.specs.declared.io.ErrorKind.TheVariants as errors
 use Rattle.lambda_wire.specs.declared.fault.WireFault.{WireFault}
 use Rattle.lambda_wire.specs.declared.fault.WireFault.TheVariants as wire
 use Rattle.account_lock.specs.declared.fault.SettleFault.{SettleFault}
@@ -6,10 +8,15 @@ use Rattle.account_lock.specs.declared.fault.SettleFault.TheVariants as settling
 use Rattle.http_front.specs.declared.host_fault.HostFault.{HostFault}
 use Rattle.http_front.specs.declared.host_fault.HostFault.TheVariants as host
 use Rattle.lambda_local.specs.declared.serve_fault.ServeFault.{ServeFault}
-use Rattle.lambda_local.specs.declared.serve_fault.ServeFault.TheVariants.{Config, Wire, Settlement, Network}
+use Rattle.lambda_local.specs.declared.serve_fault.ServeFault.TheVariants.{Config, Wire, Settlement, Read, Network}
 use Rattle.lambda_local.specs.declared.serve_fault.ServeFault.TheVariants.{TooFewDescriptors, OutOfMemory}
 
--- The fault of a configuration that cannot be read.
+-- The fault for an error of this kind while a configuration is read.
+abbrev pub of_input : ErrorKind → ServeFault
+of_input errors.OutOfMemory = OutOfMemory
+of_input _ = Read
+
+-- The fault of a text that is no configuration.
 abbrev pub of_wire : WireFault → ServeFault
 of_wire wire.OutOfMemory = OutOfMemory
 of_wire fault = Wire fault

@@ -1,3 +1,4 @@
 pub mod Status
 pub mod Ending
 pub mod Faults
+pub mod Explaining

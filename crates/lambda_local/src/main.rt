@@ -8,6 +8,7 @@
 
 mod clock;
 mod closing;
+mod configuration;
 mod explain;
 mod hosts;
 mod log_writer;

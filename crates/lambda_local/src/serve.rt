@@ -9,11 +9,11 @@ ghost use Rattle.lambda_local.specs.Ending.{IsClosing};
 
 use crate::clock::UnixClock;
 use crate::closing::ClosingLine;
+use crate::configuration::read_setup;
 use crate::log_writer::LogWriter;
 use crate::serve_fault::ServeFault;
 use account_lock::{Identity, Settled};
 use http_front::{Host, Hosted, Machine, Plan};
-use lambda_wire::read_config;
 use log::Log;
 use request_guard::KnownHosts;
 use std::fmt::Display;
@@ -23,19 +23,13 @@ use std::marker::Brand;
 use std::rt::Files;
 use usage_ledger::{Blanks, KeepNone, Ledgers, Tally, Token};
 
-/// The most bytes of a configuration that are read: one more than the longest configuration has.
-const MOST_READ: u64 = 20_000_001;
-
 /// Reads the plan in a file.
 fn read_plan<R: Files + AllocGlobal>(rt: &R, path: &str) -> Result<Plan, ServeFault>
 where
     R::File: Read + Drop,
 {
-    let mut text = Vec::new(rt.alloc());
     let file = fs::open(rt, path).map_err(|fault| ServeFault::at_input(&fault))?;
-    let read = file.take(MOST_READ).read_to_end(&mut text);
-    read.map_err(|fault| ServeFault::at_input(&fault))?;
-    let setup = read_config(rt.alloc(), text.as_slice())?;
+    let setup = read_setup(rt.alloc(), file)?;
     Ok(Plan::check(rt.alloc(), setup)?)
 }
 

@@ -1,6 +1,8 @@
 //! Why a service did not come to a settled end.
 
 ghost use Rattle.std.specs.Prelude.{◌≡◌};
+ghost use Rattle.std.specs.IoError.{error_kind};
+ghost use Rattle.lambda_local.specs.Faults.{of_input};
 ghost use Rattle.lambda_local.specs.Status.{status_of};
 
 use account_lock::{SettleFault, Unsettled};
@@ -59,7 +61,9 @@ impl ServeFault {
     }
 
     /// Returns the fault for an error while the configuration is read.
-    pub fn at_input(fault: &io::Error) -> ServeFault {
+    pub fn at_input(fault: &io::Error) -> ServeFault
+        ensures { result ≡ of_input (error_kind fault.now) }
+    {
         match fault.kind() {
             io::ErrorKind::OutOfMemory => ServeFault::OutOfMemory,
             _ => ServeFault::Read,

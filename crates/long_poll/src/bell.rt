@@ -34,8 +34,8 @@ impl OneShotBell {
         Ok((OneShotBell { sender }, Heard { receiver }))
     }
 
-    /// Returns whether what hears it is gone, or has heard it.
-    pub(crate) fn is_unheard(&self) -> bool {
+    /// Returns whether nobody will hear it: what would is gone.
+    pub(crate) fn has_no_hearer(&self) -> bool {
         self.sender.is_canceled()
     }
 }

@@ -49,7 +49,8 @@ enum Stage<B, L: Ledgers> {
 }
 
 /// One request. Its body is collected and it is decided; its call is held back while premature, submitted,
-/// and its answer awaited and rendered. A request for counts, a reservation, the environments, the history or its trace needs no call.
+/// and its answer awaited and rendered. A request for counts, a reservation, the environments, the history or
+/// its trace needs no call.
 #[derive(Drop)]
 pub struct Exchange<R, S: Service<K, L>, D: Decide, N, B, K: Keep, L: Ledgers> {
     connection: Arc<Connection<R, S, D, N, K, L>>,

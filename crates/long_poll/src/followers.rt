@@ -36,7 +36,7 @@ impl Followers {
     pub(crate) fn listen(&self, rt: &impl Wait) -> Result<Heard, AllocError> {
         let (bell, heard) = OneShotBell::pair(self.alloc)?;
         let mut bells = self.bells.lock(rt);
-        bells.retain(|bell| !bell.is_unheard());
+        bells.retain(|bell| !bell.has_no_hearer());
         bells.push(bell).map_err(AllocError::from)?;
         self.is_awaited.store(true, SeqCst);
         Ok(heard)

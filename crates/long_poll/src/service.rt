@@ -113,7 +113,8 @@ pub trait Service<K: Keep, L: Ledgers>: Drop {
     ) -> Result<(Ticket, Token<L>), NotTaken<OneShotBell>>
         requires moment { now < 2 ^ 53 }
         requires within { IsWithin (serves self.now) call }
-        ensures { UnlessPremature (submits self.now) token.old tally.old.held now call bell result token.new tally.new.held };
+        ensures { UnlessPremature (submits self.now) token.old tally.old.held now call bell result token.new
+            tally.new.held };
 
     /// Makes a token that has seen the history as it is.
     fn token<R: Wait>(&self, rt: &R) -> Token<L>

@@ -103,4 +103,4 @@ few_sites config h l short = All-map IsFew (site config h) (environments config)
     few : (e : ℕ) → IsFew (site config h e)
     few e =
         let small = little config h e l in
-        (omega (arith, small.events, short), omega (arith, small.registrations, short), omega (arith, count_by-le-length (λ (x : Entry). is_invoke_of (function_of config e) x.call) h, short))
+        ((omega (arith, small.events, short), omega (arith, small.registrations, short)), omega (arith, count_by-le-length (λ (x : Entry). is_invoke_of (function_of config e) x.call) h, short))

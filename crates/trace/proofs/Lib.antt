@@ -7,6 +7,8 @@ mod Earlier
 -- The environments before any call and after an entry.
 mod Opening
 mod Following
+-- Those that an entry reaches.
+mod Reaching
 -- The line of an entry.
 mod Lines
 -- Reading the calls back.

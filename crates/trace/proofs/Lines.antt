@@ -10,7 +10,8 @@ use Rattle.json.specs.Token.{Token}
 use Rattle.trace.specs.Object.{before, object_tokens, told, Turn, turn_at, turns_at}
 use Rattle.trace.specs.Sites.{site, sites, turn_of}
 use Rattle.trace.specs.Telling.{IsBegun, Tells, tokens_of}
-use Rattle.trace.specs.declared.draft.Piece.{Piece}
+use Rattle.trace.specs.declared.part.Part.{Part}
+use Rattle.trace.specs.declared.part.Run.{Run}
 use Rattle.trace.specs.declared.site.Site.{Site}
 use Rattle.trace.specs.declared.teller.Teller.{Teller}
 use Rattle.trace.proofs.Earlier.{length_before, one_later}
@@ -34,6 +35,6 @@ told_here bodies config salt entries ticket x ss d there is at =
     ∙ ap₂ (λ (n : ℕ) (turns : List Turn). told bodies config salt h n y turns) (sym long) (turns_here config (before h ticket) y)
 
 -- the object of the draft
-pub drafted : (old new : Teller) (ts told object : List Token) → IsBegun old → Tells ts old new → ts ≡ object → (new.is_cut ≡ false) × (told ≡ tokens_of new.pieces.items) → told ≡ object
+pub drafted : (old new : Teller) (ts told object : List Token) → IsBegun old → Tells ts old new → ts ≡ object → (new.is_cut ≡ false) × (told ≡ tokens_of new.runs.items new.parts.items) → told ≡ object
 drafted old new ts told object begun tells is ended =
-    ended.1 ∙ (tells.tokens ended.0).1 ∙ ap (λ (ps : List Piece). tokens_of ps ++ ts) begun.tokens ∙ is
+    ended.1 ∙ (tells.tokens ended.0).1 ∙ ap₂ (λ (rs : List Run) (ps : List Part). tokens_of rs ps ++ ts) begun.runs begun.parts ∙ is

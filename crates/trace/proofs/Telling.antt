@@ -1,6 +1,7 @@
 -- What is told after what was told.
 use Rattle.std.proofs.Common.{◌≡◌, ℕ, zero, suc, ◌<◌, Bool, true, false, if◌then◌else◌, List, [], ◌∷◌, ◌++◌, length, take, map, get_or, codes, refl, sym, ap, ◌∙◌, subst, arith, append_assoc, Result}
-use Rattle.std.proofs.lemmas.List.{append-nil}
+use Rattle.std.proofs.lemmas.Grind.{flat_map-append}
+use Rattle.std.proofs.lemmas.List.{append-nil, map-append}
 use Rattle.std.proofs.lemmas.Str.{is_utf8-from_IsUtf8, IsUtf8-from_is_utf8}
 use Rattle.std.specs.List.{flat_map}
 use Rattle.std.specs.Str.{IsUtf8, is_utf8}
@@ -9,20 +10,21 @@ use Rattle.base64.specs.GeneralPurpose.{encode_of}
 use Rattle.json.specs.Token.{Token, end_array}
 use Rattle.json.specs.Written.{Written}
 use Rattle.trace.specs.Members.{body_member, text_member}
-use Rattle.trace.specs.Telling.{Adds, Tells, piece_tokens, tokens_of}
-use Rattle.trace.specs.declared.draft.Piece.{Piece}
+use Rattle.trace.specs.Telling.{Adds, Tells, inset_tokens, part_token, run_tokens, tokens_of}
+use Rattle.trace.specs.declared.part.Part.{Part}
+use Rattle.trace.specs.declared.part.Run.{Run}
 use Rattle.trace.specs.declared.teller.Teller.{Teller}
 
 -- one text after the other
 pub tells_after : (front rest : List Token) (old mid new : Teller) → Tells front old mid → Tells rest mid new → Tells (front ++ rest) old new
 tells_after front rest old mid new a b = record {
   tokens = λ whole. (let later = b.tokens whole in let earlier = a.tokens later.0 in
-      (earlier.0, later.1 ∙ ap (λ (ts : List Token). ts ++ rest) earlier.1 ∙ append_assoc (tokens_of old.pieces.items) front rest));
+      (earlier.0, later.1 ∙ ap (λ (ts : List Token). ts ++ rest) earlier.1 ∙ append_assoc (tokens_of old.runs.items old.parts.items) front rest));
 }
 
 -- no text
 pub tells_nothing : (old : Teller) → Tells [] old old
-tells_nothing old = record { tokens = λ whole. (whole, sym (append-nil (tokens_of old.pieces.items))) }
+tells_nothing old = record { tokens = λ whole. (whole, sym (append-nil (tokens_of old.runs.items old.parts.items))) }
 
 -- the same text
 pub tells_same : (a b : List Token) (old new : Teller) → a ≡ b → Tells a old new → Tells b old new
@@ -50,10 +52,19 @@ tells_item_more f xs i d old mid new lt a b = tells_same _ _ old new (one_flat f
 pub adds_same : {E : Type 0} (r : Result (Unit {0}) E) (a b : List Token) (old new : Written) → a ≡ b → Adds r a old new → Adds r b old new
 adds_same r a b old new is added = subst (λ (ts : List Token). Adds r ts old new) is added
 
--- one piece more
-pub pieces_more : (ps : List Piece) (p : Piece) → tokens_of (ps ++ p ∷ []) ≡ tokens_of ps ++ piece_tokens p
-pieces_more [] p = append-nil (piece_tokens p)
-pieces_more (x ∷ ps) p = ap (λ (ts : List Token). piece_tokens x ++ ts) (pieces_more ps p) ∙ sym (append_assoc (piece_tokens x) (tokens_of ps) (piece_tokens p))
+-- more parts
+pub parts_more : (runs : List Run) (ps qs : List Part) → tokens_of runs (ps ++ qs) ≡ tokens_of runs ps ++ map part_token qs
+parts_more runs ps qs =
+    ap (λ (ts : List Token). flat_map run_tokens runs ++ ts) (map-append part_token ps qs)
+    ∙ sym (append_assoc (flat_map run_tokens runs) (map part_token ps) (map part_token qs))
+
+-- one run more, of the parts that were behind the runs
+pub run_more : (runs : List Run) (run : Run) → tokens_of (runs ++ run ∷ []) [] ≡ tokens_of runs run.parts.items ++ inset_tokens run.inset
+run_more runs run =
+    append-nil (flat_map run_tokens (runs ++ run ∷ []))
+    ∙ flat_map-append run_tokens runs (run ∷ [])
+    ∙ ap (λ (ts : List Token). flat_map run_tokens runs ++ ts) (append-nil (run_tokens run))
+    ∙ sym (append_assoc (flat_map run_tokens runs) (map part_token run.parts.items) (inset_tokens run.inset))
 
 -- ---- the member with a body
 

@@ -1,5 +1,5 @@
 -- The object of an environment in its present state, and the text of all environments of an account.
-use Rattle.std.specs.Prelude.{ℕ, Bool, true, false, List, [], ◌∷◌, ◌++◌, length, map, reverse, codes}
+use Rattle.std.specs.Prelude.{ℕ, Bool, true, false, List, [], ◌∷◌, ◌++◌, length, reverse, codes}
 use Rattle.std.specs.List.{flat_map}
 use Rattle.arn_ids.specs.Environments.{environments, function_at, function_of, numbered}
 use Rattle.arn_ids.specs.Faults.{environment_ports}

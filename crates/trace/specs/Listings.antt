@@ -1,5 +1,5 @@
 -- How the text of the environments is told, one after the other.
-use Rattle.std.specs.Prelude.{◌≡◌, false, ℕ, Bool, List, [], ◌∷◌, ◌++◌, length, codes}
+use Rattle.std.specs.Prelude.{◌≡◌, false, ℕ, Bool, List, ◌∷◌, ◌++◌, length, codes}
 use Rattle.std.specs.List.{flat_map}
 use Rattle.arn_ids.specs.Environments.{count_from}
 use Rattle.arn_ids.specs.declared.config.Config.{Config}

@@ -1,7 +1,7 @@
 -- The environments of a history, as a follower keeps them.
-use Rattle.std.specs.Prelude.{ℕ, ◌+◌, ◌<◌, ◌^◌, if◌then◌else◌, List, [], ◌∷◌, map}
+use Rattle.std.specs.Prelude.{◌≡◌, ℕ, ◌+◌, ◌<◌, ◌^◌, if◌then◌else◌, List, [], ◌∷◌, length, map}
 use Rattle.arn_ids.specs.declared.config.Config.{Config}
-use Rattle.arn_ids.specs.Environments.{environments, function_of}
+use Rattle.arn_ids.specs.Environments.{count_from, environments, function_of}
 use Rattle.call_types.specs.declared.call.Call.{Call}
 use Rattle.call_types.specs.declared.call.Entry.{Entry}
 use Rattle.call_model.specs.History.{requests, is_invoke_of}
@@ -57,9 +57,37 @@ visited_by ticket moment reach call s = record {
 abbrev pub visited : Arrival → Site → Site
 visited arrival s = visited_by arrival.ticket arrival.moment arrival.reach arrival.call.now s
 
--- The environment's counts are so small that there is room for more.
+-- An environment as it is after the newest entry, which reached these: it moved no other.
+abbrev pub seen : Reach → Site → Site
+seen reach s = record s { before = if reaches reach s.number then s.before else s.environment.stand.phase }
+
+-- An environment once a call is counted.
+abbrev pub counted_in : Call → Site → Site
+counted_in call s = record s { requests = counted call s }
+
+-- An environment after a call that reaches it, and that is counted.
+abbrev pub moved_by : Arrival → Site → Site
+moved_by arrival s = record s {
+  before = s.environment.stand.phase;
+  environment =
+      taken s.environment (record { ticket = arrival.ticket; now = arrival.moment; count = s.requests }) arrival.call.now;
+}
+
+-- An environment after a call that is counted, whether the call reaches it or not.
+abbrev pub moved_if : Arrival → Site → Site
+moved_if arrival s = if reaches arrival.reach s.number then moved_by arrival s else s
+
+-- The environments are in the order of their numbers, from 1 on, and all there.
+abbrev pub IsNumbered : List Site → Type 0
+IsNumbered ss = map (λ s. s.number) ss ≡ count_from 1 (length ss)
+
+-- The environment's counts of events and registrations are so small that there is room for more.
+abbrev pub HasRoom : Site → Type 0
+HasRoom s = (s.environment.stand.events < 2 ^ 52) × (s.environment.stand.registrations < 2 ^ 52)
+
+-- There is room for more requests too.
 abbrev pub IsFew : Site → Type 0
-IsFew s = (s.environment.stand.events < 2 ^ 52) × (s.environment.stand.registrations < 2 ^ 52) × (s.requests < 2 ^ 52)
+IsFew s = HasRoom s × (s.requests < 2 ^ 52)
 
 -- What the newest entry made of an environment.
 abbrev pub turn_of : Site → Turn

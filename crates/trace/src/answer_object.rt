@@ -11,8 +11,9 @@ ghost use Rattle.trace.specs.Members.{object, number_member, text_member};
 ghost use Rattle.trace.specs.Telling.{Tells};
 
 use crate::bodies::body_of;
+use crate::part::Part;
 use crate::past_parts::{environment_part, request_part};
-use crate::teller::{Part, Teller};
+use crate::teller::Teller;
 use arn_ids::IdKind;
 use call_model::{Answer, Past, Reason, Rejection, Ticket};
 

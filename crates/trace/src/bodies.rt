@@ -6,7 +6,8 @@ ghost use Rattle.call_model.specs.History.{call_of};
 ghost use Rattle.trace.specs.Members.{body_member};
 ghost use Rattle.trace.specs.Telling.{Tells, bytes_of, part_token};
 
-use crate::teller::{Part, Teller};
+use crate::part::Part;
+use crate::teller::Teller;
 use bytes::Bytes;
 use call_model::{Call, Past, Ticket};
 
@@ -19,8 +20,9 @@ impl Teller {
         body: Option<&Bytes>,
         rest: &[Part],
     )
-        ensures { Tells (map part_token front.now ++ (body_member bodies (bytes_of (option_map (λ bytes. bytes.now) body.entry))
-            ++ map part_token rest.now)) self.old self.new }
+        ensures { Tells (map part_token front.now
+            ++ (body_member bodies (bytes_of (option_map (λ bytes. bytes.now) body.entry)) ++ map part_token rest.now))
+            self.old self.new }
     {
         self.say_all(front);
         self.say_body(bodies, body);

@@ -7,7 +7,8 @@ ghost use Rattle.trace.specs.CallObject as spec;
 ghost use Rattle.trace.specs.Members.{object, body_member, flag_member, number_member, text_member, number_if};
 ghost use Rattle.trace.specs.Telling.{Tells};
 
-use crate::teller::{Part, Teller};
+use crate::part::Part;
+use crate::teller::{Teller, widened};
 use arn_ids::{Checked, EnvNo, FnNo, Text};
 use bytes::Bytes;
 use call_model::Call;
@@ -27,11 +28,20 @@ fn name_of(config: &Checked, function: FnNo) -> &str
     config.function(function).name.as_str()
 }
 
-fn say_invoke<'a>(
+/// Tells the header X-Amzn-Trace-Id that came with an Invoke, if one came.
+fn say_trace_if(teller: &mut Teller, trace: &Option<Text>)
+    ensures { Tells (spec.trace_if trace.now) teller.old teller.new }
+{
+    if let Some(trace) = trace {
+        teller.say_text("trace", trace.as_str());
+    }
+}
+
+fn say_invoke(
     teller: &mut Teller,
-    name: &'a str,
+    name: &str,
     qualified: bool,
-    trace: &'a Option<Text>,
+    trace: &Option<Text>,
     bodies: bool,
     body: &Bytes,
 )
@@ -39,38 +49,17 @@ fn say_invoke<'a>(
         ∷ spec.kind (codes "invoke") ∷ flag_member (codes "qualified") qualified ∷ spec.trace_if trace.now ∷ []))
         teller.old teller.new }
 {
-    match trace {
-        None => teller.say_around(
-            &[Part::Open],
-            bodies,
-            Some(body),
-            &[
-                Part::Key("function"),
-                Part::Text(name),
-                Part::Key("kind"),
-                Part::Word("invoke"),
-                Part::Key("qualified"),
-                Part::Flag(qualified),
-                Part::Close,
-            ],
-        ),
-        Some(trace) => teller.say_around(
-            &[Part::Open],
-            bodies,
-            Some(body),
-            &[
-                Part::Key("function"),
-                Part::Text(name),
-                Part::Key("kind"),
-                Part::Word("invoke"),
-                Part::Key("qualified"),
-                Part::Flag(qualified),
-                Part::Key("trace"),
-                Part::Text(trace.as_str()),
-                Part::Close,
-            ],
-        ),
-    }
+    teller.say_all(&[Part::Open]);
+    teller.say_body(bodies, Some(body));
+    teller.say_text("function", name);
+    teller.say_all(&[
+        Part::Key("kind"),
+        Part::Word("invoke"),
+        Part::Key("qualified"),
+        Part::Flag(qualified),
+    ]);
+    say_trace_if(teller, trace);
+    teller.say_all(&[Part::Close]);
 }
 
 fn say_report(
@@ -179,12 +168,9 @@ fn say_register(
         Part::Flag(invoke),
         Part::Key("kind"),
         Part::Word("register"),
-        Part::Key("name"),
-        Part::Text(name.as_str()),
-        Part::Key("shutdown"),
-        Part::Flag(shutdown),
-        Part::Close,
     ]);
+    teller.say_text("name", name.as_str());
+    teller.say_all(&[Part::Key("shutdown"), Part::Flag(shutdown), Part::Close]);
 }
 
 fn say_withdraw(teller: &mut Teller, ticket: u64)
@@ -205,26 +191,10 @@ fn say_reserve(teller: &mut Teller, name: &str, count: Option<u32>)
     ensures { Tells (object (number_if (codes "count") count ∷ text_member (codes "function") name.now
         ∷ spec.kind (codes "reserve") ∷ [])) teller.old teller.new }
 {
-    match count {
-        None => teller.say_all(&[
-            Part::Open,
-            Part::Key("function"),
-            Part::Text(name),
-            Part::Key("kind"),
-            Part::Word("reserve"),
-            Part::Close,
-        ]),
-        Some(count) => teller.say_all(&[
-            Part::Open,
-            Part::Key("count"),
-            Part::Number(u64::from(count)),
-            Part::Key("function"),
-            Part::Text(name),
-            Part::Key("kind"),
-            Part::Word("reserve"),
-            Part::Close,
-        ]),
-    }
+    teller.say_all(&[Part::Open]);
+    teller.say_number_if("count", widened(count));
+    teller.say_text("function", name);
+    teller.say_all(&[Part::Key("kind"), Part::Word("reserve"), Part::Close]);
 }
 
 /// Tells the object of a call.

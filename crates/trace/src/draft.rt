@@ -1,6 +1,7 @@
 //! The object of an entry before it is written.
 
-ghost use Rattle.std.specs.Prelude.{◌≡◌, ◌∷◌, ◌++◌, [], true, codes, OnOk, OnErr, IfOk};
+ghost use Rattle.std.specs.Prelude.{◌≡◌, ◌∷◌, ◌++◌, [], true, codes, map, OnOk, OnErr, IfOk};
+ghost use Rattle.std.specs.List.{flat_map};
 ghost use Rattle.base64.specs.Engines.{standard};
 ghost use Rattle.base64.specs.GeneralPurpose.{encode_of};
 ghost use Rattle.json.specs.Lex.{tokens};
@@ -8,43 +9,18 @@ ghost use Rattle.json.specs.Print.{print};
 ghost use Rattle.json.specs.Token.{string};
 ghost use Rattle.uuid.specs.Text.{hyphenated_text, lower};
 ghost use Rattle.trace.specs.Members.{body_member, text_member};
-ghost use Rattle.trace.specs.Telling.{Adds, piece_tokens, tokens_of};
+ghost use Rattle.trace.specs.Telling.{Adds, inset_tokens, part_token, run_tokens, tokens_of};
 
-use arn_ids::Text;
+use crate::part::{Inset, Part, Run};
 use base64::engine::general_purpose::STANDARD;
-use bytes::Bytes;
 use json::Writer;
 use std::alloc::{AllocError, Global};
 use std::marker::Model;
 use std::{mem, str};
 use uuid::Uuid;
 
-/// A token, or a member that is a body.
-#[derive(Drop)]
-pub(crate) enum Piece {
-    /// An object begins.
-    Open,
-    /// An object ends.
-    Close,
-    /// A list begins.
-    OpenList,
-    /// A list ends.
-    CloseList,
-    /// The name of a member.
-    Key(&'static str),
-    /// A word.
-    Word(&'static str),
-    /// A text of its own.
-    Copied(Text),
-    /// A whole number.
-    Number(u64),
-    /// True or false.
-    Flag(bool),
-    /// An identifier, hyphenated and in lower case (RFC 9562, section 4).
-    Identifier(Uuid),
-    /// A payload, an output or a report, with the name of its member.
-    Body(Bytes),
-}
+/// Room for the line of most entries without their bodies.
+const LINE: usize = 512;
 
 /// The object of an entry before it is written: its tokens, and the bodies, which it shares with the
 /// history. So it takes little time and memory, whatever the length of the bodies: a caller makes it under
@@ -52,7 +28,9 @@ pub(crate) enum Piece {
 #[derive(Drop)]
 pub struct Draft {
     alloc: Global,
-    pieces: Vec<Piece>,
+    runs: Vec<Run>,
+    // The parts behind the last run.
+    parts: Vec<Part>,
 }
 
 impl Model for Draft {
@@ -64,7 +42,7 @@ impl Model for Draft {
 
     ghost coded = { tokens_code };
 
-    ghost view = { λ d. tokens_of d.pieces.items };
+    ghost view = { λ d. tokens_of d.runs.items d.parts.items };
 }
 
 fn write_identifier(writer: &mut Writer, id: Uuid) -> Result<(), AllocError>
@@ -101,40 +79,72 @@ fn write_body(alloc: Global, writer: &mut Writer, bytes: &[u8]) -> Result<(), Al
     }
 }
 
-fn write_piece(alloc: Global, writer: &mut Writer, piece: &Piece) -> Result<(), AllocError>
-    ensures { Adds result (piece_tokens piece.now) writer.old writer.new }
+fn write_part(writer: &mut Writer, part: &Part) -> Result<(), AllocError>
+    ensures { Adds result (part_token part.now ∷ []) writer.old writer.new }
 {
-    match piece {
-        Piece::Open => writer.begin_object(),
-        Piece::Close => writer.end_object(),
-        Piece::OpenList => writer.begin_array(),
-        Piece::CloseList => writer.end_array(),
-        Piece::Key(name) => writer.key(name),
-        Piece::Word(word) => writer.string(word),
-        Piece::Copied(text) => writer.string(text.as_str()),
-        Piece::Number(number) => writer.u64(*number),
-        Piece::Flag(set) => writer.boolean(*set),
-        Piece::Identifier(id) => write_identifier(writer, *id),
-        Piece::Body(body) => write_body(alloc, writer, body.as_slice()),
+    match part {
+        Part::Open => writer.begin_object(),
+        Part::Close => writer.end_object(),
+        Part::OpenList => writer.begin_array(),
+        Part::CloseList => writer.end_array(),
+        Part::Key(name) => writer.key(name),
+        Part::Word(word) => writer.string(word),
+        Part::Number(number) => writer.u64(*number),
+        Part::Flag(set) => writer.boolean(*set),
+        Part::Identifier(id) => write_identifier(writer, *id),
     }
 }
 
-/// Writes pieces, one after the other.
-fn write_pieces(alloc: Global, writer: &mut Writer, pieces: &[Piece]) -> Result<(), AllocError>
-    ensures { Adds result (tokens_of pieces.now) writer.old writer.new }
+/// Writes parts, one after the other.
+fn write_parts(writer: &mut Writer, parts: &[Part]) -> Result<(), AllocError>
+    ensures { Adds result (map part_token parts.now) writer.old writer.new }
 {
-    for piece in pieces {
-        write_piece(alloc, writer, piece)?;
+    for part in parts {
+        write_part(writer, part)?;
+    }
+    Ok(())
+}
+
+fn write_inset(alloc: Global, writer: &mut Writer, inset: &Inset) -> Result<(), AllocError>
+    ensures { Adds result (inset_tokens inset.now) writer.old writer.new }
+{
+    match inset {
+        Inset::Copied(text) => writer.string(text.as_str()),
+        Inset::Body(body) => write_body(alloc, writer, body.as_slice()),
+    }
+}
+
+fn write_run(alloc: Global, writer: &mut Writer, run: &Run) -> Result<(), AllocError>
+    ensures { Adds result (run_tokens run.now) writer.old writer.new }
+{
+    write_parts(writer, &run.parts)?;
+    write_inset(alloc, writer, &run.inset)
+}
+
+/// Writes runs, one after the other.
+fn write_runs(alloc: Global, writer: &mut Writer, runs: &[Run]) -> Result<(), AllocError>
+    ensures { Adds result (flat_map run_tokens runs.now) writer.old writer.new }
+{
+    for run in runs {
+        write_run(alloc, writer, run)?;
     }
     Ok(())
 }
 
 impl Draft {
-    /// Returns the object that has these pieces.
-    pub(crate) fn new(alloc: Global, pieces: Vec<Piece>) -> Draft
-        ensures { result ≡ tokens_of pieces.items }
+    /// Returns the object that has these runs, and these parts behind them.
+    pub(crate) fn new(alloc: Global, runs: Vec<Run>, parts: Vec<Part>) -> Draft
+        ensures { result ≡ tokens_of runs.items parts.items }
     {
-        Draft { alloc, pieces }
+        Draft { alloc, runs, parts }
+    }
+
+    /// Writes the object's tokens.
+    fn write(&self, writer: &mut Writer) -> Result<(), AllocError>
+        ensures { Adds result self.now writer.old writer.new }
+    {
+        write_runs(self.alloc, writer, &self.runs)?;
+        write_parts(writer, &self.parts)
     }
 
     /// Adds the object's line to a text: the object, and a line feed. A reader of JSON reads the object's
@@ -150,7 +160,7 @@ impl Draft {
         let start = out.len();
         let text = mem::replace(out, Vec::new(self.alloc));
         let mut writer = Writer::new(text);
-        let written = write_pieces(self.alloc, &mut writer, &self.pieces);
+        let written = self.write(&mut writer);
         let mut text = writer.into_inner();
         let is_cut = written.is_err() || text.push(b'\n').is_err();
         if is_cut {
@@ -171,7 +181,7 @@ impl Draft {
         ensures ok { IfOk result (λ line. line.items ≡ print self ++ 10 ∷ []) }
         ensures reads_back { OnOk result (tokens (print self) ≡ self) }
     {
-        let mut line = Vec::new(self.alloc);
+        let mut line = Vec::with_capacity(self.alloc, LINE)?;
         self.push_to(&mut line)?;
         Ok(line)
     }

@@ -5,12 +5,12 @@ ghost use Rattle.std.specs.List.{flat_map};
 ghost use Rattle.arn_ids.specs.Environments.{function_at, function_of, owners};
 ghost use Rattle.trace.specs.EnvironmentObject as spec;
 ghost use Rattle.trace.specs.EnvironmentObject.{environment_object, extension_object, text_if};
-ghost use Rattle.trace.specs.Members.{text_member};
 ghost use Rattle.trace.specs.Telling.{Tells};
 
+use crate::part::Part;
 use crate::past_parts::identifier;
-use crate::phase_object::{bound_of, deadline_of, phase_word, say_reason_if, served_by};
-use crate::teller::{Part, Teller};
+use crate::phase_object::{bound_of, phase_word, say_reason_if, served_by};
+use crate::teller::Teller;
 use arn_ids::{Checked, EnvNo, IdKind};
 use env_phase::Environment;
 use extension_set::Member;
@@ -22,13 +22,6 @@ fn say_text_if(teller: &mut Teller, asked: bool, text: &'static str)
     if asked {
         teller.say_all(&[Part::Word(text)]);
     }
-}
-
-/// Tells a member that is a text.
-fn say_text<'a>(teller: &mut Teller, name: &'static str, text: &'a str)
-    ensures { Tells (text_member name.now text.now) teller.old teller.new }
-{
-    teller.say_all(&[Part::Key(name), Part::Text(text)]);
 }
 
 /// Tells the events for which an extension registered.
@@ -51,7 +44,7 @@ fn say_extension(teller: &mut Teller, salt: u64, env: EnvNo, extension: &Member)
         Part::Key("extension"),
         identifier(salt, IdKind::Extension, env, extension.count()),
     ]);
-    say_text(teller, "name", extension.name());
+    teller.say_text("name", extension.name());
     teller.say_number_if("poll", extension.parked());
     teller.say_all(&[Part::Close]);
 }
@@ -106,7 +99,7 @@ pub(crate) fn say_environment(
     let phase = environment.phase();
     teller.say_all(&[Part::Open]);
     teller.say_number_if("bound", bound_of(phase));
-    teller.say_number_if("deadline", deadline_of(phase));
+    teller.say_number_if("deadline", environment.deadline());
     teller.say_all(&[
         Part::Key("environment"),
         Part::Number(u64::from(env)),
@@ -115,7 +108,7 @@ pub(crate) fn say_environment(
     ]);
     say_extensions(teller, salt, env, environment.extensions().members());
     teller.say_all(&[Part::CloseList]);
-    say_text(teller, "function", name_at(config, env));
+    teller.say_text("function", name_at(config, env));
     teller.say_number_if("invoke", served_by(phase));
     teller.say_all(&[Part::Key("phase"), Part::Word(phase_word(phase))]);
     teller.say_number_if("poll", environment.runtime());

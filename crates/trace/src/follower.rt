@@ -1,17 +1,20 @@
 //! A follower of a history: the environments after the entries that it has followed.
 
-ghost use Rattle.std.specs.Prelude.{◌≡◌, ◌+◌, ◌-◌, ◌<◌, ◌≤◌, ◌^◌, [], length, map, reverse, slice_set, slice_index_or, All, IfOk, None};
+ghost use Rattle.std.specs.Prelude.{◌≡◌, ◌+◌, ◌-◌, ◌<◌, ◌≤◌, ◌^◌, [], List, length, map, reverse, All, IfOk, None};
+ghost use Rattle.std.specs.List.{flat_map};
 ghost use Rattle.arn_ids.specs.Environments.{owners};
 ghost use Rattle.arn_ids.specs.Faults.{first_fault};
 ghost use Rattle.call_types.specs.declared.call.Entry.{Entry};
 ghost use Rattle.call_model.specs.Next.{IsLegal};
 ghost use Rattle.env_phase.specs.Taking.{registered_name, IsShort};
+ghost use Rattle.json.specs.Token.{Token};
 ghost use Rattle.trace.specs.Object.{before};
 ghost use Rattle.trace.specs.Sites as spec;
-ghost use Rattle.trace.specs.Sites.{sites as sites_in, visited, IsFew, IsFit};
+ghost use Rattle.trace.specs.Sites.{sites as sites_in, visited, IsFew, IsFit, IsNumbered};
 
 use crate::arrival::Arrival;
 use crate::reach::Reach;
+use crate::reached::{count_all, take_within, within};
 use crate::site::Site;
 use arn_ids::{Checked, EnvNo};
 use call_model::{Entry, Phase, Ticket};
@@ -22,21 +25,25 @@ use std::alloc::{AllocError, Global};
 use std::marker::Model;
 
 /// The environments after the first entries of a history, with their phases before the newest of these.
-/// Only `open` allocates.
+/// Only `open` allocates, and to follow an entry looks at no environment but those that it reaches, and
+/// for an Invoke at the counts of all.
 #[derive(Drop)]
 pub struct Follower {
     pub(crate) alloc: Global,
     sites: Vec<Site>,
+    // The environments that the newest entry reached.
+    reach: Reach,
     moves: Moves,
 }
 
 impl Model for Follower {
-    ghost use Rattle.std.specs.Prelude.{List};
+    ghost use Rattle.std.specs.Prelude.{List, map};
     ghost use Rattle.trace.specs.declared.site.Site.{Site};
+    ghost use Rattle.trace.specs.Sites.{seen};
 
     ghost Value = { List Site };
 
-    ghost view = { λ f. f.sites.items };
+    ghost view = { λ f. map (seen f.reach) f.sites.items };
 }
 
 /// Returns an environment before any call.
@@ -84,6 +91,7 @@ impl Follower {
         Ok(Follower {
             alloc,
             sites: open_sites(alloc, config)?,
+            reach: Reach::Nowhere,
             moves: Moves::new(),
         })
     }
@@ -105,37 +113,30 @@ impl Follower {
             reach: Reach::of(entries, ticket, entry.place, &entry.call),
             call: &entry.call,
         };
-        self.visit_all(&arrival);
+        self.take(&arrival);
     }
 
-    /// Returns the environments, in the order of their numbers.
-    pub(crate) fn sites(&self) -> &[Site]
-        ensures { result.now ≡ self.now }
+    /// Returns the environments that the newest entry reached, in the order of their numbers: it moved no
+    /// other.
+    pub(crate) fn reached(&self) -> &[Site]
+        requires { IsNumbered self.now }
+        ensures { (f : Site → List Token) → ((s : Site) → s.before ≡ s.environment.stand.phase → f s ≡ [])
+            → flat_map f result.now ≡ flat_map f self.now }
     {
-        &self.sites
+        within(&self.sites, self.reach)
     }
 
-    /// Lets each environment take a call.
-    fn visit_all(&mut self, arrival: &Arrival<'_>)
+    /// Counts a call, and lets the environments that it reaches take it.
+    fn take(&mut self, arrival: &Arrival<'_>)
+        requires numbered { IsNumbered self.old }
         requires moment { arrival.now.moment < 2 ^ 53 }
         requires few { All IsFew self.old }
         requires short { IsShort (registered_name arrival.now.call.now) }
         ensures { self.new ≡ map (visited arrival.now) self.old }
     {
-        for index in 0..self.sites.as_slice().len() {
-            self.visit_at(index, arrival);
-        }
-    }
-
-    /// Lets the environment at an index take a call.
-    fn visit_at(&mut self, index: usize, arrival: &Arrival<'_>)
-        requires there { index < length self.old }
-        requires moment { arrival.now.moment < 2 ^ 53 }
-        requires few { (d : Site) → IsFew (slice_index_or self.old index d) }
-        requires short { IsShort (registered_name arrival.now.call.now) }
-        ensures { (d : Site) → self.new
-            ≡ slice_set self.old index (visited arrival.now (slice_index_or self.old index d)) }
-    {
-        self.sites[index].visit(arrival, &mut self.moves);
+        let sites = self.sites.as_mut_slice();
+        count_all(sites, arrival.call);
+        take_within(sites, arrival, &mut self.moves);
+        self.reach = arrival.reach;
     }
 }

@@ -12,9 +12,11 @@ mod follower;
 pub mod laws;
 mod listing;
 mod object;
+mod part;
 mod past_parts;
 mod phase_object;
 mod reach;
+mod reached;
 mod site;
 mod teller;
 

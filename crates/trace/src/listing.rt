@@ -10,7 +10,8 @@ ghost use Rattle.trace.specs.Listings.{HasListed};
 
 use crate::Draft;
 use crate::environment_object::say_environment;
-use crate::teller::{Part, Teller};
+use crate::part::Part;
+use crate::teller::Teller;
 use arn_ids::{Checked, EnvNo};
 use env_phase::Environment;
 use std::alloc::{AllocError, Global};
@@ -29,7 +30,10 @@ impl Model for Listing {
 
     ghost Value = { Listed };
 
-    ghost view = { λ l. record { is_cut = l.teller.is_cut; tokens = tokens_of l.teller.pieces.items } };
+    ghost view = { λ l. record {
+      is_cut = l.teller.is_cut;
+      tokens = tokens_of l.teller.runs.items l.teller.parts.items;
+    } };
 }
 
 impl Listing {

@@ -14,10 +14,11 @@ use crate::answer_object::say_answer;
 use crate::call_object::say_call;
 use crate::draft::Draft;
 use crate::follower::Follower;
+use crate::part::Part;
 use crate::past_parts::request_part;
 use crate::phase_object::{say_all_released, say_phases};
 use crate::site::Site;
-use crate::teller::{Part, Teller};
+use crate::teller::{Teller, widened};
 use arn_ids::{Checked, EnvNo};
 use call_model::{Answer, Call, Entry, Past, Ticket};
 use std::alloc::AllocError;
@@ -49,15 +50,6 @@ fn expired(call: &Call) -> Option<u64>
     }
 }
 
-fn place_number(place: Option<EnvNo>) -> Option<u64>
-    ensures { result ≡ place }
-{
-    match place {
-        None => None,
-        Some(env) => Some(u64::from(env)),
-    }
-}
-
 fn say_request_if(teller: &mut Teller, past: &Past, ticket: Ticket, call: &Call)
     ensures { Tells (request_if past.now.salt (reverse past.now.entries.now.0) ticket call.now)
         teller.old teller.new }
@@ -67,7 +59,7 @@ fn say_request_if(teller: &mut Teller, past: &Past, ticket: Ticket, call: &Call)
     }
 }
 
-/// Tells the object of an entry, given the environments after it.
+/// Tells the object of an entry, given the environments after it that it reached.
 #[tactic(auto, unfolding(crate::specs::Object::told))]
 fn say_entry(
     teller: &mut Teller,
@@ -95,7 +87,7 @@ fn say_entry(
     ]);
     say_phases(teller, sites);
     teller.say_all(&[Part::CloseList]);
-    teller.say_number_if("place", place_number(entry.place));
+    teller.say_number_if("place", widened(entry.place));
     teller.say_all(&[Part::Key("released"), Part::OpenList]);
     say_all_released(teller, sites);
     teller.say_all(&[Part::CloseList]);
@@ -132,7 +124,7 @@ impl Follower {
             bodies,
             ticket,
             entry,
-            self.sites(),
+            self.reached(),
         );
         teller.finish()
     }

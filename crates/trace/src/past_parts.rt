@@ -6,13 +6,13 @@ ghost use Rattle.json.specs.Token.{string};
 ghost use Rattle.script.specs.AnswerText as spec;
 ghost use Rattle.trace.specs.Telling.{part_token};
 
-use crate::teller::Part;
+use crate::part::Part;
 use arn_ids::{IdKind, event_id, extension_id, request_id};
 use call_model::{Past, Ticket};
 
 /// An identifier; a dash if no identifier can have this number or count.
 #[tactic(auto, unfolding(arn_ids::specs::Identifiers::id_word))]
-pub(crate) fn identifier(salt: u64, kind: IdKind, number: u32, count: u64) -> Part<'static>
+pub(crate) fn identifier(salt: u64, kind: IdKind, number: u32, count: u64) -> Part
     ensures { part_token result ≡ string (written salt kind number count) }
 {
     if number >= 4096 {
@@ -29,7 +29,7 @@ pub(crate) fn identifier(salt: u64, kind: IdKind, number: u32, count: u64) -> Pa
 }
 
 /// Returns the request identifier of the Invoke with a ticket.
-pub(crate) fn request_part(past: &Past, ticket: Ticket) -> Part<'static>
+pub(crate) fn request_part(past: &Past, ticket: Ticket) -> Part
     ensures { part_token result ≡ string (spec.request_word past.now.salt (reverse past.now.entries.now.0) ticket) }
 {
     let function = match past.call(ticket) {
@@ -40,12 +40,7 @@ pub(crate) fn request_part(past: &Past, ticket: Ticket) -> Part<'static>
 }
 
 /// Returns the identifier of an event or an extension at the environment of the call with a ticket.
-pub(crate) fn environment_part(
-    past: &Past,
-    kind: IdKind,
-    ticket: Ticket,
-    count: u64,
-) -> Part<'static>
+pub(crate) fn environment_part(past: &Past, kind: IdKind, ticket: Ticket, count: u64) -> Part
     ensures { part_token result
         ≡ string (spec.env_word past.now.salt kind (reverse past.now.entries.now.0) ticket count) }
 {

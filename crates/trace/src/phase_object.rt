@@ -3,7 +3,6 @@
 ghost use Rattle.std.specs.Prelude.{◌≡◌};
 ghost use Rattle.std.specs.List.{flat_map};
 ghost use Rattle.call_model.specs.Laws.{ended_by};
-ghost use Rattle.call_model.specs.Next.{deadline_of};
 ghost use Rattle.call_model.specs.Stand as stands;
 ghost use Rattle.trace.specs.Object.{moved, released};
 ghost use Rattle.trace.specs.PhaseObject as spec;
@@ -11,10 +10,12 @@ ghost use Rattle.trace.specs.PhaseObject.{phase_object};
 ghost use Rattle.trace.specs.Sites.{turn_of};
 ghost use Rattle.trace.specs.Telling.{Tells};
 
+use crate::part::Part;
 use crate::site::Site;
-use crate::teller::{Part, Teller};
+use crate::teller::Teller;
 use arn_ids::EnvNo;
 use call_model::{Phase, Reason, Ticket};
+use env_phase::Environment;
 
 pub(crate) fn bound_of(phase: Phase) -> Option<Ticket>
     ensures { result ≡ stands.bound_of phase }
@@ -27,24 +28,6 @@ pub(crate) fn bound_of(phase: Phase) -> Option<Ticket>
             bound,
         } => bound,
         Phase::Idle | Phase::Busy { .. } | Phase::Off => None,
-    }
-}
-
-pub(crate) fn deadline_of(phase: Phase) -> Option<u64>
-    ensures { result ≡ deadline_of phase }
-{
-    match phase {
-        Phase::Starting { deadline, bound: _ } => deadline,
-        Phase::Busy {
-            invoke: _,
-            deadline,
-        } => Some(deadline),
-        Phase::Closing {
-            reason: _,
-            until,
-            bound: _,
-        } => Some(until),
-        Phase::Idle | Phase::Off => None,
     }
 }
 
@@ -88,12 +71,13 @@ pub(crate) fn say_reason_if(teller: &mut Teller, phase: Phase)
 
 /// Tells the object of the phase of an environment.
 #[tactic(auto, unfolding(crate::specs::PhaseObject::phase_object))]
-fn say_phase(teller: &mut Teller, env: EnvNo, phase: Phase)
-    ensures { Tells (phase_object env phase) teller.old teller.new }
+fn say_phase(teller: &mut Teller, env: EnvNo, environment: &Environment)
+    ensures { Tells (phase_object env environment.now.stand.phase) teller.old teller.new }
 {
+    let phase = environment.phase();
     teller.say_all(&[Part::Open]);
     teller.say_number_if("bound", bound_of(phase));
-    teller.say_number_if("deadline", deadline_of(phase));
+    teller.say_number_if("deadline", environment.deadline());
     teller.say_all(&[Part::Key("environment"), Part::Number(u64::from(env))]);
     teller.say_number_if("invoke", served_by(phase));
     teller.say_all(&[Part::Key("phase"), Part::Word(phase_word(phase))]);
@@ -166,9 +150,8 @@ fn same_phase(one: Phase, other: Phase) -> bool
 fn say_moved(teller: &mut Teller, site: &Site)
     ensures { Tells (moved (turn_of site.now)) teller.old teller.new }
 {
-    let after = site.environment.phase();
-    if !same_phase(site.before, after) {
-        say_phase(teller, site.number, after);
+    if !same_phase(site.before, site.environment.phase()) {
+        say_phase(teller, site.number, &site.environment);
     }
 }
 

@@ -3,7 +3,7 @@
 ghost use Rattle.std.specs.Prelude.{◌≡◌, ◌<◌, length, reverse};
 ghost use Rattle.call_model.specs.History.{call_of, poll_env};
 ghost use Rattle.trace.specs.Object.{before};
-ghost use Rattle.trace.specs.Reaches.{at_most, reach, reaches};
+ghost use Rattle.trace.specs.Reaches.{at_most, reach};
 
 use arn_ids::EnvNo;
 use call_model::{Call, Entry, Ticket};
@@ -45,17 +45,6 @@ impl Reach {
             Call::Stop => Reach::Everywhere,
             Call::Withdraw { ticket } => Reach::at_most(poll_env_at(entries, own, *ticket)),
             _ => Reach::at_most(place.or(call.environment())),
-        }
-    }
-
-    /// Whether an environment is within the reach.
-    pub(crate) fn reaches(self, env: EnvNo) -> bool
-        ensures { result ≡ reaches self env }
-    {
-        match self {
-            Reach::Nowhere => false,
-            Reach::At(at) => at == env,
-            Reach::Everywhere => true,
         }
     }
 }

@@ -3,7 +3,7 @@
 ghost use Rattle.std.specs.Prelude.{◌≡◌, ◌<◌, ◌^◌, if◌then◌else◌};
 ghost use Rattle.call_model.specs.History.{is_invoke_of};
 ghost use Rattle.env_phase.specs.Taking.{registered_name, IsShort};
-ghost use Rattle.trace.specs.Sites.{visited, IsFew};
+ghost use Rattle.trace.specs.Sites.{counted_in, moved_by, HasRoom};
 
 use crate::arrival::Arrival;
 use arn_ids::{EnvNo, FnNo};
@@ -20,7 +20,7 @@ pub(crate) struct Site {
     pub(crate) function: FnNo,
     /// How many Invokes its function has had.
     pub(crate) requests: u64,
-    /// Its phase before the newest entry.
+    /// Its phase before the newest entry that reached it.
     pub(crate) before: Phase,
     /// The environment itself.
     pub(crate) environment: Environment,
@@ -42,23 +42,28 @@ fn one_if_invokes(function: FnNo, call: &Call) -> u64
 }
 
 impl Site {
-    /// Notes the phase, and takes the call if it reaches the environment. `moves` is scratch space.
-    pub(crate) fn visit(&mut self, arrival: &Arrival<'_>, moves: &mut Moves)
-        requires moment { arrival.now.moment < 2 ^ 53 }
-        requires few { IsFew self.old }
-        requires short { IsShort (registered_name arrival.now.call.now) }
-        ensures { self.new ≡ visited arrival.now self.old }
+    /// Counts a call if it is an Invoke of the environment's function.
+    pub(crate) fn count(&mut self, call: &Call)
+        requires { self.old.requests < 2 ^ 52 }
+        ensures { self.new ≡ counted_in call.now self.old }
     {
-        self.requests += one_if_invokes(self.function, arrival.call);
+        self.requests += one_if_invokes(self.function, call);
+    }
+
+    /// Notes the phase, and takes a call that reaches the environment. `moves` is scratch space.
+    pub(crate) fn take(&mut self, arrival: &Arrival<'_>, moves: &mut Moves)
+        requires moment { arrival.now.moment < 2 ^ 53 }
+        requires roomy { HasRoom self.old }
+        requires short { IsShort (registered_name arrival.now.call.now) }
+        ensures { self.new ≡ moved_by arrival.now self.old }
+    {
         self.before = self.environment.phase();
-        if arrival.reach.reaches(self.number) {
-            let step = Step {
-                ticket: arrival.ticket,
-                now: arrival.moment,
-                count: self.requests,
-            };
-            moves.clear();
-            self.environment.take(step, arrival.call, moves);
-        }
+        let step = Step {
+            ticket: arrival.ticket,
+            now: arrival.moment,
+            count: self.requests,
+        };
+        moves.clear();
+        self.environment.take(step, arrival.call, moves);
     }
 }

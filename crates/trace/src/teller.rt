@@ -2,49 +2,37 @@
 
 ghost use Rattle.std.specs.Prelude.{◌≡◌, ◌∷◌, [], true, false, List, map, option_map, IfOk};
 ghost use Rattle.json.specs.Token.{Token, string};
-ghost use Rattle.trace.specs.Members.{body_member, number_if};
-ghost use Rattle.trace.specs.Telling.{IsBegun, Tells, bytes_of, part_token, piece_tokens, tokens_of};
+ghost use Rattle.trace.specs.Members.{body_member, number_if, text_member};
+ghost use Rattle.trace.specs.Telling.{IsBegun, Tells, bytes_of, inset_tokens, part_token, tokens_of};
 
-use crate::draft::{Draft, Piece};
+use crate::draft::Draft;
+use crate::part::{Inset, Part, Run};
 use arn_ids::Text;
 use bytes::Bytes;
 use std::alloc::{AllocError, Global};
-use uuid::Uuid;
+use std::mem;
 
-/// A token of an object.
-#[derive(Clone, Copy)]
-pub(crate) enum Part<'a> {
-    /// An object begins.
-    Open,
-    /// An object ends.
-    Close,
-    /// A list begins.
-    OpenList,
-    /// A list ends.
-    CloseList,
-    /// The name of a member.
-    Key(&'static str),
-    /// A word.
-    Word(&'static str),
-    /// A text, which is copied.
-    Text(&'a str),
-    /// A whole number.
-    Number(u64),
-    /// True or false.
-    Flag(bool),
-    /// An identifier, hyphenated and in lower case (RFC 9562, section 4).
-    Identifier(Uuid),
-}
-
-/// Room for the pieces of most entries.
-const PIECES: usize = 64;
+/// Room for the parts of most runs.
+const PARTS: usize = 32;
 
 /// What was told so far. If memory runs out, that is noted and reported at the end.
 #[derive(Drop)]
 pub(crate) struct Teller {
     alloc: Global,
-    pieces: Vec<Piece>,
+    runs: Vec<Run>,
+    // The parts behind the last run.
+    parts: Vec<Part>,
     is_cut: bool,
+}
+
+/// Returns the same number, if there is one.
+pub(crate) fn widened(number: Option<u32>) -> Option<u64>
+    ensures { result ≡ number }
+{
+    match number {
+        None => None,
+        Some(number) => Some(u64::from(number)),
+    }
 }
 
 impl Teller {
@@ -57,7 +45,8 @@ impl Teller {
     {
         Ok(Teller {
             alloc,
-            pieces: Vec::with_capacity(alloc, PIECES)?,
+            runs: Vec::new(alloc),
+            parts: Vec::with_capacity(alloc, PARTS)?,
             is_cut: false,
         })
     }
@@ -67,12 +56,12 @@ impl Teller {
     /// # Errors
     /// Only if memory ran out.
     pub(crate) fn finish(self) -> Result<Draft, AllocError>
-        ensures { IfOk result (λ draft. (self.is_cut ≡ false) × (draft ≡ tokens_of self.pieces.items)) }
+        ensures { IfOk result (λ draft. (self.is_cut ≡ false) × (draft ≡ tokens_of self.runs.items self.parts.items)) }
     {
         if self.is_cut {
             return Err(AllocError);
         }
-        Ok(Draft::new(self.alloc, self.pieces))
+        Ok(Draft::new(self.alloc, self.runs, self.parts))
     }
 
     /// Notes that memory ran out.
@@ -82,11 +71,24 @@ impl Teller {
         self.is_cut = true;
     }
 
-    /// Adds a piece.
-    fn push(&mut self, piece: Piece)
-        ensures { Tells (piece_tokens piece) self.old self.new }
+    /// Tells tokens, one after the other.
+    pub(crate) fn say_all(&mut self, parts: &[Part])
+        ensures { Tells (map part_token parts.now) self.old self.new }
     {
-        self.is_cut = self.pieces.push(piece).is_err() || self.is_cut;
+        self.is_cut = self.parts.extend_from_slice(parts).is_err() || self.is_cut;
+    }
+
+    /// Tells an inset behind the parts.
+    fn say_inset(&mut self, inset: Inset)
+        ensures { Tells (inset_tokens inset) self.old self.new }
+    {
+        match Vec::with_capacity(self.alloc, PARTS) {
+            Ok(room) => {
+                let parts = mem::replace(&mut self.parts, room);
+                self.is_cut = self.runs.push(Run { parts, inset }).is_err() || self.is_cut;
+            }
+            Err(_) => self.cut(),
+        }
     }
 
     /// Tells a text, which is copied.
@@ -94,36 +96,17 @@ impl Teller {
         ensures { Tells (string text.now ∷ []) self.old self.new }
     {
         match String::from_str(self.alloc, text) {
-            Ok(text) => self.push(Piece::Copied(Text::new(text))),
+            Ok(text) => self.say_inset(Inset::Copied(Text::new(text))),
             Err(_) => self.cut(),
         }
     }
 
-    /// Tells a token.
-    pub(crate) fn say(&mut self, part: &Part)
-        ensures { Tells (part_token part.now ∷ []) self.old self.new }
+    /// Tells a member that is a text, which is copied.
+    pub(crate) fn say_text(&mut self, name: &'static str, text: &str)
+        ensures { Tells (text_member name.now text.now) self.old self.new }
     {
-        match part {
-            Part::Open => self.push(Piece::Open),
-            Part::Close => self.push(Piece::Close),
-            Part::OpenList => self.push(Piece::OpenList),
-            Part::CloseList => self.push(Piece::CloseList),
-            Part::Key(name) => self.push(Piece::Key(name)),
-            Part::Word(word) => self.push(Piece::Word(word)),
-            Part::Text(text) => self.say_copied(text),
-            Part::Number(number) => self.push(Piece::Number(*number)),
-            Part::Flag(set) => self.push(Piece::Flag(*set)),
-            Part::Identifier(id) => self.push(Piece::Identifier(*id)),
-        }
-    }
-
-    /// Tells tokens, one after the other.
-    pub(crate) fn say_all(&mut self, parts: &[Part])
-        ensures { Tells (map part_token parts.now) self.old self.new }
-    {
-        for part in parts {
-            self.say(part);
-        }
+        self.say_all(&[Part::Key(name)]);
+        self.say_copied(text);
     }
 
     /// Tells a member that is a whole number, if there is one.
@@ -142,7 +125,7 @@ impl Teller {
     {
         if bodies {
             match body {
-                None => self.push(Piece::Body(Bytes::new())),
+                None => self.say_inset(Inset::Body(Bytes::new())),
                 Some(body) => self.say_shared(body),
             }
         }
@@ -153,7 +136,7 @@ impl Teller {
         ensures { Tells (body_member true body.now) self.old self.new }
     {
         match body.clone() {
-            Ok(body) => self.push(Piece::Body(body)),
+            Ok(body) => self.say_inset(Inset::Body(body)),
             Err(_) => self.cut(),
         }
     }

@@ -1,7 +1,8 @@
+use Rattle.trace.proofs.Telling.{tells_after}
 use Rattle.trace.proofs.call_object.say_reserve.Goals as goal
 
-pub returns-in-None : goal.returns-in-None
-returns-in-None c = rw c.in-None.is c.say_all.ensures
-
-pub returns-in-Some : goal.returns-in-Some
-returns-in-Some c = rw c.in-Some.is (rw c.from.ensures at c.say_all-in-Some.ensures)
+pub returns : goal.returns
+returns c =
+    tells_after _ _ _ _ _ c.say_all.ensures
+    (tells_after _ _ _ _ _ (rw c.widened.ensures at c.say_number_if.ensures)
+    (tells_after _ _ _ _ _ c.say_text.ensures c.say_all-2.ensures))

@@ -7,7 +7,7 @@ unfolding environment_object
 returns c =
     tells_after _ _ _ _ _ c.say_all.ensures
     (tells_after _ _ _ _ _ (rw (c.bound_of.ensures, c.phase-phase.ensures) at c.say_number_if.ensures)
-    (tells_after _ _ _ _ _ (rw (c.deadline_of.ensures, c.phase-phase.ensures) at c.say_number_if-2.ensures)
+    (tells_after _ _ _ _ _ (rw c.deadline.ensures at c.say_number_if-2.ensures)
     (tells_after _ _ _ _ _ (rw c.from.ensures at c.say_all-2.ensures)
     (tells_listed _ _ _ _ _ (rw (c.members.ensures, c.extensions.ensures) at c.say_extensions.ensures)
     (tells_after _ _ _ _ _ c.say_all-3.ensures

@@ -15,7 +15,7 @@ returns c =
     (tells_after _ _ _ _ _ c.say_all-3.ensures
     (tells_listed _ _ _ _ _ (tells_same _ _ _ _ (flat_mapped moved turn_of c.args.sites.now) c.say_phases.ensures)
     (tells_after _ _ _ _ _ c.say_all-4.ensures
-    (tells_after _ _ _ _ _ (rw c.place_number.ensures at c.say_number_if-3.ensures)
+    (tells_after _ _ _ _ _ (rw c.widened.ensures at c.say_number_if-3.ensures)
     (tells_after _ _ _ _ _ c.say_all-5.ensures
     (tells_listed _ _ _ _ _ (tells_same _ _ _ _ (flat_mapped released turn_of c.args.sites.now) c.say_all_released.ensures)
     (tells_after _ _ _ _ _ c.say_all-6.ensures

@@ -6,9 +6,9 @@ pub returns : goal.returns
 unfolding phase_object
 returns c =
     tells_after _ _ _ _ _ c.say_all.ensures
-    (tells_after _ _ _ _ _ (rw c.bound_of.ensures at c.say_number_if.ensures)
-    (tells_after _ _ _ _ _ (rw c.deadline_of.ensures at c.say_number_if-2.ensures)
+    (tells_after _ _ _ _ _ (rw (c.bound_of.ensures, c.phase-phase.ensures) at c.say_number_if.ensures)
+    (tells_after _ _ _ _ _ (rw c.deadline.ensures at c.say_number_if-2.ensures)
     (tells_after _ _ _ _ _ (rw c.from.ensures at c.say_all-2.ensures)
-    (tells_after _ _ _ _ _ (rw c.served_by.ensures at c.say_number_if-3.ensures)
-    (tells_after _ _ _ _ _ (rw c.phase_word.ensures at c.say_all-3.ensures)
-    (tells_after _ _ _ _ _ c.say_reason_if.ensures c.say_all-4.ensures))))))
+    (tells_after _ _ _ _ _ (rw (c.served_by.ensures, c.phase-phase.ensures) at c.say_number_if-3.ensures)
+    (tells_after _ _ _ _ _ (rw (c.phase_word.ensures, c.phase-phase.ensures) at c.say_all-3.ensures)
+    (tells_after _ _ _ _ _ (rw c.phase-phase.ensures at c.say_reason_if.ensures) c.say_all-4.ensures))))))
