@@ -10,6 +10,7 @@ from .process import Holds, Process
 from .stage import Stage
 
 COUNTED = ("descriptors", "threads", "zombies")  # of what `Holds` has
+WITH_MEMORY = ("descriptors", "threads")  # each of which has some of its own
 PART = 50  # requests between two looks
 LEAST_PARTS = 6  # that a judgement takes
 EACH = 0.02  # of one thing, that is left behind for a request at least
@@ -39,7 +40,8 @@ class Rule(NamedTuple):
     requests: int = 0  # at least, in which it has grown
 
 
-SUSPECT = Rule(700_000, 0.1, 0.0)  # that it is worth to go on
+SUSPECT = Rule(1_500_000, 0.2, 0.4)  # that it is worth to go on
+SUSPECT_OF_EVENTS = Rule(700_000, 0.1, 0.0)  # so, if there are no payloads
 CERTAIN = Rule(4_000_000, 0.5, 0.75)
 AFTER_LONG = Rule(4_000_000, 0.4, 0.5)
 STEADY = Rule(1_000_000, 0.6, 0.85, 0.4, 2500)  # little, but the same all the time, as no heap grows that is collected
@@ -51,6 +53,7 @@ class Course(NamedTuple):
     seconds: float  # that these may take
     most: int  # for as long as memory grows
     patience: float  # seconds more that this may take
+    suspect: Rule  # by which memory grows
 
 
 class Looks:
@@ -129,11 +132,11 @@ def repeat(process: Process, files: "Files", once: Callable[[int], None], course
     files.look(0)
     while done < course.wanted and CLOCK.now() - begun < course.seconds:
         done = go_on(done)
-    grew = done if looks.grows(SUSPECT) else 0
+    grew = done if looks.grows(course.suspect) else 0
     end, real_end = CLOCK.now() + course.patience, time.monotonic() + STRETCHED * course.patience
     while done - grew < CALM * done and done < course.most and CLOCK.now() < end and time.monotonic() < real_end:
         done = go_on(done)
-        grew = done if looks.grows(SUSPECT) else grew
+        grew = done if looks.grows(course.suspect) else grew
         if looks.grows(STEADY) or (done >= LONG * course.wanted and looks.leaks(course.wanted)):
             break
     return looks
@@ -145,17 +148,23 @@ def judge(stage: Stage, looks: Looks, names: Dict[str, str], wanted: int) -> Non
     stage.jury.judge(names["processes"], left, words)
     if left == FAIL:  # (each has memory, descriptors and threads of its own)
         return stage.jury.rest(NOTE, "not judged: it leaves processes behind")
-    rate, too_few = looks.leaks(wanted), looks.done < max(wanted, MANY)
+    found = {thing: looks.counted(thing) for thing in COUNTED}
+    for thing, (outcome, words) in found.items():
+        stage.jury.judge(names[thing], outcome, words)
+    behind = [thing for thing in WITH_MEMORY if found[thing][0] == FAIL]
+    if behind:
+        return stage.note(names["memory"], f"not judged: it leaves {behind[0]} behind")
+    return judge_memory(stage, looks, names["memory"], wanted)
+
+
+def judge_memory(stage: Stage, looks: Looks, name: str, wanted: int) -> None:
+    rate = looks.leaks(wanted)
     if rate:
-        stage.jury.judge(names["memory"], FAIL, f"it does not stop growing: {rate:,} bytes more with each invocation, "
-                                                f"{looks.memory()}")
-    elif too_few:
-        stage.note(names["memory"], f"no more than {looks.done} invocations in the time there is: {looks.memory()}")
-    else:
-        stage.check(names["memory"], True, "", looks.memory())
-    for thing in COUNTED:
-        stage.jury.judge(names[thing], *looks.counted(thing))
-    return None
+        return stage.check(name, False, f"it does not stop growing: {rate:,} bytes more with each invocation, "
+                                        f"{looks.memory()}")
+    if looks.done < max(wanted, MANY):
+        return stage.note(name, f"no more than {looks.done} invocations in the time there is: {looks.memory()}")
+    return stage.check(name, True, "", looks.memory())
 
 
 # ---- files -----------------------------------------------------------------------------------------------------------

@@ -32,7 +32,8 @@ def many_events(stage: ExtensionStage) -> None:
     if not stage.registered_for("INVOKE"):
         return stage.jury.rest(NOTE, "it does not register for INVOKE")
     process, given = stage.environment.process, stage.tools.options.invocations
-    course = leaks.Course(given, inf, given, 0) if given else leaks.Course(EVENTS, SECONDS, MOST, PATIENCE)
+    course = (leaks.Course(given, inf, given, 0, leaks.SUSPECT_OF_EVENTS) if given
+              else leaks.Course(EVENTS, SECONDS, MOST, PATIENCE, leaks.SUSPECT_OF_EVENTS))
 
     def once(number: int) -> None:
         if stage.invoke(str(number).encode()).failed or process.ended:

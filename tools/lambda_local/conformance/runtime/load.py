@@ -13,7 +13,7 @@ scenario = scenarios_of(SCENARIOS)
 
 ENVIRONMENTS = 3
 INVOCATIONS = 1000  # unless --invocations says how many
-SECONDS = 15  # that they may take, unless it does
+SECONDS = 7  # that they may take, unless it does
 MOST, PATIENCE = 4000, 60  # invocations, and seconds more for them, for as long as memory grows
 PAYLOAD = 65_536  # bytes of each
 EVERY = 4  # invocations of which the last one fails, unless an error ends the process
@@ -37,7 +37,8 @@ CHECKS = {"memory": "memory", "descriptors": "descriptors", "threads": "threads"
     lasts=20, drawn=False, collects_early=True)
 def a_thousand(stage: Stage) -> None:
     given, mark = stage.tools.options.invocations, uuid.uuid4().hex
-    course = leaks.Course(given, inf, given, 0) if given else leaks.Course(INVOCATIONS, SECONDS, MOST, PATIENCE)
+    course = (leaks.Course(given, inf, given, 0, leaks.SUSPECT) if given
+              else leaks.Course(INVOCATIONS, SECONDS, MOST, PATIENCE, leaks.SUSPECT))
     event = compact({"do": "echo", "value": mark + "x" * (PAYLOAD - len(mark))})
     stage.idle()
     with_errors = False

@@ -6,6 +6,7 @@ from typing import Dict, List, NamedTuple, Optional, Sequence, Tuple, cast
 
 from ...history.entries import count_in
 from ...history.words import Word
+from ..clock import CLOCK
 from .calls import POLLS, Call, Ids
 from .judge import Aspect, Judge, label_of, shown
 from .known import WAITS, KnownDifferences
@@ -19,6 +20,7 @@ SILENCE_SECONDS = 0.5  # how long one that is accepted to be missing is waited f
 CLOSING_SECONDS = 2.1  # how long an environment may wait for extensions that end
 OF_TIMEOUT = 0.7  # of the function's timeout, as real time, that such an answer may take at most
 SURELY = 0.05  # how long a call waits that is to be taken before the next one
+ENDED = 0.1  # within which a service notices that a connection has ended; more on a busy machine
 RESTORE_SECONDS = 30  # and a timeout: how long a service is brought to a fresh environment
 STARVED_SECONDS = 10.0  # that a request may take which any service answers at once
 OF_INIT = ("register", "init-failure", "ext-init-failure")  # calls that an environment takes in its Init alone
@@ -121,7 +123,7 @@ class Course:
         if len(answered) < len(given):
             self.wire.collect([exchanges[one.call] for one in given], SILENCE_SECONDS)
         if call.kind in ("leave", "hang-up"):
-            self.wire.collect(seconds=max(settle, SURELY))
+            self.wire.collect(seconds=max(settle, ENDED * CLOCK.slowness()))
         elif call.kind != "wait" and not any(one.call == step for one in given):
             self.wire.collect(seconds=settle)
         elif call.kind != "wait" and exchanges[step].answered:
