@@ -33,7 +33,7 @@ LENIENT = {"runtime": {"keep_alive", "continue_first", "header_spaces", "reason_
 OF_TELEMETRY = [one.name for part in (extension.telemetry, extension.delivery, extension.batches,
                                         extension.last_batches) for scenario in part.SCENARIOS
                 for one in scenario.checks]
-AT_ONCE = 2 * max(2, len(os.sched_getaffinity(0)))  # runs of the kit, each of which waits most of its time
+AT_ONCE = 6 * max(2, len(os.sched_getaffinity(0)))  # runs of the kit, each of which waits most of its time
 EACH = 16  # wrong programs, of which one is run with all scenarios
 TODAY = int(time.time() // 86400) % EACH  # which one of these
 WHOLE, CHOSEN = "CONFORMANCE_WHOLE" in os.environ, os.environ.get("CONFORMANCE_ONLY", "").split()

@@ -23,7 +23,7 @@ def main(words: List[str]) -> int:
     words, command = split(words)
     parser = parser_of("runtime", __doc__,
                        "[--init-seconds S] [--only NAME] [--strict] [--junit FILE] [--pictures DIR] [--program P]",
-                       "1000, or as many as there are in 7 s")
+                       "1000, or as many as there are in 6 s")
     options = parser.parse_args(words)
     check_arguments(options, command, SCENARIOS)
     if options.list:

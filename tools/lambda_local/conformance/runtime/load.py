@@ -13,7 +13,7 @@ scenario = scenarios_of(SCENARIOS)
 
 ENVIRONMENTS = 3
 INVOCATIONS = 1000  # unless --invocations says how many
-SECONDS = 7  # that they may take, unless it does
+SECONDS = 6  # that they may take, unless it does
 MOST, PATIENCE = 4000, 60  # invocations, and seconds more for them, for as long as memory grows
 PAYLOAD = 65_536  # bytes of each
 EVERY = 4  # invocations of which the last one fails, unless an error ends the process
