@@ -101,9 +101,7 @@ def checks_of_types(root):
     names += [os.path.join("library", name) for name in sorted(os.listdir(os.path.join(tools, "library")))
               if kind_of(os.path.join(tools, "library", name), name) == "python"]
     yield from types_found(root, "mypy --strict", tools, ["--strict", "--scripts-are-modules"], names)
-    # (the tests of the kit are not typed yet)
-    names = [name for name in files_of(root)
-             if re.fullmatch(r"tests/(library/[\w/]+|tools/(?!conformance)\w+)\.py", name)]
+    names = [name for name in files_of(root) if re.fullmatch(r"tests/(library/[\w/]+|tools/\w+)\.py", name)]
     paths = ":".join(os.path.join(root, *parts) for parts in (("tools",), ("tools", "library"),
                                                               ("tests", "tools", "wrong_programs"),
                                                               ("tests", "tools", "sound_programs")))

@@ -15,7 +15,7 @@ import sys
 import tempfile
 import time
 import xml.etree.ElementTree as xml
-from typing import Callable, NamedTuple
+from typing import Callable, Dict, Iterable, List, NamedTuple, Tuple
 
 from lambda_local.conformance import extension, runtime
 from tests import ROOT
@@ -146,8 +146,9 @@ def in_shapes():
     if shutil.which("perl"):
         yield "a Perl client", ["perl", os.path.join(SHAPES, "perl_tiny.pl")]
         yield "a Node client by fetch", ["node", os.path.join(SHAPES, "fetch.mjs")]
-    for file, names in (("shapes.py", shapes.SHAPES), ("clients.py", clients.CLIENTS),
-                        ("libraries.py", libraries.LIBRARIES)):
+    tables: Tuple[Tuple[str, Iterable[str]], ...] = (
+        ("shapes.py", shapes.SHAPES), ("clients.py", clients.CLIENTS), ("libraries.py", libraries.LIBRARIES))
+    for file, names in tables:
         for name in names:
             yield f"a client in the shape of {name}", [*PYTHON, os.path.join(SHAPES, file), name]
 
@@ -230,8 +231,8 @@ def jobs():
         yield Job("sound", subscriber, (name,), "passes", (f"an extension that {name}", shape.leaves_open))
     mistakes = [(kind, mistake, (WHOLE or place % EACH == TODAY) and not hasattr(mistake, "beside"))
                 for kind in KINDS for place, mistake in enumerate(kind.mistakes.values())]
-    for kind, mistake, is_whole in sorted(mistakes, key=lambda each: (not hasattr(each[1], "settings"), not each[2])):
-        yield Job(mistake.__name__, wrong, (kind, mistake, is_whole), "caught", (kind, mistake))
+    for one, mistake, is_whole in sorted(mistakes, key=lambda each: (not hasattr(each[1], "settings"), not each[2])):
+        yield Job(mistake.__name__, wrong, (one, mistake, is_whole), "caught", (one, mistake))
 
 
 def processes_of(mark):
@@ -262,6 +263,7 @@ def ended_by(number):
         process = subprocess.Popen([*TOOL, "runtime", "--", *PYTHON, program("sound_runtime.py")], cwd=HANDLERS,
                                    env={**os.environ, "TMPDIR": temporary}, stdout=subprocess.PIPE,
                                    stderr=subprocess.DEVNULL, text=True, start_new_session=True)
+        assert process.stdout
         for _ in range(2):  # (the first verdict: the scenarios begin)
             process.stdout.readline()
         begun = is_so(lambda: len(processes_of(temporary)) > 3)
@@ -287,7 +289,7 @@ class Conformance(Case):
         told = re.findall(r"^FAIL  (\w+)", run.output, re.MULTILINE)
         is_own = mistake.check in run.verdicts(outcome)
         seen = (run.status, len(told), is_own, [name for name in told if name not in {mistake.check, *also}])
-        wanted = (1, 1, True, []) if outcome == "FAIL" else (0, 0, True, [])
+        wanted: Tuple[int, int, bool, List[str]] = (1, 1, True, []) if outcome == "FAIL" else (0, 0, True, [])
         scenarios = "of some scenarios" if "--only" in run.words else "of all scenarios"
         self.check(f"{kind.name} {mistake.__name__} is a {outcome} of {mistake.check}, {scenarios}, and of no other "
                    "cause", seen, wanted)
@@ -305,7 +307,7 @@ class Conformance(Case):
     def test_programs(self):
         """All of them at once, as many as there is room for."""
         with concurrent.futures.ThreadPoolExecutor(AT_ONCE) as pool:
-            judges = {"passes": self.passes, "caught": self.caught}
+            judges: Dict[str, Callable[..., None]] = {"passes": self.passes, "caught": self.caught}
             running = [job.begun_in(pool) for job in jobs() if job.name in (CHOSEN or [job.name])]
             for job, run in running:
                 judges[job.judge](run.result(), *job.by)
@@ -321,16 +323,17 @@ class Conformance(Case):
                        (1, []))
             drawn = xml.parse(os.path.join(pictures, "errors.svg")).getroot()
             self.check("its picture is an SVG", drawn.tag.rpartition("}")[2], "svg")
-            suite = xml.parse(file).getroot().find("testsuite")
-            case = suite.find("testcase")
+            suite, = xml.parse(file).getroot().findall("testsuite")
+            case, = suite.findall("testcase")
             self.check("JUnit has the one check", (suite.get("tests"), suite.get("failures"), case.get("name")),
                        ("1", "1", "error_type"))
-            self.check("and what came", case.find("failure").get("message").startswith("the caller received "))
-            self.check("and its details", "Invocation error" in case.find("failure").text)
+            failure, = case.findall("failure")
+            self.check("and what came", failure.get("message", "").startswith("the caller received "))
+            self.check("and its details", "Invocation error" in (failure.text or ""))
 
     def test_wrong_usage(self):
         somewhere = os.path.join("nowhere", "report.xml")
-        cases = (
+        cases: Tuple[Tuple[List[str], str], ...] = (
             ([], "write one of runtime, extension, service"),
             (["runtimes"], "write one of runtime, extension, service"),
             (["runtime"], "write the command that is tested after --"),
@@ -342,7 +345,6 @@ class Conformance(Case):
             (["runtime", "--", "no_such_program"], "no_such_program is not a program"),
             (["runtime", "--junit", somewhere, "--", "true"], "--junit nowhere"),
             (["runtime", "--pictures", "/dev/null", "--", "true"], "--pictures /dev/null"),
-            (["runtime", "--program", "nowhere", "--", "true"], "nowhere is not a program", 4),
             (["runtime", "--", "sh", "-c", "echo it is broken; exit 3"],
              "it ended with status 3 before it asked for anything; its last line: it is broken"),
             (["extension", "--", "true"], "write --name NAME"),
@@ -350,8 +352,9 @@ class Conformance(Case):
              "INVOKE,START: write INVOKE, SHUTDOWN or both"),
             (["extension", "--name", "x", "--", "true"], "it ended with status 0 before it asked for anything"))
         with concurrent.futures.ThreadPoolExecutor(AT_ONCE) as pool:
-            for (words, told, *status), run in zip(cases, pool.map(lambda case: Run(*case[0]), cases)):
-                self.refused(" ".join(words) or "no word", run, told, *status)
+            for (words, told), run in zip(cases, pool.map(lambda case: Run(*case[0]), cases)):
+                self.refused(" ".join(words) or "no word", run, told)
+        self.refused("no program", Run("runtime", "--program", "nowhere", "--", "true"), "nowhere is not a program", 4)
         self.refused("no free port", Run("runtime", "--", "true", LAMBDA_LOCAL_PORTS="1-1"), "LAMBDA_LOCAL_PORTS=1-1")
 
     def refused(self, name, run, told, status=2):

@@ -1,5 +1,6 @@
 """Checks parts of lambda_local conformance by themselves: what is a leak, whose time a busy machine takes, what is
 compared with another service, and which FAILs are of one cause."""
+import argparse
 import contextlib
 import http.server
 import itertools
@@ -7,21 +8,26 @@ import math
 import threading
 import time
 from types import SimpleNamespace
+from typing import Iterator, List, Optional, cast
 from unittest import mock
 
-from lambda_local.conformance import again, causes, leaks, report, service, sometimes, watch
+from lambda_local.conformance import again, causes, leaks, pages, report, service, sometimes, watch
 from lambda_local.conformance.environment import Environment
 from lambda_local.conformance.extension import delivery, stage
-from lambda_local.conformance.kit import FAIL, NOTE, PASS
+from lambda_local.conformance.kit import FAIL, NOTE, PASS, Check, Seen, Verdict
 from lambda_local.conformance.manners import Manner
 from lambda_local.conformance.messages import Message
-from lambda_local.conformance.process import Holds
+from lambda_local.conformance.process import Holds, Process
 from lambda_local.conformance.runtime import first, payloads, refusals
 from lambda_local.conformance.service import course, judge, tested
+from lambda_local.conformance.service.calls import Call
 from lambda_local.conformance.service.known import KnownDifferences
-from lambda_local.conformance.service.oracle import FRESH, Oracle
+from lambda_local.conformance.service.oracle import FRESH, Given, Oracle, Plan, Sequence
+from lambda_local.conformance.service.report import Report
 from lambda_local.conformance.service.sequences import plans_of, sequences_of
+from lambda_local.conformance.service.wire import Exchange
 from lambda_local.conformance.stage import Answer, Stage
+from lambda_local.history import entries
 from lambda_local.history.words import Word
 from lambda_local.program import Fault
 from lambda_local.service import program_path
@@ -40,7 +46,7 @@ def grown(memory_after, requests):
     """How many bytes for each request a process has kept that holds so much after so many requests."""
     process = SimpleNamespace(done=0)
     process.holds = lambda: held(memory_after(process.done))
-    looks = leaks.Looks(process)
+    looks = leaks.Looks(cast(Process, process))
     for process.done in range(PART, requests + 1, PART):
         looks.look(process.done)
     return looks.leaks(1000)
@@ -125,6 +131,15 @@ def stage_of(*exchanges):
     return SimpleNamespace(environment=SimpleNamespace(proxy=SimpleNamespace(of=of)))
 
 
+def refused(answers: List[Answer]) -> Optional[int]:
+    """The status with which a handler that gives these is refused as another one than the kit's, if it is."""
+    try:
+        first.refuse_another_handler(answers)
+    except Fault as fault:
+        return fault.status
+    return None
+
+
 class Conduct(Case):
     def test_answers(self):
         poll, answer = exchange("next", 0, 1, delivered="a"), exchange("response", 2, 3, "a", status=202)
@@ -165,13 +180,10 @@ class Conduct(Case):
     def test_outputs_that_are_lost(self):
         def answers(*bodies):
             return [Answer(200, {}, body) for body in bodies]
-        self.check("a runtime that gives nothing may have lost it",
-                   first.refuse_another_handler(answers(b"null", b"{}", b"")), None)
+        self.check("a runtime that gives nothing may have lost it", refused(answers(b"null", b"{}", b"")), None)
         for name, came in (("the same", answers(b'"hello"', b'"hello"', b'"hello"')),
                            ("each event", answers(*map(first.compact, (event for event, _ in first.PROBES))))):
-            with self.assertRaises(Fault) as fault:
-                first.refuse_another_handler(came)
-            self.check(f"a handler that gives {name} is another one", fault.exception.status, 2)
+            self.check(f"a handler that gives {name} is another one", refused(came), 2)
 
     def test_numbers(self):
         self.check("a number to 13 digits is near", payloads.is_near("9007199254740993", "9007199254740900"))
@@ -193,6 +205,11 @@ class Conduct(Case):
             batch = delivery.end_of("a", "timeout", is_of_logs)
             self.check(f"it is told as {', '.join(kinds)}", [event["type"] for event in batch], kinds)
             self.check("with its request and status", batch[-1]["record"], {"requestId": "a", "status": "timeout"})
+
+
+def verdict(outcome: str, came: str) -> Verdict:
+    check = Check("one", pages.RESPONSE, "it is so")
+    return Verdict(check, "scenario", outcome, came, 1.0, Seen(None, (), (), ""))
 
 
 class OneCause(Case):
@@ -228,9 +245,8 @@ class OneCause(Case):
                                  ("the caller received no answer within 12 s", False),
                                  ("it ended with status 1", False), ("no Next within 10 s", False),
                                  ("in place of an output the caller received the error Function.Timeout", False)):
-            verdict = SimpleNamespace(outcome=FAIL, came=came)
             self.check(f"{came!r} is {'' if is_its_own else 'not '}what the program did",
-                       sometimes.shows_what_it_did(verdict), is_its_own)
+                       sometimes.shows_what_it_did(verdict(FAIL, came)), is_its_own)
 
     def test_many_lines(self):
         self.check("lines that are the same are one line", report.shortened(["a", "b", "b", "b", "a"]),
@@ -239,19 +255,25 @@ class OneCause(Case):
         self.check("of many there are the first and the last", (len(told), told[0], told[-1]), (25, "0", "4999"))
 
     def test_what_is_seen_once(self):
-        class Verdict(SimpleNamespace):
-            def _replace(self, **changes):
-                return Verdict(**{**self.__dict__, **changes})
-        failed, passed = Verdict(outcome=FAIL, came="the caller received 1"), Verdict(outcome=PASS, came="")
+        failed, passed = verdict(FAIL, "the caller received 1"), verdict(PASS, "")
         own = sometimes.judged(failed, passed, 5, True)
         self.check("what shows once is a FAIL that says so", (own.outcome, own.came),
                    (FAIL, "in 1 of 6 runs: the caller received 1"))
         self.check("what others disturb is a NOTE", sometimes.judged(failed, passed, 5, False).outcome, NOTE)
 
 
+class Server(http.server.ThreadingHTTPServer):
+    """One whose threads have one processor, and wait for what it has lost until it is closed."""
+
+    def __init__(self, handler):
+        super().__init__(("127.0.0.1", 0), handler)
+        self.processor, self.lost = threading.Lock(), threading.Event()
+
+
 class Starved(http.server.BaseHTTPRequestHandler):
     """A service that takes one request after the other. It does nothing for a while as it takes a registration, or
     never answers that one."""
+    server: Server
     protocol_version, loses, registered = "HTTP/1.1", False, 1
 
     def do_POST(self):
@@ -340,15 +362,52 @@ class RefusesLateFailures(Starved):
         return self.answer(403 if self.asked else 202, b'{"errorType":"State","errorMessage":"not now"}')
 
 
-def course_played(difference):
-    return course.Played(difference or None, True, 1.0, True)
+def plan_of(*calls: Call) -> Plan:
+    """That of a sequence with these calls, which are not answered."""
+    return Plan(Sequence("one", FRESH, calls), tuple(() for _ in calls), {}, tuple(range(len(calls))), {})
+
+
+def given(word: Word, remaining: int) -> Given:
+    """The answer to the first call, with a deadline after so many milliseconds."""
+    return Given(0, entries.Answer(0, word), "next", remaining, False)
+
+
+def reply(wall: float, answered: float, body: bytes = b"") -> Exchange:
+    """One that came at this moment, in Unix milliseconds and in seconds of the clock."""
+    came = Exchange(("127.0.0.1", 1), "GET")
+    came.take(b"HTTP/1.1 200 OK\r\nContent-Length: %d\r\n\r\n" % len(body) + body)
+    came.wall, came.answered = wall, answered
+    return came
+
+
+class LateCourse(course.Course):
+    """A course in which a timeout is late; to one who looks strictly, as often as `times` says."""
+
+    def __init__(self, times: Iterator[bool]) -> None:
+        self.is_strict, self._times = False, times
+
+    def play(self, plan: Plan, settle: Optional[float] = None, patience: float = 0.0) -> course.Played:
+        difference = None
+        if self.is_strict and next(self._times):
+            difference = course.Difference(plan, 0, 0, "timeout", judge.Aspect("moment", "late", "then"), (), None)
+        return course.Played(difference, True, 1.0, True)
+
+
+class LateRun(service.Run):
+    """A run on such a course, which counts what it looks into."""
+
+    def __init__(self, times: Iterator[bool]) -> None:
+        self.options, self.report, self.reported = argparse.Namespace(most=5), Report(None), set()
+        self.course, self.looked = LateCourse(times), 0
+
+    def _look_into(self, plan: Plan, played: course.Played) -> None:
+        self.looked += 1
 
 
 class Service(Case):
     def difference(self, handler, calls="register x =probe -"):
         """What is found in a sequence with these calls, which a service of this kind takes."""
-        server = http.server.ThreadingHTTPServer(("127.0.0.1", 0), handler)
-        server.daemon_threads, server.processor, server.lost = True, threading.Lock(), threading.Event()
+        server = Server(handler)
         threading.Thread(target=server.serve_forever, daemon=True).start()
         try:
             place = f"127.0.0.1:{server.server_port}"
@@ -374,16 +433,16 @@ class Service(Case):
                    self.difference(RefusesLateFailures, calls), None)
 
     def test_deadlines_on_a_busy_machine(self):
-        given, begun = SimpleNamespace(remaining=3000), 100.0
+        begun = 100.0
 
         def fits(told, took):
             """Whether a deadline fits that is told so many milliseconds after the call's, and takes so long."""
-            one = judge.Judge(SimpleNamespace())
+            one = judge.Judge(plan_of())
             one.since = begun
             wall = 1_000_000.0
             value = str(int(wall + 3000 + told))
-            came = SimpleNamespace(wall=wall + 1000 * took, answered=begun + took)
-            _, theirs, ours = one._deadline(value, given, came)
+            came = reply(wall + 1000 * took, begun + took)
+            _, theirs, ours = one._deadline(value, given(Word.DELIVER, 3000), came)
             return theirs == ours
         for told, took, wanted in ((0, 0.0, True), (0, 3.0, True), (2000, 3.0, True), (1000, 0.1, False),
                                    (-1000, 0.1, False), (-1000, 3.0, False)):
@@ -391,30 +450,23 @@ class Service(Case):
                        fits(told, took), wanted)
 
     def test_timeouts_on_a_busy_machine(self):
-        given = SimpleNamespace(call=0, answer=SimpleNamespace(word=Word.TIMEOUT))
-        plan = SimpleNamespace(sequence=SimpleNamespace(calls=[SimpleNamespace(label="a")]))
+        plan = plan_of(Call("invoke", "a"))
         for late, is_strict, wanted in ((100, False, (True, False)), (1200, False, (True, True)),
                                         (2500, False, (False, True)), (1200, True, (False, True)),
                                         (100, True, (True, False)), (-1200, False, (False, False))):
             one = judge.Judge(plan, is_strict)
             one.deadlines["a"] = 1_000_000
-            came = SimpleNamespace(wall=1_000_000.0 + late, headers={}, body=b"{}")
+            came = reply(1_000_000.0 + late, 0.0, b"{}")
             with mock.patch.object(judge.CLOCK, "slowness", lambda: 6.0):
-                pairs = {name: theirs == ours for name, theirs, ours in one._timeout(given, came)}
+                pairs = {name: theirs == ours for name, theirs, ours in one._timeout(given(Word.TIMEOUT, 0), came)}
             self.check(f"one that is {late} ms late {'strictly ' if is_strict else ''}fits, and is late",
                        (pairs["moment"], one.is_late), wanted)
 
     def test_timeouts_that_are_late_each_time(self):
         for name, times, wanted in (("each time", itertools.repeat(True), 1), ("once more", iter([True, False]), 0)):
-            whole, looked = service.Run.__new__(service.Run), []
-            difference = SimpleNamespace(words=service.LATE)
-            whole.reported, whole.report, whole.options = set(), SimpleNamespace(differences=0), SimpleNamespace(most=5)
-            whole.course = SimpleNamespace(is_strict=False)
-            whole.course.play = lambda plan, times=times, course=whole.course: course_played(
-                course.is_strict and next(times) and difference)
-            whole._look_into = lambda *_: looked.append(1)
-            whole._play(SimpleNamespace())
-            self.check(f"a timeout that is late {name} is {'' if wanted else 'not '}looked into", len(looked), wanted)
+            whole = LateRun(times)
+            whole._play(plan_of(Call("invoke", "a")))
+            self.check(f"a timeout that is late {name} is {'' if wanted else 'not '}looked into", whole.looked, wanted)
 
     def test_what_the_pages_leave_open(self):
         known = KnownDifferences(None)

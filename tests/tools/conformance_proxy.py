@@ -3,6 +3,7 @@ however one of the two ends the connection, and it records what was asked and an
 import socket
 import struct
 import threading
+from typing import Callable, List, Optional, Tuple
 
 from lambda_local.conformance.exchanges import Rule
 from lambda_local.conformance.proxy import Proxy
@@ -85,8 +86,9 @@ def played(service, client, proxied, rule=None):
         serving.join(SECONDS)
         if not proxy:
             return side.met, met
-        proxy.wait(lambda: all(one.ended for one in proxy.exchanges), SECONDS)
-        recorded = [(one.kind, one.status, len(one.request.body), one.left is None) for one in proxy.exchanges]
+        exchanges = proxy.exchanges
+        proxy.wait(lambda: all(one.ended for one in exchanges), SECONDS)
+        recorded = [(one.kind, one.status, len(one.request.body), one.left is None) for one in exchanges]
         proxy.close()
         return side.met, met, recorded
 
@@ -202,7 +204,10 @@ def is_no_http(side):
     side.takes(1000)
 
 
-WAYS = (
+Conduct = Callable[[Side], None]
+Recorded = Tuple[str, Optional[int], int, bool]  # kind, status, bytes of the request, whether none are left over
+# A name, the service's conduct, the client's, and what is recorded.
+WAYS: Tuple[Tuple[str, Conduct, Conduct, List[Recorded]], ...] = (
     ("an early answer, and the service throws the rest away", answers_early(TOO_LARGE), sends_all_then_reads,
      [("response", 413, LARGE, True)]),
     ("the same with Connection: close", answers_early(CLOSES), sends_all_then_reads, [("response", 413, LARGE, True)]),

@@ -14,6 +14,7 @@ import tempfile
 import time
 import unittest
 import xml.etree.ElementTree as xml
+from typing import List, Tuple
 
 from lambda_local.conformance.service import known, oracle, pairs, sequences, wire
 from lambda_local.service import Service, free_ports, program_path
@@ -149,6 +150,7 @@ def against_emulator(faults, *words, is_pair=False):
     numbers = map(str, (2 if is_pair else 1, EMULATOR_TIMEOUT))
     emulator = subprocess.Popen([sys.executable, "-S", os.path.join(EMULATOR, "emulator.py"), *numbers, *faults],
                                 stdout=subprocess.PIPE, text=True, start_new_session=True)
+    assert emulator.stdout
     try:
         _, invoke_port, runtime_port, *more = emulator.stdout.readline().split()
         second = [word for port in more for word in ("--second", f"127.0.0.1:{port}")]
@@ -269,9 +271,9 @@ class ConformanceService(Case):
         self.check("each fault of two environments has what it shows as", set(OF_PAIRS) ^ set(SHOWS_IN_PAIRS), set())
         for name in OF_PAIRS:
             run = ended[name]
-            seen = (run.status, bool(set(run.words) & SHOWS_IN_PAIRS[name]))
-            self.check(f"{name} is found: {' '.join(run.words) or 'nothing'}", seen, (1, True))
-            run.told(seen == (1, True))
+            found = (run.status, bool(set(run.words) & SHOWS_IN_PAIRS[name]))
+            self.check(f"{name} is found: {' '.join(run.words) or 'nothing'}", found, (1, True))
+            run.told(found == (1, True))
 
     def test_each_worked_sequence_is_played(self):
         found = oracle.Oracle(program_path(), SERVICE_TIMEOUT)
@@ -291,18 +293,16 @@ class ConformanceService(Case):
             self.check("an accepted difference is counted", (run.status, f"times: {file}, line 2" in run.output),
                        (0, True))
             run.told(run.status == 0)
-            self.check("JUnit has no failure", xml.parse(report).getroot().find("testsuite").get("failures"), "0")
+            suite, = xml.parse(report).getroot().findall("testsuite")
+            self.check("JUnit has no failure", suite.get("failures"), "0")
             run = against_emulator(("hides-function-error",), *words)
-            case = next((one for one in xml.parse(report).getroot().iter("testcase")
-                         if one.find("failure") is not None),
-                        None)
-            shown = case is not None and "invoke a" in case.find("failure").text
+            failure = next(xml.parse(report).getroot().iter("failure"), None)
+            shown = failure is not None and "invoke a" in (failure.text or "")
             self.check("without the file it is a failure in JUnit, with its calls", (run.status, shown), (1, True))
             self.check("the report has the page", "API_Invoke.html" in run.output)
-            script = run.output.partition("      script\n")[2].splitlines()
-            lines = [line.strip() for line in script if line.startswith("        ")]
-            replayed = subprocess.run([program_path(), "replay"], input="\n".join(lines) + "\n", capture_output=True,
-                                      text=True)
+            behind = run.output.partition("      script\n")[2].splitlines()
+            script = "".join(f"{line.strip()}\n" for line in behind if line.startswith("        "))
+            replayed = subprocess.run([program_path(), "replay"], input=script, capture_output=True, text=True)
             self.check("its script can be replayed, and has the error",
                        (replayed.returncode, " error =" in replayed.stdout),
                        (0, True))
@@ -335,23 +335,24 @@ class ConformanceService(Case):
             bad = os.path.join(folder, "known.txt")
             with open(bad, "w") as file:
                 file.write("# two words\nnext deliver\n")
-            for words, told in (
-                    ([], "write --invoke URL"),
-                    (here[:2], "write --runtime HOST:PORT"),
-                    (["--invoke", "127.0.0.1:8080", *here[2:]], "--invoke 127.0.0.1:8080: write the URL"),
-                    ([*here[:2], "--runtime", "9001"], "--runtime 9001: write HOST:PORT"),
-                    ([*here, "--sequences", "0"], "0 is not a number from 1"),
-                    ([*here, "--seconds", "soon"], "--seconds"),
-                    ([*here, "--known", os.path.join(folder, "nothing")], "No such file"),
-                    ([*here, "--known", bad], "known.txt: line 2 has 2 words: write three"),
-                    ([*here, "--junit", os.path.join(folder, "no", "report.xml")],
-                     "name a file in a folder that can be written"),
-                    ([*here, "--program", "nowhere"], "nowhere is not a program"),
-                    (here, f"127.0.0.1:{other}: no service answers there"),
-                    ([*here[:2], "--runtime", f"127.0.0.1:{silent_port}"],
-                     f"127.0.0.1:{free}: no service answers there"),
-                    (["--invoke", f"http://127.0.0.1:{silent_port}", "--runtime", f"127.0.0.1:{silent_port}"],
-                     "is not answered within 2 s")):
+            cases: Tuple[Tuple[List[str], str], ...] = (
+                ([], "write --invoke URL"),
+                (here[:2], "write --runtime HOST:PORT"),
+                (["--invoke", "127.0.0.1:8080", *here[2:]], "--invoke 127.0.0.1:8080: write the URL"),
+                ([*here[:2], "--runtime", "9001"], "--runtime 9001: write HOST:PORT"),
+                ([*here, "--sequences", "0"], "0 is not a number from 1"),
+                ([*here, "--seconds", "soon"], "--seconds"),
+                ([*here, "--known", os.path.join(folder, "nothing")], "No such file"),
+                ([*here, "--known", bad], "known.txt: line 2 has 2 words: write three"),
+                ([*here, "--junit", os.path.join(folder, "no", "report.xml")],
+                 "name a file in a folder that can be written"),
+                ([*here, "--program", "nowhere"], "nowhere is not a program"),
+                (here, f"127.0.0.1:{other}: no service answers there"),
+                ([*here[:2], "--runtime", f"127.0.0.1:{silent_port}"],
+                 f"127.0.0.1:{free}: no service answers there"),
+                (["--invoke", f"http://127.0.0.1:{silent_port}", "--runtime", f"127.0.0.1:{silent_port}"],
+                 "is not answered within 2 s"))
+            for words, told in cases:
                 run = Run(*words)
                 self.check(f"{' '.join(words) or 'no word'}: status 2 and one line",
                            (run.status, len(run.errors.splitlines()), told in run.errors), (2, 1, True))
