@@ -8,7 +8,7 @@ import math
 import threading
 import time
 from types import SimpleNamespace
-from typing import Iterator, List, Optional, cast
+from typing import Iterator, List, Optional, Tuple, cast
 from unittest import mock
 
 from lambda_local.conformance import again, causes, leaks, pages, report, service, sometimes, watch
@@ -372,10 +372,10 @@ def given(word: Word, remaining: int) -> Given:
     return Given(0, entries.Answer(0, word), "next", remaining, False)
 
 
-def reply(wall: float, answered: float, body: bytes = b"") -> Exchange:
+def reply(wall: float, answered: float, body: bytes = b"", head: bytes = b"") -> Exchange:
     """One that came at this moment, in Unix milliseconds and in seconds of the clock."""
     came = Exchange(("127.0.0.1", 1), "GET")
-    came.take(b"HTTP/1.1 200 OK\r\nContent-Length: %d\r\n\r\n" % len(body) + body)
+    came.take(b"HTTP/1.1 200 OK\r\n%sContent-Length: %d\r\n\r\n%s" % (head, len(body), body))
     came.wall, came.answered = wall, answered
     return came
 
@@ -391,6 +391,20 @@ class LateCourse(course.Course):
         if self.is_strict and next(self._times):
             difference = course.Difference(plan, 0, 0, "timeout", judge.Aspect("moment", "late", "then"), (), None)
         return course.Played(difference, True, 1.0, True)
+
+
+class SlowCourse(course.Course):
+    """A course in which the deliveries of a function with 3 seconds are so many milliseconds on their way."""
+
+    def __init__(self, *late: int) -> None:
+        self._late = iter(late)
+
+    def bring(self, start: str) -> None:
+        pass
+
+    def _deadline_of_probe(self) -> Tuple[float, Exchange]:
+        asked = 1_000_000.0
+        return asked, reply(asked + next(self._late), 0.0, head=b"Lambda-Runtime-Deadline-Ms: 1003000\r\n")
 
 
 class LateRun(service.Run):
@@ -448,6 +462,13 @@ class Service(Case):
                                    (-1000, 0.1, False), (-1000, 3.0, False)):
             self.check(f"a deadline that is {told} ms late, after {took} s, {'fits' if wanted else 'does not'}",
                        fits(told, took), wanted)
+
+    def test_the_timeout_on_a_busy_machine(self):
+        for name, late, wanted in (("a deadline that comes at once", (10,), 3),
+                                   ("one that comes late", (700,), 3),
+                                   ("one that comes too late, and then late", (1400, 1100, 700), 3),
+                                   ("one that comes too late each time", 5 * (1400,), 2)):
+            self.check(f"{name} tells {wanted} s", SlowCourse(*late).learn_timeout(), wanted)
 
     def test_timeouts_on_a_busy_machine(self):
         plan = plan_of(Call("invoke", "a"))

@@ -1,6 +1,7 @@
 """Plays sequences on the tested service, one call after the other, and compares each answer in the step it belongs
 to."""
 import contextlib
+import math
 import time
 from typing import Dict, List, NamedTuple, Optional, Sequence, Tuple, cast
 
@@ -23,6 +24,8 @@ SURELY = 0.05  # how long a call waits that is to be taken before the next one
 ENDED = 0.1  # within which a service notices that a connection has ended; more on a busy machine
 RESTORE_SECONDS = 30  # and a timeout: how long a service is brought to a fresh environment
 STARVED_SECONDS = 10.0  # that a request may take which any service answers at once
+CLOCKS = 100  # milliseconds by which the service's clock may differ from this one, and a little more
+LEARNED = 5  # times that the timeout is looked for, if the deadline comes too late to tell
 OF_INIT = ("register", "init-failure", "ext-init-failure")  # calls that an environment takes in its Init alone
 NO_ROUTE = "/conformance/no/such/route"
 PROBE = Call("invoke", "probe", ("={}",))
@@ -230,16 +233,30 @@ class Course:
 
     def learn_timeout(self) -> Optional[int]:
         """The function's timeout in seconds, by the deadline of an invocation in a fresh environment; none if it has
-        none. With an extension, whose failure ends the environment at once."""
+        none."""
+        for _ in range(LEARNED):
+            self.bring(FRESH)
+            asked, poll = self._deadline_of_probe()
+            deadline = poll.headers.get("lambda-runtime-deadline-ms", "")
+            if not deadline.isdigit():
+                return None
+            found = timeout_between(int(deadline) - poll.wall, int(deadline) - asked)
+            if found:
+                break
+        return min(900, max(1, found or round((int(deadline) - poll.wall) / 1000)))
+
+    def _deadline_of_probe(self) -> Tuple[float, Exchange]:
+        """When an invocation is asked for, in Unix milliseconds, and its delivery. There is an extension, whose failure
+        ends the environment at once."""
         if self.register():
             self.send(Call("ext-next", "probe"), self.ids)
         poll = self.send(Call("next"), {})
         self.wire.collect(seconds=SURELY)
+        asked = time.time() * 1000
         self.send(PROBE, {})
         self.wire.collect([poll], ANSWER_SECONDS)
-        deadline = poll.headers.get("lambda-runtime-deadline-ms", "")
         self.state = None
-        return min(900, max(1, round((int(deadline) - poll.wall) / 1000))) if deadline.isdigit() else None
+        return asked, poll
 
     def register(self) -> str:
         """The identifier of an extension that registers, or nothing."""
@@ -280,6 +297,12 @@ class Course:
     def close(self) -> None:
         with contextlib.suppress(OSError):
             self.wire.drop()
+
+
+def timeout_between(least: float, most: float) -> Optional[int]:
+    """The whole seconds between these milliseconds; none if there are several, or none."""
+    first, last = math.ceil((least - CLOCKS) / 1000), math.floor((most + CLOCKS) / 1000)
+    return first if first == last else None
 
 
 def since(begun: float, moment: Optional[float] = None) -> int:
