@@ -9,14 +9,11 @@ import tempfile
 import threading
 import time
 
-from lambda_local.service import ask
+from lambda_local.service import ask, program_path
 from tests import ROOT
 from tests.library.ports import free_range
 
-BUILDS = [os.path.join(ROOT, *parts)
-          for parts in (("bin", "lambda_local"), ("crates", "lambda_local", "out", "lambda_local"))]
-PROGRAM = os.environ.get("LAMBDA_LOCAL_PROGRAM", "") or next((path for path in BUILDS if os.path.exists(path)),
-                                                            BUILDS[1])
+PROGRAM = program_path()
 EXAMPLES = os.path.join(ROOT, "examples")
 PORT = free_range(64)  # the first of those of each service
 NEXT = "/2018-06-01/runtime/invocation/next"

@@ -11,7 +11,7 @@ a SHOULD if it does not do what the documents recommend, or a NOTE if they leave
 what the check is about.
 
 Exit statuses: 0; 1 if a check is a FAIL, or with --strict a SHOULD; 2 for wrong usage, or a command that cannot be
-tested."""
+tested; 4 if there is no program to start."""
 import argparse
 from typing import List
 

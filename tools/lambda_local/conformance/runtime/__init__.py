@@ -9,7 +9,7 @@ kit (docs/conformance.md defines it, examples/conformance has it for four runtim
 SHOULD if it does not do what the documents recommend, as some clients of AWS's own, or a NOTE if they leave it open.
 
 Exit statuses: 0; 1 if a check is a FAIL, or with --strict a SHOULD; 2 for wrong usage, or a command that cannot be
-tested."""
+tested; 4 if there is no program to start."""
 from typing import List
 
 from ..run import check_arguments, listed, parser_of, play, split
