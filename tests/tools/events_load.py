@@ -18,7 +18,7 @@ from tests.library.events_kit import READY, READY_SECONDS, Caller, behind, invok
 from tests.library.up_kit import Up, until
 
 SECONDS = float(os.environ.get("LOAD_SECONDS", "60"))
-ENVIRONMENTS, SENDERS, AHEAD, DRAIN = 4, 3, 60, 600
+ENVIRONMENTS, SENDERS, AHEAD, DRAIN = 4, 3, 60, 10 * SECONDS
 # Each event has a file, to which each of its runs adds a line at its begin and one for its end, with its invocation.
 APP = '''import os, time
 def note(event, context, word):

@@ -138,7 +138,8 @@ class RealProjects(Case):
         made, (status, said), prepare = made_of(template, name)
         self.check(f"{kind}: it is taken", (status, len(made.get("functions", []))), (0, 2))
         print("\n".join(f"     {line}" for line in said.splitlines()))
-        nightly = next(function["name"] for function in made["functions"] if "schedule" in function)
+        nightly = [function["name"] for function in made["functions"] if "schedule" in function]
+        self.check(f"{kind}: one function has a schedule", len(nightly), 1)
         up = Up("--report", functions=made["functions"], whole={name: value for name, value in made.items()
                                                                   if name != "functions"}, prepare=prepare)
         self.check(f"{kind}: it is ready", up.until("ready"))
@@ -146,7 +147,7 @@ class RealProjects(Case):
         with urllib.request.urlopen(address + front, timeout=30) as answer:
             self.check(f"{kind}: its route answers", json.load(answer), wanted)
         with open(os.path.join(ROOT, "examples", "events", "schedule.json")) as file:
-            self.check(f"{kind}: what a schedule invokes", up.invoke(nightly, 20, **json.load(file))[0],
+            self.check(f"{kind}: what a schedule invokes", up.invoke(nightly[0], 20, **json.load(file))[0],
                        {"kind": "Scheduled Event", "left": True})
         self.check(f"{kind}: its log has what the handler logs, as Lambda writes it", up.until("REPORT RequestId: ")
                    and bool(
