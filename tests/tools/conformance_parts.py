@@ -336,6 +336,7 @@ class PlayedRuntime(Case):
         while Delivering.asked < 3:
             time.sleep(0.01)
         runtime.end()
+        time.sleep(0.3)  # (until what it had asked for has come)
         seen = Delivering.asked
         time.sleep(0.3)
         server.shutdown()
