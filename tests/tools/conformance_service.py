@@ -105,6 +105,13 @@ SHOWS_AS = {
     "registers-for-anything": {"register unknown-event status"},
     "loses-init-reports": {"invoke error-of-init report"},
     "answers-null-for-extensions": {"invoke error-of-extension member-errorType"},
+    "takes-any-payload": {"invoke not-json connection", "invoke not-json status"},
+    "takes-any-length": {"invoke too-large connection", "invoke too-large status"},
+    "takes-any-type": {"invoke unknown-type connection", "invoke unknown-type status"},
+    "takes-any-version": {"invoke unknown-version connection", "invoke unknown-version status"},
+    "takes-any-function": {"invoke unknown-function connection", "invoke unknown-function status"},
+    "waits-for-no-extension": {"next waits answered"},
+    "forgets-the-deadline": {"ext-next shutdown connection"},
 }
 
 
@@ -113,10 +120,12 @@ SHOWS_IN_PAIRS = {
     "mixes-environments": {"response BadId status", "failure BadId status"},
     "ends-both-environments": {"invoke waits answered", "next waits answered", "ext-next waits answered"},
     "shares-extensions": {"ext-next Unknown status", "ext-next Unknown connection"},
+    "times-out-both-environments": {"next waits answered", "ext-next waits answered"},
 }
 UNSEEN = {"names-the-request"}  # liberties that are no difference to accept
-# Found by a request, before a sequence is played.
-AT_THE_BEGINNING = {"accepts-with-200", "needs-no-error-type", "registers-for-anything"}
+# Found by a request of its own.
+WITHOUT_A_SEQUENCE = {"accepts-with-200", "needs-no-error-type", "registers-for-anything", "takes-any-payload",
+                      "takes-any-length", "takes-any-type", "takes-any-version", "takes-any-function"}
 
 
 class Run:
@@ -254,7 +263,7 @@ class ConformanceService(Case):
         self.check("each fault has what it shows as", set(FAULTS) ^ set(SHOWS_AS), set())
         for name, started in begun("each_fault_is_found").items():
             run = started.result()
-            least = 0 if name in AT_THE_BEGINNING else 1
+            least = 0 if name in WITHOUT_A_SEQUENCE else 1
             seen = (run.status, len(run.words), bool(set(run.words) & SHOWS_AS[name]), least <= run.calls <= MOST_CALLS)
             title = next((line for line in run.output.splitlines() if line.startswith("DIFFERENCE")), "nothing")
             last = (run.output.splitlines() or [""])[-1]

@@ -11,7 +11,7 @@ import re
 import sys
 
 from faults import FAULTS, LIBERTIES, OF_PAIRS
-from life import CONTAINER, Life, Reply, refusal
+from life import CONTAINER, LIMIT, Life, Reply, refusal
 
 INVOKE = "/2015-03-31/functions/function/invocations"
 RUNTIME, EXTENSION = "/2018-06-01/runtime", "/2020-01-01/extension"
@@ -45,9 +45,27 @@ class Lives(list):
 
 def of_caller(lives, method, path, headers, body):
     path, _, query = path.partition("?")
-    if (method, path) != ("POST", INVOKE):
+    is_known = path == INVOKE or "takes-any-function" in lives.faults and path.endswith("/invocations")
+    if method != "POST" or not is_known:
         return NOT_FOUND
+    if query not in ("", "Qualifier=$LATEST") and "takes-any-version" not in lives.faults:
+        return refusal(404, "ResourceNotFoundException")
+    if headers.get("x-amz-invocation-type", "RequestResponse") != "RequestResponse" and (
+            "takes-any-type" not in lives.faults):
+        return refusal(400, "InvalidParameterValueException")
+    if len(body) > LIMIT and "takes-any-length" not in lives.faults:
+        return refusal(413, "RequestTooLargeException")
+    if body and not is_json(body) and "takes-any-payload" not in lives.faults:
+        return refusal(400, "InvalidRequestContentException")
     return lives.free().invoke(body, headers.get("x-amzn-trace-id"), query == "Qualifier=$LATEST")
+
+
+def is_json(body):
+    try:
+        json.loads(body)
+    except ValueError:
+        return False
+    return True
 
 
 def of_environment(life, method, path, headers, body):

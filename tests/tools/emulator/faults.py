@@ -65,6 +65,13 @@ FAULTS = {
     "needs-no-error-type": "an extension's report is accepted without Lambda-Extension-Function-Error-Type",
     "registers-for-anything": "an extension can register for an event that there is not",
     "loses-init-reports": "an invocation that waits for an Init that fails is answered without its report",
+    "takes-any-payload": "an Invoke with a payload that is not JSON is taken",
+    "takes-any-length": "so is one of more than 6 MB",
+    "takes-any-type": "so is one with an invocation type that there is not",
+    "takes-any-version": "so is one with a qualifier that there is not",
+    "takes-any-function": "so is one of a function that there is not",
+    "waits-for-no-extension": "an environment is free once its runtime has asked again, and its extensions have not",
+    "forgets-the-deadline": "once an invocation is answered its timeout does not come",
     "answers-null-for-extensions": "an invocation that the failure of an extension ends is answered null",
 }
 OF_PAIRS = {  # of a function with two environments
@@ -72,6 +79,7 @@ OF_PAIRS = {  # of a function with two environments
     "mixes-environments": "an answer counts for the invocation of the other environment",
     "ends-both-environments": "the failure of an extension ends both",
     "shares-extensions": "an extension is known to the other environment",
+    "times-out-both-environments": "the timeout of an invocation ends both",
 }
 LIBERTIES = {  # what Lambda's pages leave open
     "refuses-reports-at-end": "an extension's report to an environment that is ending is refused",

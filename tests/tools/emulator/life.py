@@ -69,7 +69,10 @@ class Life:
 
     def _look(self):
         """Whether all have asked."""
-        ready = self.poll and ("misses-readiness" in self.faults or all(one.poll for one in self.extensions.values()))
+        if "forgets-the-deadline" in self.faults and self.phase == "busy" and self.answered:
+            self._no_clock()
+        careless = "misses-readiness" in self.faults or "waits-for-no-extension" in self.faults and self.answered
+        ready = self.poll and (careless or all(one.poll for one in self.extensions.values()))
         if ready and (self.phase == "starting" or self.phase == "busy" and self.answered):
             waits = self.invocation if self.phase == "starting" else None
             self.phase, self.invocation = "idle", None
@@ -119,6 +122,11 @@ class Life:
             return body
 
     def _timed_out(self):
+        if "times-out-both-environments" in self.faults:
+            for life in self.all:
+                if life is not self and life.phase != "closing":
+                    life._fail({"errorType": "Sandbox.Timedout", "errorMessage": "Task timed out"})
+                    life._close("timeout")
         self.late = self.invocation.id
         if not self.answered:
             self._fail({"errorType": "Sandbox.Timedout",

@@ -15,7 +15,7 @@ import random
 import signal
 import socket
 import time
-from typing import List, Set, Tuple
+from typing import Iterable, List, Set, Tuple
 
 from ...service import Fault, program_path
 from ...usage import parser_of
@@ -23,7 +23,7 @@ from ..clock import CLOCK
 from ..run import Parser, ended_by_signal, seconds
 from .calls import Call
 from .course import ANSWER_SECONDS, SURELY, Course, Difference, Played, Unrecoverable
-from .incomplete import not_refused_by
+from .incomplete import REQUESTS, Incomplete, invokes, not_refused_by
 from .known import KnownDifferences
 from .minimise import BUDGET, Undecided, confirmed, minimised
 from .oracle import FRESH, WARM, Oracle, Plan, counts_at, left_polls
@@ -91,13 +91,11 @@ class Run:
         self.report.undecided = len(self.undecided)
 
     def all_sequences(self) -> None:
-        if self.options.second:
-            self.play(pairs_of(self.oracle), False)
-            return
-        for one in not_refused_by(self.course):
-            if not self.over():
-                self.report.takes(one)
         with_timeouts = self.oracle.timeout <= MOST_TIMEOUT
+        if self.options.second:
+            self.play(pairs_of(self.oracle, with_timeouts), False)
+            return
+        self._refused(REQUESTS)
         share = 0.0
         for start, until in ((FRESH, FRESH_SHARE), (WARM, 1.0)):
             self.play(plans_of(worked(start), self.oracle), False)
@@ -105,8 +103,16 @@ class Run:
                 self.play(plans_of(timed(start), self.oracle), False)
             self._random(start, share, until)
             share = until
+            if start == FRESH:
+                self._refused(invokes(self.tested))
         if not with_timeouts:
             self.report.write(f"left out: sequences with a timeout, since it is {self.oracle.timeout} s")
+
+    def _refused(self, requests: Iterable[Incomplete]) -> None:
+        """Requests that are to be refused; what is not is reported."""
+        for one in not_refused_by(self.course, () if self.over() else requests):
+            if not self.over():
+                self.report.takes(one)
 
     def _random(self, start: str, share: float, until: float) -> None:
         """Random sequences until their share of the number or of the time is used up."""

@@ -3,14 +3,14 @@ to."""
 import contextlib
 import math
 import time
-from typing import Dict, List, NamedTuple, Optional, Sequence, Tuple, cast
+from typing import Dict, List, NamedTuple, Optional, Sequence, Set, Tuple, cast
 
 from ...history.entries import count_in
 from ...history.words import Word
 from ..clock import CLOCK
 from .calls import POLLS, Call, Ids
 from .judge import Aspect, Judge, label_of, shown
-from .known import WAITS, KnownDifferences
+from .known import AFTER_ANSWER, WAITS, KnownDifferences
 from .oracle import FRESH, WARM, Plan
 from .tested import Tested
 from .wire import Exchange, Wire
@@ -28,6 +28,7 @@ CLOCKS = 100  # milliseconds by which the service's clock may differ from this o
 LEARNED = 5  # times that the timeout is looked for, if the deadline comes too late to tell
 OF_INIT = ("register", "init-failure", "ext-init-failure")  # calls that an environment takes in its Init alone
 NO_ROUTE = "/conformance/no/such/route"
+NOT_READY = "no answer: an extension has not asked for its next event"
 PROBE = Call("invoke", "probe", ("={}",))
 
 
@@ -179,6 +180,9 @@ class Course:
                     return (place, label, aspect), True
                 parted = parted or (aspect.parts and label != "Container")
             if parted:  # (the other answers of this step may be others for that reason)
+                early = _delivered_early(plan, exchanges, over | set(here)) if label == AFTER_ANSWER else None
+                if early is not None and not self.known.accepts(("next", WAITS, "answered")):
+                    return (early, WAITS, Aspect("answered", shown(exchanges[early]), NOT_READY, True)), True
                 break
         return None, parted
 
@@ -266,10 +270,11 @@ class Course:
         self.ids = {(True, "probe"): identifier} if identifier else {}
         return identifier
 
-    def answer_to(self, method: str, path: str, headers: Sequence[Tuple[str, str]], body: Optional[bytes]) -> Exchange:
-        """What comes for a request from the environment that is answered at once."""
+    def answer_to(self, address: Tuple[str, int], method: str, path: str, headers: Sequence[Tuple[str, str]],
+                  body: Optional[bytes]) -> Exchange:
+        """What comes for a request that is answered at once."""
         self.calls += 1
-        exchange = self.wire.send(self.tested.runtime, method, path, headers, body)
+        exchange = self.wire.send(address, method, path, headers, body)
         self.wire.collect([exchange], ANSWER_SECONDS)
         self._outlast([] if exchange.over else [exchange])
         return exchange
@@ -303,6 +308,13 @@ def timeout_between(least: float, most: float) -> Optional[int]:
     """The whole seconds between these milliseconds; none if there are several, or none."""
     first, last = math.ceil((least - CLOCKS) / 1000), math.floor((most + CLOCKS) / 1000)
     return first if first == last else None
+
+
+def _delivered_early(plan: Plan, exchanges: Dict[int, Exchange], answered: Set[int]) -> Optional[int]:
+    """The place of a runtime's Next that got an invocation although its environment is not free: an extension has not
+    asked. (Another environment may take the invocation, or it may wait.)"""
+    return next((place for place, exchange in exchanges.items() if plan.sequence.calls[place].kind == "next"
+                 and place not in answered and exchange.status == 200), None)
 
 
 def since(begun: float, moment: Optional[float] = None) -> int:

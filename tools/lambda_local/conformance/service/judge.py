@@ -8,6 +8,7 @@ from ..clock import CLOCK
 from ..pages import (EXTENSION_EXIT_ERROR, EXTENSION_INIT_ERROR, EXTENSION_NEXT, INIT_ERROR, INIT_PHASE, INVOKE_ERROR,
                      NEXT, REGISTER, RESPONSE, Page)
 from .calls import NEVER_GIVEN, Call, Ids
+from .known import AFTER_ANSWER
 from .oracle import Given, Plan
 from .wire import Exchange
 
@@ -15,6 +16,7 @@ Pair = Tuple[str, Any, Any]  # a name, what came, and what is expected
 
 INVOKE = Page("AWS Lambda API Reference, Invoke", "Response Elements",
               "https://docs.aws.amazon.com/lambda/latest/api/API_Invoke.html")
+INVOKE_ERRORS = INVOKE._replace(part="Errors")
 PAGES = {"invoke": INVOKE, "next": NEXT, "response": RESPONSE, "response-too-large": RESPONSE, "failure": INVOKE_ERROR,
          "init-failure": INIT_ERROR, "register": REGISTER, "ext-next": EXTENSION_NEXT,
          "ext-init-failure": EXTENSION_INIT_ERROR, "ext-exit-failure": EXTENSION_EXIT_ERROR}
@@ -59,7 +61,7 @@ def label_of(given: Given, answered_before: bool, asked_before: bool) -> str:
     if answer.word is Word.ERROR and given.cause == "init-failure":
         return "error-of-init"
     if answer.word is Word.THROTTLED and answered_before:
-        return "throttled-after-answer"
+        return AFTER_ANSWER
     if answer.word is Word.ACCEPTED and given.cause.endswith("init-failure") and asked_before:
         return "accepted-after-next"
     return str(answer.word)

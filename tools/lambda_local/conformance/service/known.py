@@ -7,6 +7,7 @@ from typing import Dict, List, NamedTuple, Optional, Tuple
 from ...service import Fault
 
 WAITS = "waits"  # the label of a call that the definitions do not answer yet
+AFTER_ANSWER = "throttled-after-answer"  # and of an Invoke that finds an environment with an answer, and not free yet
 
 
 class Known(NamedTuple):
@@ -29,7 +30,7 @@ BUILT_IN = (
     *(Known(("*", f"{taken}-after-leave", "*"), "a Next whose connection ends")
       for taken in ("registered", "accepted")),
     Known(("invoke", "error-of-init", "connection"), "a failed Init"),
-    Known(("invoke", "throttled-after-answer", "*"), "an environment that has answered and not asked again"),
+    Known(("invoke", AFTER_ANSWER, "*"), "an environment that has answered and not asked again"),
 )
 # The points that comparing takes into account without a line above.
 COMPARED_LOOSELY = ("a timeout", "the greatest response", "a report of an extension (`init/error`, `exit/error`)",

@@ -61,6 +61,24 @@ an environment that fails
   @2 ext-exit-failure y REPORT
   init-failure REPORT
   @2 init-failure REPORT
+a timeout in one environment
+  register x =one is
+  ext-next x
+  next
+  invoke a =1
+  @2 register y =two is
+  @2 ext-next y
+  @2 next
+  wait
+  ext-next x
+  ext-next x
+  invoke b =2
+  @2 ext-next y
+  @2 response b =3
+  @2 next
+  @2 ext-exit-failure y REPORT
+  init-failure REPORT
+  @2 init-failure REPORT
 extensions of the same name
   register x =probe i
   @2 register y =probe i
@@ -72,7 +90,8 @@ extensions of the same name
 """.replace("  BOTH BEGIN\n", BOTH_BEGIN).replace("  BOTH END\n", BOTH_END)
 
 
-def pairs_of(oracle: Oracle) -> List[Plan]:
-    """Plans of these."""
+def pairs_of(oracle: Oracle, with_timeouts: bool = True) -> List[Plan]:
+    """Plans of these, with those that wait for a timeout or without."""
     return [plan for plan in oracle.plans(sequences_of(PAIRS, FRESH))
-            if playable(plan) == plan.sequence and not plan.waiting()]
+            if playable(plan) == plan.sequence and not plan.waiting()
+            and (with_timeouts or all(call.kind != "wait" for call in plan.sequence.calls))]

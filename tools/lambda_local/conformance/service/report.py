@@ -6,7 +6,7 @@ from ... import junit
 from ...service import Fault
 from ..pages import INIT_ERROR, Page
 from .course import Course, Difference
-from .incomplete import REFUSALS, NotRefused
+from .incomplete import NotRefused
 from .judge import page_of
 from .oracle import WARM, Sequence
 
@@ -43,8 +43,8 @@ class Report:
         self.write("      (no sequence can be played without it)")
 
     def takes(self, one: NotRefused) -> None:
-        """A request that lacks what its page requires."""
-        statuses = " or ".join(map(str, REFUSALS))
+        """A request that its page refuses."""
+        statuses = " or ".join(map(str, one.refusals))
         self._differs(" ".join(one.words), f"{cut(one.theirs)} instead of {statuses}", one.page)
 
     def _differs(self, words: str, how: str, page: Page) -> None:

@@ -263,6 +263,17 @@ a timeout with extensions
   wait
   ext-next x
   response a =2
+an extension that has not asked again at the timeout
+  register x =probe i
+  register y =other s
+  ext-next y
+  ext-next x
+  next
+  invoke a =1
+  response a =2
+  next
+  wait
+  ext-next y
 an Init that is longer than the timeout
   register x =probe -
   ext-next x
