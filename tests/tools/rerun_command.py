@@ -12,6 +12,7 @@ import sys
 import tempfile
 import threading
 import xml.etree.ElementTree as ElementTree
+from unittest import mock
 
 from lambda_local.configuration import Members
 from lambda_local.rerun import command
@@ -47,10 +48,11 @@ SALT = 77
 
 
 def recorded_history():
-    """What a service of one function answers whose runtime is this process."""
-    service = Service(
-        {"account": "123456789012", "region": "us-east-1", "salt": SALT,
-         "functions": [{"name": "f", "ports": [0], "timeout": 900}]})
+    """What a service of one function answers whose runtime is this process, and may be a while asking again."""
+    with mock.patch.dict(os.environ, LAMBDA_LOCAL_PATIENCE_MS="2000"):
+        service = Service(
+            {"account": "123456789012", "region": "us-east-1", "salt": SALT,
+             "functions": [{"name": "f", "ports": [0], "timeout": 900}]})
     port = service.configuration["functions"][0]["ports"][0]
     path = "/2018-06-01/runtime/invocation/"
 
@@ -67,8 +69,9 @@ def recorded_history():
         thread = threading.Thread(target=serve)
         thread.start()
         for place, fails in enumerate(("never", "new", "old")):
-            ask(service.port, "POST", "/2015-03-31/functions/f/invocations", json.dumps({"n": place, "fails": fails}),
-                timeout=600)
+            status, _, _ = ask(service.port, "POST", "/2015-03-31/functions/f/invocations",
+                               json.dumps({"n": place, "fails": fails}), timeout=600)
+            assert status == 200, f"invocation {place} is answered {status}"
         thread.join()
         return service.history()
     finally:
