@@ -3,11 +3,9 @@ show, and the timeline. FAILs of one cause are told once and then counted."""
 import argparse
 import itertools
 import os
-import subprocess
 from typing import Any, Callable, Dict, Iterable, List, Optional, Set
 
 from .. import junit
-from ..paths import tool
 from ..service import Fault
 from .causes import Causes
 from .clock import CLOCK
@@ -16,15 +14,19 @@ from .kit import FAIL, NOTE, PASS, SHOULD, Verdict
 LINES, WIDTH = 24, 200  # of a timeline as text, and lines of what the kit did
 
 
-def draw(history: str, *options: Any) -> str:
-    """What lambda_local timeline writes of a history."""
-    done = subprocess.run([*tool("timeline"), *options], input=history.encode(), capture_output=True)
-    return done.stdout.decode(errors="replace")
+def draw(history: str, *words: str) -> str:
+    """What lambda_local timeline writes of a history, asked for by these words."""
+    from ..timeline.command import drawn  # (which takes a moment, and only a FAIL is drawn)
+    try:
+        return drawn(history, *words)
+    except (Fault, OSError) as fault:
+        return f"(not drawn: {fault})"
 
 
-def text_timeline(history: str) -> List[str]:
+def text_timeline(history: str, *words: str) -> List[str]:
     """The timeline of a history as lines that are neither too long nor too many."""
-    return shortened(line if len(line) <= WIDTH else line[:WIDTH] + "\u2026" for line in draw(history).splitlines())
+    return shortened(line if len(line) <= WIDTH else line[:WIDTH] + "\u2026"
+                     for line in draw(history, *words).splitlines())
 
 
 def shortened(lines: Iterable[str]) -> List[str]:
@@ -43,6 +45,7 @@ class Report:
 
     def __init__(self, name: str, options: argparse.Namespace, write: Callable[[str], Any] = print) -> None:
         self.write, self.pictures, self.junit_path = write, options.pictures, options.junit
+        self._program = ["--program", options.program] if options.program else []
         self.strict, self._causes = options.strict, Causes()
         self._again: Dict[str, List[str]] = {}  # by the names of checks: others that failed for the same cause
         self._timelines: Set[str] = set()
@@ -108,7 +111,7 @@ class Report:
                 lines.append("timeline  as above")
             else:
                 self._timelines.add(verdict.scenario)
-                lines += ["timeline", *("  " + line for line in text_timeline(verdict.seen.history))]
+                lines += ["timeline", *("  " + line for line in text_timeline(verdict.seen.history, *self._program))]
             if self.pictures:
                 lines.append(f"picture   {self._picture(verdict)}")
         return lines
@@ -117,7 +120,7 @@ class Report:
         """One of each scenario."""
         path = os.path.join(self.pictures, f"{verdict.scenario}.svg")
         if path not in self._drawn:
-            self._drawn[path] = draw(verdict.seen.history or "", "--svg")
+            self._drawn[path] = draw(verdict.seen.history or "", "--svg", *self._program)
             with open(path, "w", encoding="utf-8") as file:
                 file.write(self._drawn[path])
         return path

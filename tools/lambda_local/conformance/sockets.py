@@ -1,4 +1,5 @@
 """Which process has a connection open, and on which ports processes listen, by what the system says in /proc."""
+import itertools
 import os
 from typing import Iterable, Iterator, List, Optional, Set
 
@@ -13,15 +14,18 @@ def owner_of(port: int, peer_port: int, processes: Iterable[int]) -> Optional[in
     return next((process for process in processes if inode and inode in sockets_of(process)), None)
 
 
-def lines_of_sockets() -> Iterator[List[str]]:
-    """The words of each line about a TCP socket."""
+def lines_of_sockets(listen: bool = False) -> Iterator[List[str]]:
+    """The words of each line about a TCP socket, or about those that listen, which come first: there may be very many
+    others, and the system writes no more than is read."""
     for name in ("tcp", "tcp6"):
         try:
             with open(f"/proc/net/{name}") as file:
-                lines = file.read().splitlines()[1:]
+                for words in map(str.split, itertools.islice(file, 1, None)):
+                    if listen and words[3] != LISTENS:
+                        break
+                    yield words
         except OSError:
             continue
-        yield from map(str.split, lines)
 
 
 def port_of(word: str) -> int:
@@ -37,7 +41,7 @@ def inode_of(port: int, peer_port: int) -> Optional[str]:
 def chosen_ports(processes: Iterable[int]) -> List[int]:
     """The ports on which these processes listen, and which they have chosen: the system gives higher ones."""
     own = set().union(*map(sockets_of, processes))
-    ports = {port_of(words[1]) for words in lines_of_sockets() if words[3] == LISTENS and words[9] in own}
+    ports = {port_of(words[1]) for words in lines_of_sockets(listen=True) if words[9] in own}
     return sorted(port for port in ports if port < first_ephemeral())
 
 

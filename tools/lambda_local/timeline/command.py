@@ -43,6 +43,7 @@ from .window import Moment, Window
 from .world import World
 
 Closing = List[Callable[[], object]]
+Say = Callable[[str], object]
 MOST_DRAWN, MOST_LIVE = 1000, 300  # calls in a drawing, and on a live page, if nothing else is asked
 DIFFERS = "differs"
 
@@ -58,15 +59,16 @@ def moment(word: str) -> Moment:
     return Moment(int(match[2]), False)
 
 
-def arguments() -> argparse.Namespace:
+def arguments(words: Optional[Sequence[str]] = None) -> argparse.Namespace:
+    """What is asked for, by these words or those of the command line."""
     parser = parser_of("timeline", __doc__)
     form = parser.add_mutually_exclusive_group()
-    for name, words in (("text", "one line an event (the default)"),
-                        ("trace", "trace-event JSON for Perfetto and chrome://tracing"),
-                        ("html", "one self-contained page"), ("svg", "the drawing alone"),
-                        ("otlp", "OpenTelemetry's traces as OTLP/JSON: a span for each invocation, Init and "
-                                 "shutdown")):
-        form.add_argument(f"--{name}", dest="form", action="store_const", const=name, help=words)
+    for name, meaning in (("text", "one line an event (the default)"),
+                          ("trace", "trace-event JSON for Perfetto and chrome://tracing"),
+                          ("html", "one self-contained page"), ("svg", "the drawing alone"),
+                          ("otlp", "OpenTelemetry's traces as OTLP/JSON: a span for each invocation, Init and "
+                                   "shutdown")):
+        form.add_argument(f"--{name}", dest="form", action="store_const", const=name, help=meaning)
     parser.add_argument("-o", metavar="FILE", dest="output", help="write there; .html, .json and .svg choose the form")
     given = parser.add_mutually_exclusive_group()
     given.add_argument("--program", metavar="P",
@@ -87,7 +89,7 @@ def arguments() -> argparse.Namespace:
     parser.add_argument("--scale", choices=("entries", "time"), default="entries",
                         help="a place for each entry, or an axis true to scale")
     parser.add_argument("input", nargs="?", default="-", help="a history or a script (standard input)")
-    chosen = parser.parse_args()
+    chosen = parser.parse_args(words)
     by_name = {".html": "html", ".json": "trace", ".svg": "svg"}
     chosen.form = chosen.form or by_name.get(os.path.splitext(chosen.output or "")[1], "text")
     if chosen.limit is not None and chosen.limit < 1:
@@ -119,13 +121,13 @@ def watched(entries: Iterable[Entry]) -> Iterator[Entry]:
         yield entry
 
 
-def opened_script(chosen: argparse.Namespace, closing: Closing) -> Tuple[Script, bool]:
+def opened_script(chosen: argparse.Namespace, closing: Closing, say: Say, data: Optional[bytes]) -> Tuple[Script, bool]:
     """What is read, and whether it is a history: then a line that is cut off is left out."""
-    script = Script(chosen.input)
+    script = Script(chosen.input, data)
     closing.append(script.close)
     is_history = script.configuration.is_of_a_history and not (chosen.answers or chosen.script)
     if is_history and (cut := script.leave_out_cut_line()):
-        print(f"timeline: line {cut} has no end, so it may be cut off; it is left out", file=sys.stderr)
+        say(f"line {cut} has no end, so it may be cut off; it is left out")
     return script, is_history
 
 
@@ -170,8 +172,14 @@ def differences(script: Script, program: str) -> Tuple[str, str]:
     return DIFFERS, f"This history differs from its replay: {words}. What is shown is the replay."
 
 
-def run(chosen: argparse.Namespace, write: Callable[[str], object], closing: Closing) -> None:
-    script, is_history = opened_script(chosen, closing)
+def tell(words: str) -> None:
+    print(f"timeline: {words}", file=sys.stderr)
+
+
+def run(chosen: argparse.Namespace, write: Say, closing: Closing, say: Say = tell,
+        data: Optional[bytes] = None) -> None:
+    """Writes what is asked for, of these bytes if there are some, and says what is to be said beside it."""
+    script, is_history = opened_script(chosen, closing, say, data)
     configuration, limit = script.configuration, chosen.limit
     log: List[str] = []
 
@@ -197,7 +205,19 @@ def run(chosen: argparse.Namespace, write: Callable[[str], object], closing: Clo
         if chosen.form == "text" and kind == DIFFERS:
             write(words + "\n")
         elif kind:
-            print(f"timeline: {words}", file=sys.stderr)
+            say(words)
+
+
+def drawn(history: str, *words: str) -> str:
+    """What it writes of a history, asked for by these words. Raises what ends it."""
+    written: List[str] = []
+    closing: Closing = []
+    try:
+        run(arguments(words), written.append, closing, lambda _: None, history.encode())
+    finally:
+        for close in closing:
+            close()
+    return "".join(written)
 
 
 def main() -> int:
