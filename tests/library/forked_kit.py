@@ -21,7 +21,9 @@ import traceback
 from typing import Any, Set
 
 from lambda_local.conformance import command, extension, process, runtime, service  # noqa: F401 (before the forks)
+from lambda_local.conformance import watch
 from lambda_local.guard import GUARD
+from lambda_local.timeline import command as timeline  # noqa: F401 (so)
 
 MOST = 1_000_000  # bytes of a message
 ANSWERED_SECONDS = 60  # in which a process has been forked
@@ -146,9 +148,10 @@ def fork_kits(channel, programs):
             running.append(number)
             for handle in handles:
                 os.close(handle)
-    for number in running:
+    for number in running:  # (one that has ended may have given its number to a process of others)
         with contextlib.suppress(ProcessLookupError, PermissionError):
-            os.killpg(number, signal.SIGTERM)
+            if watch.parent_of(number) == os.getpid():
+                os.killpg(number, signal.SIGTERM)
     os._exit(0)
 
 

@@ -2,8 +2,8 @@
 some in the shapes of AWS's own clients; each wrong one is caught by the check named after its mistake, and by no other.
 The program is LAMBDA_LOCAL_PROGRAM, else ./lambda_local.
 
-Each wrong one is run with the scenarios of its own check, and one of sixteen with all: each day others.
-With CONFORMANCE_WHOLE=1 all are, which takes ten minutes.
+Each wrong one is run with the scenarios of its own check, and one of thirty-two with all; so is one of three that are
+in the shapes of clients: each day others. With CONFORMANCE_WHOLE=1 all are, which takes ten minutes.
 CONFORMANCE_ONLY names mistakes that alone are tried, or `sound` or `shipped`."""
 import concurrent.futures
 import os
@@ -34,9 +34,9 @@ OF_TELEMETRY = [one.name for part in (extension.telemetry, extension.delivery, e
                                         extension.last_batches) for scenario in part.SCENARIOS
                 for one in scenario.checks]
 AT_ONCE = 6 * max(2, len(os.sched_getaffinity(0)))  # runs of the kit, each of which waits most of its time
-EACH = 16  # wrong programs, of which one is run with all scenarios
-TODAY = int(time.time() // 86400) % EACH  # which one of these
 WHOLE, CHOSEN = "CONFORMANCE_WHOLE" in os.environ, os.environ.get("CONFORMANCE_ONLY", "").split()
+EACH, EACH_SHAPE = 32, 1 if CHOSEN else 3  # wrong programs, and sound ones, of which one is run with all scenarios
+TODAY = int(time.time() // 86400)  # which one of these, counted round
 PYTHON = [sys.executable, "-S"]  # (it starts in half the time)
 TOOL = [*PYTHON, os.path.join(ROOT, "tools"), "conformance"]
 
@@ -115,7 +115,8 @@ def shipped_runtime(*command):
 
 
 def other_runtime(*command):
-    return Run("runtime", "--invocations", "100", "--idle-seconds", "2", "--", *command, is_forked=True)
+    invocations = "24" if command[0].endswith(".sh") else "60"  # (a shell takes its time)
+    return Run("runtime", "--invocations", invocations, "--idle-seconds", "2", "--", *command, is_forked=True)
 
 
 def other_extension(*command):
@@ -133,6 +134,11 @@ def shipped():
     if shutil.which("curl"):
         found.append(("runtime.sh", [os.path.join(EXAMPLES, "runtime.sh")]))
     return found
+
+
+def of_today(several, each):
+    """One of so many of these, each day others; all if all are wanted."""
+    return [one for place, one in enumerate(several) if WHOLE or (place - TODAY) % each == 0]
 
 
 def in_shapes():
@@ -169,11 +175,11 @@ def subscriber(name):
                *PYTHON, os.path.join(SHAPES, "subscribers.py"), name, is_forked=True)
 
 
-def in_java(kind):
+def in_java(kind, *options):
     """A client in the shape of Java's, with one of its two libraries for HTTP, and a heap as it is by default."""
     with tempfile.TemporaryDirectory() as folder:
         subprocess.run(["javac", "-d", folder, os.path.join(SHAPES, "JavaRuntime.java")], check=True, timeout=300)
-        return Run("runtime", "--", "java", "-cp", folder, "JavaRuntime", kind)
+        return Run("runtime", *options, "--", "java", "-cp", folder, "JavaRuntime", kind)
 
 
 def shipped_extension():
@@ -211,26 +217,33 @@ class Job(NamedTuple):
         return self, pool.submit(self.start, *self.arguments)
 
 
-def jobs():
-    """All of them. First come those that take longest: so none of them is the last one to begin."""
-    if shutil.which("go"):
-        yield Job("shipped", in_go, (), "passes", ("conformance.go",))
+def jobs_of_shapes():
+    """Those of clients as there are."""
     if shutil.which("javac"):
-        for kind in ("new", "old"):
-            yield Job("sound", in_java, (kind,), "passes", (f"a Java client ({kind})",))
-    for name, command in shipped():
-        yield Job("shipped", shipped_runtime, command, "passes", (name,))
-    yield Job("shipped", shipped_extension, (), "passes", ("extension.py",))
+        for kind, options in (("new", ("--invocations", "100")), ("old", ())):
+            yield Job("sound", in_java, (kind, *options), "passes", (f"a Java client ({kind})",))
     for name, command in in_shapes():
         yield Job("sound", other_runtime, command, "passes", (name,))
     for name, command in extensions_in_shapes():
         yield Job("sound", other_extension, command, "passes", (name,))
+
+
+def jobs():
+    """All of them. First come those that take longest: so none of them is the last one to begin."""
+    if shutil.which("go"):
+        yield Job("shipped", in_go, (), "passes", ("conformance.go",))
+    for name, command in shipped():
+        yield Job("shipped", shipped_runtime, command, "passes", (name,))
+    yield Job("shipped", shipped_extension, (), "passes", ("extension.py",))
+    yield from of_today(jobs_of_shapes(), EACH_SHAPE)
     yield Job("sound", sound_runtime, (), "passes", ("the sound runtime", {"numbers", *LEAKS}))
-    yield Job("sound", sound_extension, (), "passes", ("the sound extension", {"takes_logs", "takes_in_shutdown"}))
+    yield Job("sound", sound_extension, (), "passes",
+              ("the sound extension", {"takes_logs", "takes_in_shutdown", *LEAKS}))
     for name, shape in subscribers.SHAPES.items():
-        yield Job("sound", subscriber, (name,), "passes", (f"an extension that {name}", shape.leaves_open))
-    mistakes = [(kind, mistake, (WHOLE or place % EACH == TODAY) and not hasattr(mistake, "beside"))
-                for kind in KINDS for place, mistake in enumerate(kind.mistakes.values())]
+        yield Job("sound", subscriber, (name,), "passes",
+                  (f"an extension that {name}", {*shape.leaves_open, "takes_in_shutdown"}))
+    mistakes = [(kind, mistake, mistake in of_today(kind.mistakes.values(), EACH) and not hasattr(mistake, "beside"))
+                for kind in KINDS for mistake in kind.mistakes.values()]
     for one, mistake, is_whole in sorted(mistakes, key=lambda each: (not hasattr(each[1], "settings"), not each[2])):
         yield Job(mistake.__name__, wrong, (one, mistake, is_whole), "caught", (one, mistake))
 

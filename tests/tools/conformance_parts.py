@@ -5,6 +5,9 @@ import contextlib
 import http.server
 import itertools
 import math
+import signal
+import subprocess
+import sys
 import threading
 import time
 from types import SimpleNamespace
@@ -38,18 +41,23 @@ STARVED = 3.0  # seconds in which a service does nothing: longer than an answer 
 IDENTIFIER = "00000000-0000-4000-8000-000000000001"
 
 
-def held(memory):
-    return Holds(int(memory), 10, 4, 1, 0)
+def held(memory, left=0):
+    return Holds(int(memory), 10, 4, 1 + left, 0)
+
+
+def looks_at(memory_after, requests, left=lambda done: 0):
+    """At a process that holds so much memory, and so many processes more, after so many requests."""
+    process = SimpleNamespace(done=0)
+    process.holds = lambda: held(memory_after(process.done), left(process.done))
+    looks = leaks.Looks(cast(Process, process))
+    for process.done in range(PART, requests + 1, PART):
+        looks.look(process.done)
+    return looks
 
 
 def grown(memory_after, requests):
     """How many bytes for each request a process has kept that holds so much after so many requests."""
-    process = SimpleNamespace(done=0)
-    process.holds = lambda: held(memory_after(process.done))
-    looks = leaks.Looks(cast(Process, process))
-    for process.done in range(PART, requests + 1, PART):
-        looks.look(process.done)
-    return looks.leaks(1000)
+    return looks_at(memory_after, requests).leaks(1000)
 
 
 class Leaks(Case):
@@ -67,23 +75,46 @@ class Leaks(Case):
                 ("so many, of as few as it takes to tell", lambda done: 65_536 * done, leaks.MANY)):
             self.check(f"{name} is a leak", grown(memory_after, requests) > 3000)
         for name, memory_after in (
-                ("700 bytes of each request", lambda done: 700 * done),
-                ("so many, which are taken four thousand at a time", lambda done: 700 * done // 4096 * 4096),
-                ("so many, beside what a small heap is filled with",
-                 lambda done: 700 * done + done * 5000 % 100_000)):
-            self.check(f"{name} is a leak after long", 400 < grown(memory_after, 6000) < 1200)
-            self.check(f"{name} is none that is seen early", grown(memory_after, 2000), 0)
+                ("700 bytes of each request, in whole pages", lambda done: 700 * done // 4096 * 4096),
+                ("150 bytes of each request", lambda done: 150 * done)):
+            self.check(f"{name} is a leak", 100 < grown(memory_after, 2000) < 1200)
+        beside_a_heap = [grown(lambda done: 700 * done + done * 5000 % 100_000, requests) for requests in (2000, 6000)]
+        self.check("700 bytes of each, beside what a small heap is filled with, are a leak after long",
+                   [each > 400 for each in beside_a_heap], [False, True])
         for name, memory_after, requests in (
                 ("a heap that is filled before it is collected", lambda done: min(filled, 50_000 * done), 4000),
                 ("one that is filled and collected again and again", lambda done: done * 65_536 % filled, 4000),
                 ("one that grows until half of the requests", lambda done: 6_000 * min(done, 2000), 4000),
                 ("one that grows less and less", lambda done: 40_000_000 * (1 - 0.5 ** (done / 500)), 4000),
-                ("one that grows by little in all", lambda done: 200 * done, 4000),
+                ("one that grows by very little in all", lambda done: 30 * done, 4000),
+                ("one that falls back now and then", lambda done: 200 * done - done % 1000 // 900 * 30_000, 4000),
                 ("one that grows by little, less and less", lambda done: 900_000 * math.log(1 + done), 8000),
                 ("one that grows by little at some times", lambda done: 2_000_000 * (done // 1500), 6000),
                 ("a collected heap that grows towards its own limit", lambda done: 16_700 * min(done, 5000), 10_000),
                 ("one of few requests", lambda done: 65_536 * done, leaks.MANY - PART)):
             self.check(f"{name} is no leak", grown(memory_after, requests), 0)
+
+    def test_what_is_counted(self):
+        for name, left, requests, outcome in (
+                ("a process for each of few requests", lambda done: done, 2 * PART, FAIL),
+                ("one for each second of them", lambda done: done // 2, 2 * PART, FAIL),
+                ("as many as a pool has, of few requests", lambda done: min(done, 32), 2 * PART, NOTE),
+                ("one for each of many", lambda done: done, 1000, FAIL),
+                ("a pool's, of many", lambda done: min(done, 32), 1000, PASS)):
+            self.check(f"{name}: {outcome}", looks_at(lambda _: 1, requests, left).counted("processes")[0], outcome)
+
+    def test_of_slow_processes(self):
+        """One that is asked a thousand times, or as often as there is time for, is looked at often enough to judge,
+        unless that is very seldom."""
+        for each, wanted in ((1 / 1024, (1025, PASS)), (1 / 32, (12 * 17, PASS)), (1 / 8, (10 * 5, NOTE))):
+            now = [0.0]
+
+            def once(_, each=each, now=now):
+                now[0] += each
+            process = cast(Process, SimpleNamespace(holds=lambda: held(1_000_000)))
+            with mock.patch.object(leaks.CLOCK, "now", lambda now=now: now[0]):
+                looks = leaks.repeat(process, once, leaks.Course(1000, 6, 1000, 0, leaks.SUSPECT))
+            self.check(f"of one that takes {each} s for each", (looks.done, looks.counted("descriptors")[0]), wanted)
 
 
 class OwnTime(Case):
@@ -325,6 +356,23 @@ class Delivering(http.server.BaseHTTPRequestHandler):
 
     def log_message(self, *_):
         pass
+
+
+class NumbersThatComeAgain(Case):
+    def test_what_has_the_number_of_an_ended_command(self):
+        for name, later, wanted in (("another process that has its number by now is left alone", 1, None),
+                                    ("its own is ended", 0, -signal.SIGKILL)):
+            other = subprocess.Popen([sys.executable, "-S", "-c", "input()"], stdin=subprocess.PIPE,
+                                     start_new_session=True)
+            ended = Process.__new__(Process)
+            ended._child, ended._mark, ended._gone = other, b"AWS_LAMBDA_RUNTIME_API=none", lambda process: None
+            ended._began_at, ended._ended = (watch.begun_at(other.pid) or 0) - later, threading.Event()
+            ended._ended.set()
+            ended.kill()
+            time.sleep(0.1)
+            self.check(f"of a command that has ended {name}", other.poll(), wanted)
+            other.kill()
+            other.communicate()
 
 
 class PlayedRuntime(Case):

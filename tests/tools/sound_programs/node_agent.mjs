@@ -25,7 +25,7 @@ function ask(method, route, body, headers = {}) {
 }
 
 const reportOf = (fault) => ({
-  errorType: fault?.name ?? "Error", errorMessage: fault?.message ?? String(fault),
+  errorType: fault?.name ?? "Error", errorMessage: (fault?.message ?? String(fault)).replace(/\x7f/g, "%7F"),
   trace: (fault?.stack ?? "").split("\n"),
 });
 const postError = (route, fault) => {

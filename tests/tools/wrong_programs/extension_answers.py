@@ -4,6 +4,7 @@ FAIL."""
 import os
 import signal
 import sys
+import threading
 import time
 
 import shared_mistakes
@@ -65,6 +66,17 @@ class SubscribesWithoutItsIdentifier(Extension):
         self.identifier = identifier
 
 
+class SubscribesSoonAfterItsNext(Extension):
+    check = "telemetry"
+
+    def subscribe(self):
+        if not is_scenario("subscription"):
+            return super().subscribe()
+        later = Extension()
+        later.identifier = self.identifier
+        return threading.Timer(0.4, later.subscribe).start()
+
+
 class SubscribesLate(Extension):
     check, asked = "telemetry", 0
 
@@ -90,6 +102,16 @@ class SubscribesForItself(Extension):
 
 # ---- many events -----------------------------------------------------------------------------------------------------
 
+class RegistersNowAndThen(Extension):
+    check, count = "many_events", 0
+
+    def invoked(self, event):
+        super().invoked(event)
+        self.count += 1
+        if self.count % 9 == 0 and is_scenario("many_events"):
+            self.ask("POST", "/2020-01-01/extension/register", {"events": []}, {"Lambda-Extension-Name": "sound"})
+
+
 class DiesAfterFortyEvents(Extension):
     settings = {"invocations": 60}
     check, also, count = "many_events", {"memory", "descriptors", "threads", "children", "zombies", "files"}, 0
@@ -111,8 +133,8 @@ class KeepsMuchOfEachEvent(Extension):
 
 
 class KeepsATimerOfEachEvent(Extension):
-    """Some hundred bytes, which only very many events show."""
-    settings = {"invocations": None}
+    """Some hundred bytes."""
+    settings = {"invocations": 1400}
     check, timers = "memory", []
 
     def invoked(self, event):
@@ -219,6 +241,16 @@ class DiesOfAnUnknownEvent(Extension):
         self.end(1)
 
 
+class WaitsForTelemetryThatCannotCome(Extension):
+    """For the end of each invocation, also if there is no Telemetry API."""
+    check = "without_telemetry"
+
+    def invoked(self, event):
+        super().invoked(event)
+        if is_scenario("no_telemetry"):
+            threading.Event().wait()
+
+
 class DiesWithoutTelemetry(Extension):
     check = "without_telemetry"
 
@@ -233,3 +265,9 @@ class DiesWithItsConnection(shared_mistakes.DiesWithItsConnection, Extension):
 
 class GivesNextUp(shared_mistakes.GivesNextUp, Extension):
     pass
+
+
+class LeavesAnAlarm(shared_mistakes.LeavesAnAlarm, Extension):
+    def invoked(self, event):
+        super().invoked(event)
+        self.set_alarm()

@@ -66,6 +66,25 @@ class RefusesABatchThatComesAgain(EndsAtABatchThatComesAgain):
                 if batch in self.seen else super().taken(batch))
 
 
+class TakesAStartOnce(Extension):
+    """Before the end of its request."""
+    check = "takes_again"
+
+    def __init__(self):
+        super().__init__()
+        self.begun = set()
+
+    def taken(self, batch):
+        for event in batch if is_scenario("batches_again") else []:
+            if event["type"] == "platform.start":
+                if event["record"]["requestId"] in self.begun:
+                    os._exit(1)
+                self.begun.add(event["record"]["requestId"])
+            elif event["type"] == "platform.runtimeDone":
+                self.begun.discard(event["record"]["requestId"])
+        return super().taken(batch)
+
+
 class LooksForTheStartBesideTheReport(Extension):
     """Which comes in a batch of its own."""
     check = "takes_again"

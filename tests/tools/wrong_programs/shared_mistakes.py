@@ -1,6 +1,7 @@
 """Mistakes that both a runtime and an extension can make: classes to be put before Runtime or Extension."""
 import os
 import select
+import signal
 import socket
 import sys
 
@@ -43,6 +44,15 @@ def is_scenario(name):
     """Whether it is started for this scenario. (What takes too long by itself does so in one scenario: on a busy
     machine it would be too long in others too.)"""
     return os.environ["AWS_LAMBDA_FUNCTION_NAME"] == name
+
+
+class LeavesAnAlarm:
+    """That it sets for a while after an invocation, and that ends it while it waits."""
+    check, settings = "next_without_timeout", {"idle-seconds": 3}
+
+    def set_alarm(self):
+        if is_scenario("idle_for_long"):
+            signal.alarm(1)
 
 
 class GivesNextUp:

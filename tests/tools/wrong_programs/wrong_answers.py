@@ -157,6 +157,19 @@ class ReportsTheErrorBefore(Runtime):
         return self.kept
 
 
+class KeepsTheContextOfAnErrorForTheNextOne(Runtime):
+    check, failed = "after_error", None
+
+    def context(self, headers):
+        context, self.failed = self.failed or super().context(headers), None
+        self.current = context
+        return context
+
+    def fails(self, request, fault):
+        self.failed = self.current
+        super().fails(request, fault)
+
+
 class KeepsItsContextAfterAnError(Runtime):
     check, kept = "after_error", None
 

@@ -141,6 +141,12 @@ class GivesNextUp(shared_mistakes.GivesNextUp, Runtime):
     pass
 
 
+class LeavesAnAlarm(shared_mistakes.LeavesAnAlarm, Runtime):
+    def respond(self, request, output):
+        super().respond(request, output)
+        self.set_alarm()
+
+
 # ---- many invocations ------------------------------------------------------------------------------------------------
 
 class KeepsEveryEvent(Runtime):
@@ -259,7 +265,7 @@ class LeavesSmallFiles(Runtime):
 
     def context(self, headers):
         request = headers["Lambda-Runtime-Aws-Request-Id"]
-        if is_scenario("a_thousand"):
+        if is_scenario("thousands"):
             with open(os.path.join(temporary(), f"wrong_runtime.{request}.headers"), "w") as file:
                 file.write(request)
         return super().context(headers)

@@ -21,6 +21,26 @@ class EndsAfterFortyInvocations(Runtime):
             sys.exit(0)
 
 
+class RespondsTwiceNowAndThen(Runtime):
+    check, count = "many_invocations", 0
+
+    def sent(self, answer, request, output):
+        super().sent(answer, request, output)
+        self.count += 1
+        if self.count % 9 == 0 and is_scenario("thousands"):
+            self.ask("POST", f"invocation/{request}/response", b"null")
+
+
+class KeepsLargeEventsByTheirLength(Runtime):
+    check, kept = "many_invocations", {}
+
+    def read(self, payload):
+        if len(payload) < 10_000:
+            return super().read(payload)
+        return self.kept.setdefault(len(payload), super().read(payload)) if is_scenario("thousands") else (
+            super().read(payload))
+
+
 class OpensAFileForEachError(Runtime):
     check, files, settings = "descriptors", [], {"invocations": 200}
 
@@ -42,7 +62,7 @@ class KeepsItsConnections(Runtime):
     check, kept, settings = "descriptors", [], {"invocations": 100}
 
     def respond(self, request, output):
-        if isinstance(output, Parts) or not is_scenario("a_thousand"):
+        if isinstance(output, Parts) or not is_scenario("thousands"):
             return super().respond(request, output)
         other = Runtime()
         self.kept.append(other)
@@ -53,7 +73,7 @@ class ListensForEach(Runtime):
     check, kept, settings = "descriptors", [], {"invocations": 100}
 
     def read(self, payload):
-        if len(payload) > 10_000 and is_scenario("a_thousand"):
+        if len(payload) > 10_000 and is_scenario("thousands"):
             self.kept.append(socket.create_server(("127.0.0.1", 0)))
         return super().read(payload)
 
@@ -65,6 +85,15 @@ class KeepsEveryOutput(Runtime):
         body = super().dump(output)
         self.kept.append(bytearray(body))
         return body
+
+
+class KeepsALineOfEachInvocation(Runtime):
+    """Two hundred bytes."""
+    check, kept, settings = "memory", [], {"invocations": 1400}
+
+    def respond(self, request, output):
+        self.kept.append(f"{request} has an output, and that was sent".ljust(200).encode())
+        super().respond(request, output)
 
 
 class WaitsForWhatNeverEnds(Runtime):
@@ -87,7 +116,7 @@ class LogsToAFile(Runtime):
     check, settings = "files", {"invocations": 100}
 
     def read(self, payload):
-        if len(payload) > 10_000 and is_scenario("a_thousand"):
+        if len(payload) > 10_000 and is_scenario("thousands"):
             with open(os.path.join(os.environ.get("TMPDIR", "/tmp"), f"log.{time.monotonic_ns()}"), "wb") as file:
                 file.write(payload)
         return super().read(payload)

@@ -81,6 +81,15 @@ def context_fault(stage: Stage, trace: Optional[str]) -> Optional[str]:
     return remaining_fault(stage, seen.get("remaining"), answer.headers.get("x-amzn-requestid"))
 
 
+def context_fault_after(stage: Stage, trace: Optional[str]) -> Optional[str]:
+    """The same, of the invocation that follows a failure."""
+    try:
+        usable(stage)
+        return context_fault(stage, trace)
+    except Missing as missing:
+        return f"a later invocation: {missing}"
+
+
 def remaining_fault(stage: Stage, remaining: Any, request: Optional[str]) -> Optional[str]:
     """What is wrong with the remaining time that the handler saw first: it is the deadline less the moment of that
     look, which is between the delivery and the response."""

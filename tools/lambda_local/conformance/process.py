@@ -1,5 +1,6 @@
 """The command that is tested: its processes, what they write, and how they end."""
 import contextlib
+import json
 import os
 import shutil
 import signal
@@ -12,12 +13,15 @@ from typing import IO, Any, Callable, Dict, Iterator, List, NamedTuple, Optional
 from ..guard import GUARD
 from ..service import Fault
 from .sockets import chosen_ports
-from .watch import OwnTime, open_descriptors, processes_of, resident, threads_of
+from .watch import NO_SESSION, OwnTime, begun_at, open_descriptors, processes_of, resident, threads_of
 
 SHOWN = 400  # bytes of the end of what it wrote
 LOOK = 0.05  # seconds between two looks at what it does
 MEGABYTES = 128  # of a function's memory
-COLLECT_EARLY = {"NODE_OPTIONS": "--max-semi-space-size=1", "JAVA_TOOL_OPTIONS": f"-XX:MaxRAM={MEGABYTES}m"}
+# (Node collects all its garbage only after thousands of requests, unless a module has it do so.)
+COLLECTS = json.dumps(os.path.join(os.path.dirname(os.path.abspath(__file__)), "collect.cjs"), ensure_ascii=False)
+COLLECT_EARLY = {"NODE_OPTIONS": f"--max-semi-space-size=1 --require={COLLECTS}",
+                 "JAVA_TOOL_OPTIONS": f"-XX:MaxRAM={MEGABYTES}m"}
 LITTLE_HEAPS = {"DOTNET_GCHeapHardLimit": f"{MEGABYTES << 20:x}"}
 OPENED = 15  # seconds after which a stage that is being opened is not waited for any more
 
@@ -134,6 +138,7 @@ class Process:
         except OSError as fault:
             self.output.close()
             raise Fault(2, f"{command[0]} could not be started: {fault.strerror}") from None
+        self._began_at = begun_at(self._child.pid)
         self._mark = f"AWS_LAMBDA_RUNTIME_API={variables['AWS_LAMBDA_RUNTIME_API']}".encode()
         self.status = 0  # once it has ended
         self.own = OwnTime(self._child.pid)  # since it began, or since `wait` has begun
@@ -162,17 +167,27 @@ class Process:
         self.own.look()
         return True
 
+    @property
+    def _session(self) -> int:
+        """Its number; none that there is once it has ended and another process has the number, as on a machine that
+        starts many: what that one has begun is not the command's."""
+        now = begun_at(self.number) if self.ended else None
+        return self.number if now in (None, self._began_at) else NO_SESSION
+
     def signal(self, number: int) -> None:
         """Sends it to the whole group."""
+        session = self._session
+        if session == NO_SESSION:
+            return
         try:
-            os.killpg(self._child.pid, number)
+            os.killpg(session, number)
         except (ProcessLookupError, PermissionError):
             pass
 
     def kill(self) -> None:
         """Ends all its processes as Lambda does at last."""
         self.signal(signal.SIGKILL)
-        for member in processes_of(self.number, self._mark).running:
+        for member in processes_of(self._session, self._mark).running:
             try:
                 os.kill(member, signal.SIGKILL)
             except ProcessLookupError:
@@ -198,10 +213,10 @@ class Process:
 
     def chosen_ports(self) -> List[int]:
         """Those on which its processes listen, and which the system has not chosen."""
-        return chosen_ports(processes_of(self.number, self._mark).running)
+        return chosen_ports(processes_of(self._session, self._mark).running)
 
     def holds(self) -> Holds:
         """What its processes hold: bytes of memory, and how many descriptors, threads, processes and zombies."""
-        running, zombies = processes_of(self.number, self._mark)
+        running, zombies = processes_of(self._session, self._mark)
         return Holds(sum(map(resident, running)), sum(map(open_descriptors, running)),
                      sum(len(threads_of(member)) for member in running), len(running), len(zombies))

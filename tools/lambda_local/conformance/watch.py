@@ -10,6 +10,7 @@ LISTED = 2.0  # seconds for which a list of processes is used again
 BRIEF = 0.2  # seconds in which it does not matter yet
 PAGE = os.sysconf("SC_PAGE_SIZE")
 TICKS = os.sysconf("SC_CLK_TCK")  # in a second
+NO_SESSION = -1  # the number of none
 
 
 def fields(path: str) -> List[str]:

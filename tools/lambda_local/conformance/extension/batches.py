@@ -54,12 +54,14 @@ def batches_again(stage: ExtensionStage) -> None:
     if not found:
         return None
     batches = INVOCATION_OF_LOGS if found.is_of_logs else INVOCATION
-    for time, by in (("first", "as it comes first,"), ("second", "which comes a second time,")):
-        for number, batch in enumerate(batches, 1):
-            fault = found.fault_later(batch)
-            if fault:
-                return stage.check("takes_again", False, f"batch {number} of {len(batches)}, {by} {fault}")
-    return stage.check("takes_again", goes_on(stage), "it has ended after that", f"{2 * len(batches)} batches")
+    numbers = range(len(batches))
+    # (each again at once, and then all of them)
+    for number, by in [*((number, by) for number in numbers for by in ("as it comes first", "which comes again")),
+                       *((number, "which comes a third time") for number in numbers)]:
+        fault = found.fault_later(batches[number])
+        if fault:
+            return stage.check("takes_again", False, f"batch {number + 1} of {len(batches)}, {by}, {fault}")
+    return stage.check("takes_again", goes_on(stage), "it has ended after that", f"{3 * len(batches)} batches")
 
 
 @scenario(

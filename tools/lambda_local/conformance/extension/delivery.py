@@ -136,8 +136,8 @@ def goes_on(stage: "ExtensionStage") -> bool:
 
 @scenario(
     ("takes_telemetry", pages.TELEMETRY,
-     "if it subscribes to telemetry, it takes what comes: over HTTP it answers each batch with 200, also one with "
-     "events that it does not know, and goes on; one that listens nowhere on this machine is a NOTE"))
+     "if it subscribes to telemetry, it takes what comes: over HTTP it answers each batch with 200, or another 2xx, "
+     "also one with events that it does not know, and goes on; one that listens nowhere on this machine is a NOTE"))
 def batches(stage: "ExtensionStage") -> None:
     stage.begin()
     stage.idle()

@@ -12,6 +12,7 @@ scenario = scenarios_of(SCENARIOS)
 EVENTS = 2000  # unless --invocations says how many
 SECONDS = 8  # that they may take, unless it does
 MOST, PATIENCE = 10_000, 30  # events, and seconds more for them, for as long as memory grows
+EVERY = 4  # events: what an extension does at each of them, or as often, other checks are about
 CHECKS = {"memory": "memory", "descriptors": "descriptors", "threads": "threads", "processes": "children",
           "zombies": "zombies"}
 
@@ -39,15 +40,20 @@ def many_events(stage: ExtensionStage) -> None:
         if stage.invoke(str(number).encode()).failed or process.ended:
             raise Missing(f"it did not take event {number + 1}: {stage.said()}")
     def marks() -> List[bytes]:
-        requests = [event["requestId"].encode() for event in map(stage.body_of, stage.events("INVOKE")[-200:])]
-        return [stage.identifier.encode(), *requests]
-    files = leaks.Files(stage, marks)
+        told = [event["requestId"].encode() for event in map(stage.body_of, stage.events("INVOKE")[-200:])]
+        return [stage.identifier.encode(), *told]
+    files, requests = leaks.Files(stage, marks), stage.environment.proxy.exchanges
+    before = len(requests)
     try:
-        looks = leaks.repeat(process, files, once, course)
+        looks = leaks.repeat(process, once, course, files)
         stage.event("INVOKE", looks.done)
     except Missing as missing:
         stage.check("many_events", False, str(missing))
         return stage.jury.rest(NOTE, "not judged: it does not take as many")
     stage.check("many_events", not process.ended, stage.said(), f"{looks.done} events")
+    refused = [one for one in requests[before:] if one.refused and one.kind != "event"]
+    if 0 < len(refused) < looks.done // EVERY:
+        stage.check("many_events", False,
+                    f"of its requests at {looks.done} events {len(refused)} are refused: {refused[0]}")
     leaks.judge(stage, looks, CHECKS, course.wanted)
     return files.judge("files")

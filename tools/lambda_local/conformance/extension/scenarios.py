@@ -211,6 +211,8 @@ def idle_for_long(stage: ExtensionStage) -> None:
     environment, seconds = stage.environment, stage.tools.options.idle_seconds
     stage.begin()
     stage.idle()
+    stage.invoke(b"1")  # (what that leaves may end what comes after it)
+    stage.idle()
     poll = environment.given_up("event", seconds)
     after = f"{poll.end - poll.begun:.1f} s" if poll else ""
     stage.check("next_without_timeout", poll is None, f"it gave its Next up after {after}; {stage.said()}")

@@ -20,6 +20,7 @@ TYPES = ("platform", "function", "extension")
 BUFFERING = {"maxItems": (1000, 10_000), "maxBytes": (262_144, 1_048_576), "timeoutMs": (25, 30_000)}
 HOSTS = ("sandbox.localdomain", "sandbox")
 LAMBDAS_PORT = 9001
+LATE = 1.0  # seconds after its first event, in which it is seen to subscribe too late
 ACCEPTED = b'"OK"'
 
 
@@ -123,6 +124,7 @@ def subscription(stage: "ExtensionStage") -> None:
         stage.idle()
         stage.invoke(b"1")
         stage.idle()
+    environment.proxy.wait(lambda: stage.telemetry.asked > 0, LATE)
     if not stage.telemetry.asked:
         return stage.note("telemetry", "it asks for none")
     faults = stage.telemetry.faults
@@ -136,5 +138,6 @@ def no_telemetry(stage: "ExtensionStage") -> None:
     stage.idle()
     answer = stage.invoke(b"1")
     asked = stage.environment.proxy.of("telemetry")
+    stage.idle()  # (it waits for no telemetry that cannot come)
     stage.check("without_telemetry", answer.body == b"1", f"the caller received {shown(answer.body)}",
                 f"refused {len(asked)} times" if asked else "it asks for none")

@@ -124,6 +124,7 @@ def ends_after_response(stage: Stage) -> None:
     lasts=5)
 def idle_for_long(stage: Stage) -> None:
     environment, seconds = stage.environment, stage.tools.options.idle_seconds
+    stage.output({"do": "echo", "value": "at first"})  # (what it leaves may end what comes after it)
     stage.idle()
     if poll := environment.given_up("next", seconds):
         return stage.check("next_without_timeout", False,

@@ -1,10 +1,11 @@
 """Many invocations, one after the other and at once."""
 import uuid
 from math import inf
-from typing import List
+from typing import List, Optional
 
 from .. import leaks, pages
 from ..again import MESSAGE, TYPE, usable
+from ..clock import CLOCK
 from ..kit import NOTE, Missing, Scenario, scenarios_of
 from ..stage import Stage, compact, shown
 
@@ -12,10 +13,12 @@ SCENARIOS: List[Scenario] = []
 scenario = scenarios_of(SCENARIOS)
 
 ENVIRONMENTS = 3
-INVOCATIONS = 1000  # unless --invocations says how many
-SECONDS = 6  # that they may take, unless it does
+INVOCATIONS = 1000  # with a payload, unless --invocations says how many
+LITTLE = 3000  # after these, with hardly any, unless it does
+SECONDS, SECONDS_WITH = 6, 3.5  # that they may take, unless it does; and that those with a payload may
 MOST, PATIENCE = 4000, 60  # invocations, and seconds more for them, for as long as memory grows
-PAYLOAD = 65_536  # bytes of each
+MOST_LITTLE, PATIENCE_LITTLE = 6000, 12  # so, of those with hardly any
+PAYLOAD = 65_536  # bytes of each, and some more
 EVERY = 4  # invocations of which the last one fails, unless an error ends the process
 NOT_SO_MANY = "not judged: it does not take as many"
 FAILURE = {"do": "fail", "type": TYPE, "message": MESSAGE}
@@ -25,41 +28,50 @@ CHECKS = {"memory": "memory", "descriptors": "descriptors", "threads": "threads"
 
 @scenario(
     ("many_invocations", pages.REUSE,
-     f"it takes a thousand invocations, one after the other, or as many as there are in {SECONDS} s"),
+     f"it takes {INVOCATIONS + LITTLE:,} invocations, one after the other, or as many as there are in {SECONDS} s"),
     ("memory", pages.REUSE,
-     f"a thousand invocations, with {PAYLOAD:,} bytes each or an error, leave nothing in memory: what it takes stops "
-     "growing, at the latest after four thousand"),
+     f"{INVOCATIONS:,} invocations with {PAYLOAD:,} bytes each or an error, and {LITTLE:,} with hardly any, leave "
+     f"nothing in memory: what it takes stops growing, at the latest after {MOST:,}"),
     ("descriptors", pages.REUSE, "they leave no descriptors open"),
     ("threads", pages.REUSE, "nor threads"),
     ("children", pages.REUSE, "nor processes that run"),
     ("zombies", pages.REUSE, "nor ended ones that are not waited for"),
     ("files", pages.REUSE, "nor payloads in files; a small file for each invocation is a SHOULD"),
     lasts=20, drawn=False, collects_early=True)
-def a_thousand(stage: Stage) -> None:
+def thousands(stage: Stage) -> None:
     given, mark = stage.tools.options.invocations, uuid.uuid4().hex
-    course = (leaks.Course(given, inf, given, 0, leaks.SUSPECT) if given
-              else leaks.Course(INVOCATIONS, SECONDS, MOST, PATIENCE, leaks.SUSPECT))
-    event = compact({"do": "echo", "value": mark + "x" * (PAYLOAD - len(mark))})
     stage.idle()
-    with_errors = False
+    with_errors, begun, requests = goes_on_after_errors(stage), CLOCK.now(), stage.environment.proxy.exchanges
+    before = len(requests)
 
-    def once(number: int) -> None:
-        fails = with_errors and number % EVERY == EVERY - 1
-        answer = stage.invoke(FAILURE if fails else event)
-        if answer.failed != fails or (not fails and len(answer.body) != PAYLOAD + 2):
+    def ask(number: int, filling: str) -> None:
+        fails, text = with_errors and number % EVERY == EVERY - 1, f"{mark}{number:07}{filling}"
+        answer = stage.invoke(FAILURE if fails else compact({"do": "echo", "value": text}))
+        if answer.failed != fails or (not fails and answer.value != text):
             raise Missing(f"invocation {number + 1} gave its caller {shown(answer.body)}")
+
+    def asked(filling: str, course: leaks.Course, files: Optional[leaks.Files] = None) -> leaks.Looks:
+        if given:
+            course = leaks.Course(given, inf, given, 0, course.suspects)
+        return leaks.repeat(stage.environment.process, lambda number: ask(number, filling), course, files)
+
     def marks() -> List[bytes]:
-        requests = [one.delivered for one in stage.environment.proxy.of("next")[-200:] if one.delivered]
-        return [mark.encode(), *map(str.encode, requests)]
+        delivered = [one.delivered for one in stage.environment.proxy.of("next")[-200:] if one.delivered]
+        return [mark.encode(), *map(str.encode, delivered)]
     files = leaks.Files(stage, marks, PAYLOAD // 5)
     try:
-        with_errors = goes_on_after_errors(stage)
-        looks = leaks.repeat(stage.environment.process, files, once, course)
+        looks = asked("x" * PAYLOAD, leaks.Course(INVOCATIONS, SECONDS_WITH, MOST, PATIENCE, leaks.SUSPECT), files)
+        left = max(SECONDS - SECONDS_WITH, begun + SECONDS - CLOCK.now())
+        after = asked("", leaks.Course(LITTLE, left, MOST_LITTLE, PATIENCE_LITTLE, leaks.SUSPECT_OF_LITTLE))
     except Missing as missing:
         stage.check("many_invocations", False, str(missing))
         return stage.jury.rest(NOTE, NOT_SO_MANY)
-    stage.check("many_invocations", True, "", f"{looks.done} invocations")
-    leaks.judge(stage, looks, CHECKS, course.wanted)
+    refused, done = [one for one in requests[before:] if one.refused and one.kind != "next"], looks.done + after.done
+    # (what it does in each of them, or at each error, other checks are about)
+    stage.check("many_invocations", not 0 < len(refused) < done // EVERY,
+                f"of the requests in {done} invocations {len(refused)} are refused: {refused and refused[0]}",
+                f"{done} invocations")
+    leaks.judge(stage, looks, CHECKS, given or INVOCATIONS, after)
     return files.judge("files")
 
 
