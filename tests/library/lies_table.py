@@ -12,7 +12,7 @@ LIES: Dict[str, Tuple[str, str, str, str]] = {
     "conformance": ("a_failure_is_explained", OF_TOOLS + "conformance/report.py",
                     "return 1 if self.counts[FAIL]", "return 0 if self.counts[FAIL]"),
     "conformance_parts": ("memory", OF_TOOLS + "conformance/leaks.py",
-                          "or grown < rule.least or", "or grown < 9 * rule.least or"),
+                          "or grown < rule.least:", "or grown < 9 * rule.least:"),
     "conformance_proxy": ("each_way", OF_TOOLS + "conformance/proxy.py",
                           "            service.sendall(data)", "            service.sendall(data[:1000])"),
     "conformance_service": ("each_fault_is_found CONFORMANCE_FAULTS=registers-late",

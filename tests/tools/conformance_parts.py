@@ -87,6 +87,7 @@ class Leaks(Case):
                 ("one that grows until half of the requests", lambda done: 6_000 * min(done, 2000), 4000),
                 ("one that grows less and less", lambda done: 40_000_000 * (1 - 0.5 ** (done / 500)), 4000),
                 ("one that grows by very little in all", lambda done: 30 * done, 4000),
+                ("one of which each page of a pool is touched in the end", lambda done: 60 * done, 6000),
                 ("one that falls back now and then", lambda done: 200 * done - done % 1000 // 900 * 30_000, 4000),
                 ("one that grows by little, less and less", lambda done: 900_000 * math.log(1 + done), 8000),
                 ("one that grows by little at some times", lambda done: 2_000_000 * (done // 1500), 6000),

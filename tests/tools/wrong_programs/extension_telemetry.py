@@ -33,6 +33,20 @@ class AnswersBatchesWithALine(Extension):
         return b"thanks\n"
 
 
+class ReadsBatchesAsAscii(Extension):
+    check = "takes_telemetry"
+
+    def batch_of(self, body):
+        return super().batch_of(body.decode("ascii"))
+
+
+class CutsItsAnswersShort(Extension):
+    check = "takes_telemetry"
+
+    def taken(self, batch):
+        return b"HTTP/1.1 200 OK\r\nContent-Length: 2\r\n\r\n"
+
+
 class EndsAtAnUnknownEvent(Extension):
     """Of telemetry."""
     check = "takes_telemetry"

@@ -83,7 +83,10 @@ class Extension(Client):
                 for line in iter(came.readline, b"\r\n"):
                     if line.lower().startswith(b"content-length:"):
                         length = int(line.split(b":")[1])
-                peer.sendall(self.taken(json.loads(came.read(length))))
+                peer.sendall(self.taken(self.batch_of(came.read(length))))
+
+    def batch_of(self, body):
+        return json.loads(body)
 
     def taken(self, batch):
         """What a batch is answered."""

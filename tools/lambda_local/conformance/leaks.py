@@ -43,15 +43,16 @@ class Rule(NamedTuple):
     requests: int = 0  # at least, in which it has grown
     most: float = inf  # bytes for each request
     fallen: float = inf  # of the growth, that it may have fallen by in between
+    each: float = 0  # bytes for each request at least
 
 
-SUSPECT = (Rule(1_500_000, 0.2, 0.4),)  # that it is worth to go on
+SUSPECT = (Rule(1_500_000, 0.2, 0.4, fallen=0.5), Rule(4_000_000, 0.2, 0.4))  # that it is worth to go on
 CERTAIN = Rule(4_000_000, 0.5, 0.75)
 AFTER_LONG = Rule(4_000_000, 0.4, 0.5)
 STEADY = Rule(1_000_000, 0.6, 0.85, 0.4, 2500)  # little, but the same all the time, as no heap grows that is collected
 # Very little, in small steps and never back: no heap that is collected fills by so little garbage, nor without a fall.
-CREEPING = Rule(100_000, 0.6, 0.85, 0.4, 1000, 3000, 0.1)
-SUSPECT_OF_LITTLE = (Rule(40_000, 0.3, 0.7, 0.2, 400, 3000, 0.5), Rule(500_000, 0.4, 0.55, 0.2, 800, 3000, 1.5))
+CREEPING = Rule(100_000, 0.6, 0.85, 0.4, 1000, 3000, 0.1, 90)  # (of a pool's threads each takes some pages in the end)
+SUSPECT_OF_LITTLE = (Rule(40_000, 0.3, 0.7, 0.2, 400, 3000, 0.5, 70), Rule(500_000, 0.4, 0.55, 0.2, 800, 3000, 1.5))
 SUSPECT_OF_EVENTS = (Rule(700_000, 0.1, 0.0), *SUSPECT_OF_LITTLE)  # of an extension, whose events are small
 
 
@@ -119,7 +120,9 @@ class Looks:
         rising = sum(step > rule.share * average for step in steps)
         fallen = sum(max(0, before - after) for before, after in zip(tail, tail[1:]))
         each = grown / max(1, self._looks[-size].done - self._looks[quarter].done)
-        if self.done - self._looks[quarter].done < rule.requests or grown < rule.least or each > rule.most:
+        if self.done - self._looks[quarter].done < rule.requests or grown < rule.least:
+            return 0
+        if not rule.each <= each <= rule.most:
             return 0
         if last - middle < rule.even * (middle - first) or rising < rule.nearly * len(steps):
             return 0

@@ -20,7 +20,7 @@ AT = "2022-10-12T00:00:15.064Z"
 START = {"time": AT, "type": "platform.start", "record": {"requestId": "1", "version": "$LATEST"}}
 BATCHES: Dict[str, List[Dict[str, Any]]] = {
     "a batch": [START, {"time": AT, "type": "function", "record": "a line"},
-                {"time": AT, "type": "extension", "record": "\u00e9\u4e2d\ud83d\ude00"}],
+                {"time": AT, "type": "extension", "record": "\u00e9\u4e2d\U0001f600"}],
     "a batch with an event that it does not know": [{"time": AT, "type": "platform.unheardOf", "record": {"a": [1]}}],
     "a thousand events": [START] * 1000,
 }
@@ -33,6 +33,11 @@ def end_of(request: str, status: str, is_of_logs: bool) -> List[Dict[str, Any]]:
     kinds = ("platform.end", "platform.runtimeDone") if is_of_logs else ("platform.runtimeDone",)
     return [{"time": AT, "type": "platform.start", "record": start},
             *({"time": AT, "type": kind, "record": {"requestId": request, "status": status}} for kind in kinds)]
+
+
+def written(value: Any) -> bytes:
+    """As JSON in UTF-8, with the letters beyond ASCII as they are."""
+    return json.dumps(value, ensure_ascii=False).encode()
 
 
 class NothingListens(Exception):
@@ -48,10 +53,11 @@ def fault_over_http(address: str, batch: List[Dict[str, Any]], seconds: float) -
     except OSError:
         raise NothingListens(str(to.port)) from None
     try:
-        connection.request("POST", (to.path or "/") + (f"?{to.query}" if to.query else ""), json.dumps(batch),
+        connection.request("POST", (to.path or "/") + (f"?{to.query}" if to.query else ""), written(batch),
                            {"Host": to.netloc, "Content-Type": "application/json"})
-        status = connection.getresponse().status
-        return None if 200 <= status < 300 else f"is answered {status}, and comes again and again"
+        answer = connection.getresponse()
+        answer.read()  # (which has an end)
+        return None if 200 <= answer.status < 300 else f"is answered {answer.status}, and comes again and again"
     except socket.timeout:
         return f"is not answered within {seconds:g} s"
     except (OSError, http.client.HTTPException) as fault:
@@ -67,7 +73,7 @@ def fault_over_tcp(port: int, batch: List[Dict[str, Any]]) -> Optional[str]:
         raise NothingListens(str(port)) from None
     with connection:
         try:
-            connection.sendall(b"".join(json.dumps(event).encode() + b"\n" for event in batch))
+            connection.sendall(b"".join(written(event) + b"\n" for event in batch))
         except OSError as fault:
             return f"is not read ({type(fault).__name__})"
     return None

@@ -1,5 +1,5 @@
 """Another Lambda: the same answers in other bytes, as HTTP/1.1 and the pages allow them, one way after the other."""
-from typing import List, NamedTuple, Optional, Tuple
+from typing import List, NamedTuple, Optional, Sequence, Tuple
 
 from .. import pages
 from ..again import fault_after, usable
@@ -27,6 +27,7 @@ CUT = Rule("next", reply=(200, CUT_BODY), manner=Manner(cut=len(CUT_BODY) - 12),
     ("Lambda-Runtime-Deadline-Ms", "4102444800000"), ("Lambda-Runtime-Trace-Id", TRACE),
     ("Lambda-Runtime-Invoked-Function-Arn", "arn:aws:lambda:us-east-1:123456789012:function:f")))
 TIMEOUT = 6  # seconds
+HALF = 4  # of the ways, which are played beside the others
 WAITS = 0.3  # seconds after which a poll's connection ends
 ASKS = 5  # seconds in which it asks again, or ends
 
@@ -74,18 +75,27 @@ WAYS = (
 )
 
 
-@scenario(*[way[:3] for way in WAYS], timeout=TIMEOUT, lasts=3)
-def another_lambda(stage: Stage) -> None:
+def play(stage: Stage, ways: Sequence[Way]) -> None:
     stage.idle()
     if fault := fault_in(stage, "as usual", Manner()):
         raise Missing(fault)
-    for way in WAYS:
+    for way in ways:
         fault = next(filter(None, (fault_in(stage, way.name, manner) for manner in way.manners)), None)
         stage.jury.judge(way.name, way.judged if fault else PASS, fault or "")
         stage.environment.proxy.manner = None
         if fault:  # (a new process, for the ways that are still to come)
             stage.environment.revive()
             stage.idle()
+
+
+@scenario(*[way[:3] for way in WAYS[:HALF]], timeout=TIMEOUT, lasts=6)
+def another_lambda(stage: Stage) -> None:
+    play(stage, WAYS[:HALF])
+
+
+@scenario(*[way[:3] for way in WAYS[HALF:]], timeout=TIMEOUT, lasts=6)
+def yet_another_lambda(stage: Stage) -> None:
+    play(stage, WAYS[HALF:])
 
 
 def fault_in(stage: Stage, name: str, manner: Manner) -> Optional[str]:
