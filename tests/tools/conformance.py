@@ -17,7 +17,7 @@ import time
 import xml.etree.ElementTree as xml
 from typing import Callable, Dict, Iterable, List, NamedTuple, Tuple
 
-from lambda_local.conformance import extension, runtime
+from lambda_local.conformance import causes, extension, runtime
 from tests import ROOT
 from tests.library.cases import Case
 from tests.library.forked_kit import Kits
@@ -36,6 +36,7 @@ OF_TELEMETRY = [one.name for part in (extension.telemetry, extension.delivery, e
 AT_ONCE = 6 * max(2, len(os.sched_getaffinity(0)))  # runs of the kit, each of which waits most of its time
 WHOLE, CHOSEN = "CONFORMANCE_WHOLE" in os.environ, os.environ.get("CONFORMANCE_ONLY", "").split()
 EACH, EACH_SHAPE = 32, 1 if CHOSEN else 3  # wrong programs, and sound ones, of which one is run with all scenarios
+BECAUSE = "|".join(one.value for one in causes.Because)
 TODAY = int(time.time() // 86400)  # which one of these, counted round
 PYTHON = [sys.executable, "-S"]  # (it starts in half the time)
 TOOL = [*PYTHON, os.path.join(ROOT, "tools"), "conformance"]
@@ -87,8 +88,8 @@ class Run:
         self.seconds = time.monotonic() - begun
 
     def verdicts(self, outcome):
-        """The checks with this outcome; FAILs of one cause after the first are only named."""
-        again = re.findall(r"^\d+ more checks? fails? for the same cause as \w+: (.*)$", self.output,
+        """The checks with this outcome; FAILs that say nothing new after the first are only named."""
+        again = re.findall(rf"^\d+ more checks? fails? (?:{BECAUSE}) \w+(?: \(.*\))?: (.*)$", self.output,
                            re.MULTILINE) if outcome == "FAIL" else []
         return {*re.findall(rf"^{outcome}  (\w+)", self.output, re.MULTILINE),
                 *(name for names in again for name in names.split(", "))}
@@ -344,6 +345,36 @@ class Conformance(Case):
             self.check("and what came", failure.get("message", "").startswith("the caller received "))
             self.check("and its details", "Invocation error" in (failure.text or ""))
 
+    def test_a_failure_shows_its_own_part(self):
+        """Of a scenario of seven checks one after the other, a FAIL of the fifth shows its calls and no others."""
+        run = Run("runtime", "--only", "without_trace", "--", *PYTHON, program("wrong_runtimes.py"), "NeedsATrace")
+        _, _, drawn = run.output.partition("      timeline\n")
+        self.check("its two invocations are drawn", [one for one in re.findall(r"caller 1: invoke .* bytes?: (\S+),",
+                                                                              drawn)],
+                   ['{"do":"echo","value":1}', '{"do":"context","value":0}'])
+        delivered = re.findall(r"next, call \d+, is answered .*: deliver request (\d+)", drawn)
+        answered = re.search(r"^      wire      last: POST \S*/invocation/\S*-([0-9a-f]+)/error -> 202$", run.output,
+                             re.MULTILINE)
+        self.check("the last exchange is its own", answered and str(int(answered[1], 16)), delivered[-1])
+        run.told(answered is not None)
+
+    def test_what_it_wrote_is_shown(self):
+        lines = ("import sys", f"sys.path.insert(0, {PROGRAMS!r})", "from sound_runtime import Runtime",
+                 "Runtime.respond = lambda *_: sys.exit('\\n'.join('abcdefghijk'))", "Runtime().run()")
+        run = Run("runtime", "--", *PYTHON, "-c", "; ".join(lines))
+        wrote = run.output.partition("      wrote\n")[2].splitlines()[:10]
+        self.check("a FAIL has the last ten lines that the program wrote", [line.strip() for line in wrote],
+                   list("bcdefghijk"))
+        run.told(len(wrote) == 10)
+
+    def test_what_saw_nothing_passes_nothing(self):
+        run = Run("runtime", "--only", "failing_init", "--", "sh", "-c",
+                  f"case $_HANDLER in failing.*) exit 1;; esac; exec {' '.join(PYTHON)} {program('sound_runtime.py')}")
+        self.check("without init/error its end is a NOTE", (run.verdicts("FAIL"), run.verdicts("NOTE"),
+                                                            run.verdicts("PASS")),
+                   ({"init_error"}, {"init_error_ends"}, set()))
+        run.told(run.status == 1)
+
     def test_wrong_usage(self):
         somewhere = os.path.join("nowhere", "report.xml")
         cases: Tuple[Tuple[List[str], str], ...] = (
@@ -359,7 +390,7 @@ class Conformance(Case):
             (["runtime", "--junit", somewhere, "--", "true"], "--junit nowhere"),
             (["runtime", "--pictures", "/dev/null", "--", "true"], "--pictures /dev/null"),
             (["runtime", "--", "sh", "-c", "echo it is broken; exit 3"],
-             "it ended with status 3 before it asked for anything; its last line: it is broken"),
+             "it ended with status 3 before it asked for anything, and wrote:\n  it is broken"),
             (["extension", "--", "true"], "write --name NAME"),
             (["extension", "--name", "x", "--events", "INVOKE,START", "--", "true"],
              "INVOKE,START: write INVOKE, SHUTDOWN or both"),
@@ -371,9 +402,11 @@ class Conformance(Case):
         self.refused("no free port", Run("runtime", "--", "true", LAMBDA_LOCAL_PORTS="1-1"), "LAMBDA_LOCAL_PORTS=1-1")
 
     def refused(self, name, run, told, status=2):
+        lines = 1 + told.count("\n")
         seen = (run.status, len(run.errors.splitlines()), told in run.errors)
-        self.check(f"{name}: status {status} and one line", seen, (status, 1, True))
-        run.told(seen == (status, 1, True))
+        self.check(f"{name}: status {status} and {'one line' if lines == 1 else 'what it wrote'}", seen,
+                   (status, lines, True))
+        run.told(seen == (status, lines, True))
 
     def test_nothing_is_left(self):
         ends = ((signal.SIGINT, 130), (signal.SIGTERM, 143), (signal.SIGKILL, -9))

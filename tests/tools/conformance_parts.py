@@ -8,6 +8,7 @@ import math
 import signal
 import subprocess
 import sys
+import tempfile
 import threading
 import time
 from types import SimpleNamespace
@@ -17,7 +18,9 @@ from unittest import mock
 from lambda_local.conformance import again, causes, leaks, pages, report, service, sometimes, watch
 from lambda_local.conformance.environment import Environment
 from lambda_local.conformance.extension import delivery, stage
-from lambda_local.conformance.kit import FAIL, NOTE, PASS, Check, Seen, Verdict
+from lambda_local.conformance.exchanges import Exchange as Refused
+from lambda_local.conformance.kit import (FAIL, NOTE, NOTHING_SEEN, PASS, Came, Check, Jury, Missing, Scenario, Verdict,
+                                          deed, finding)
 from lambda_local.conformance.manners import Manner
 from lambda_local.conformance.messages import Message
 from lambda_local.conformance.process import Holds, Process
@@ -239,16 +242,16 @@ class Conduct(Case):
             self.check("with its request and status", batch[-1]["record"], {"requestId": "a", "status": "timeout"})
 
 
-def verdict(outcome: str, came: str) -> Verdict:
-    check = Check("one", pages.RESPONSE, "it is so")
-    return Verdict(check, "scenario", outcome, came, 1.0, Seen(None, (), (), ""))
+def verdict(outcome: str, came: Came, name: str = "one", cause: str = "", asked: str = "") -> Verdict:
+    check = Check(name, pages.RESPONSE, "it is so")
+    return Verdict(check, "scenario", outcome, finding(came), 1.0, NOTHING_SEEN._replace(cause=cause, asked=asked))
 
 
 class OneCause(Case):
     def told(self, *fails):
         """The checks whose FAILs are told, of those with what came and the cause that the connections show."""
         found = causes.Causes()
-        return [name for name, came, cause in fails if found.first(name, came, cause) is None]
+        return [name for name, came, cause in fails if found.known(verdict(FAIL, came, name, cause)) is None]
 
     def test_fails_of_one_cause(self):
         for name, fails, wanted in (
@@ -257,7 +260,7 @@ class OneCause(Case):
                   ("ends_at_500", "it runs on", ""), ("refused_next", "neither", "")),
                  ["ends_at_spindown"]),
                 ("an answer that is sent twice", (("responds_once", "responses to each: [2]", ""),
-                                                  ("after_error", "an invocation is answered twice: POST", "")),
+                                                  ("after_error", deed("answered twice: POST", "responds_once"), "")),
                  ["responds_once"]),
                 ("a second poll", (("one_poll", "a second Next", "there is a second Next while one waits"),
                                    ("many_events", "it took none", "there is a second Next while one waits")),
@@ -271,20 +274,45 @@ class OneCause(Case):
                  ["utf8", "ends_at_sigterm"])):
             self.check(f"{name}: one FAIL for each cause", self.told(*fails), wanted)
 
+    def test_why_a_fail_is_not_told(self):
+        """A cause is named as one only if the connections show it: the same words may have several."""
+        shown = "a body is longer than its length says"
+        for name, fails, wanted in (
+                ("a cause that the connections show", (("utf8", "nothing came", shown, "echo"),
+                                                       ("kinds", "null came", shown, "echo")), causes.Because.CAUSE),
+                ("a check that builds on another", (("utf8", "null came", "", "bytes"),
+                                                    ("escapes", "{} came", "", "echo")), causes.Because.BUILDS),
+                ("the same words, with other numbers", (("memory", "it ended with status 1", "", "echo"),
+                                                        ("stdout", "it ended with status 2", "", "echo")),
+                 causes.Because.WORDS),
+                ("the same words about another request of the handler",
+                 (("utf8", "the caller received null", "", "bytes"),
+                  ("request_id", "the caller received null", "", "context")), None)):
+            found = causes.Causes()
+            known = [found.known(verdict(FAIL, came, check, cause, asked)) for check, came, cause, asked in fails][-1]
+            self.check(f"{name}: why the second is not told", known and known.because, wanted)
+
     def test_what_a_busy_machine_may_be_the_reason_of(self):
-        for came, is_its_own in (("the caller received 17", True), ("GET ../next -> 400", True),
-                                 ("its Next is refused: GET ../event/next -> 403", False),
-                                 ("the caller received no answer within 12 s", False),
-                                 ("it ended with status 1", False), ("no Next within 10 s", False),
-                                 ("in place of an output the caller received the error Function.Timeout", False)):
-            self.check(f"{came!r} is {'' if is_its_own else 'not '}what the program did",
-                       sometimes.shows_what_it_did(verdict(FAIL, came)), is_its_own)
+        def answer(report: bytes) -> Answer:
+            return Answer(200, {"x-amz-function-error": "Unhandled"}, report)
+        for name, came, is_its_own in (
+                ("an output", Answer(200, {}, b"17").came(), True),
+                ("an error of the handler's", answer(b'{"errorType":"OutOfCheese"}').came(), True),
+                ("a timeout", answer(b'{"errorType":"Function.Timeout"}').came(), False),
+                ("an end", answer(b'{"errorType":"Runtime.ExitError"}').came(), False),
+                ("what did not come", Missing("no Next within 10 s").finding, False)):
+            self.check(f"{name} is {'' if is_its_own else 'not '}what the program did", came.is_deed, is_its_own)
+        for status, is_wrong in ((400, True), (404, True), (403, False), (500, False), (202, False)):
+            one = SimpleNamespace(status=status)
+            self.check(f"a request that is answered {status} is {'' if is_wrong else 'not '}wrong in itself",
+                       Refused.is_wrong.fget(one), is_wrong)
 
     def test_many_lines(self):
         self.check("lines that are the same are one line", report.shortened(["a", "b", "b", "b", "a"]),
                    ["a", "b (3 times)", "a"])
         told = report.shortened(map(str, range(5000)))
         self.check("of many there are the first and the last", (len(told), told[0], told[-1]), (25, "0", "4999"))
+        self.check("of which there are more", told[-16:], [str(number) for number in range(4984, 5000)])
 
     def test_what_is_seen_once(self):
         failed, passed = verdict(FAIL, "the caller received 1"), verdict(PASS, "")
@@ -292,6 +320,68 @@ class OneCause(Case):
         self.check("what shows once is a FAIL that says so", (own.outcome, own.came),
                    (FAIL, "in 1 of 6 runs: the caller received 1"))
         self.check("what others disturb is a NOTE", sometimes.judged(failed, passed, 5, False).outcome, NOTE)
+
+
+class Witness:
+    """A stage that has last acted at some moment, and shows the moments of which it is asked."""
+
+    def __init__(self) -> None:
+        self.acted = time.monotonic()
+
+    def act(self) -> float:
+        time.sleep(0.002)
+        self.acted = time.monotonic()
+        time.sleep(0.002)
+        return self.acted
+
+    def has_acted_since(self, moment: float) -> bool:
+        return self.acted > moment
+
+    def seen(self, begin: float, end: float):
+        return NOTHING_SEEN._replace(wire=(begin, end))
+
+
+class Parts(Case):
+    """What a FAIL shows begins with the first call of its own check, and ends with the last one."""
+
+    def test_parts(self):
+        checks = tuple(Check(name, pages.RESPONSE, "it is so") for name in ("one", "two", "three", "four"))
+        jury, witness = Jury(Scenario("scenario", checks, lambda stage: None, {})), Witness()
+        jury.witness = witness
+        first = witness.act()
+        jury.judge("one", PASS, "")
+        second = witness.act()
+        jury.judge("two", FAIL, "wrong")
+        jury.judge("three", FAIL, "wrong too")
+        third = witness.act()
+        jury.judge("four", PASS, "")
+        fourth = witness.act()
+        jury.judge("four", FAIL, "wrong after all")
+        parts = {name: jury.verdicts[name].seen.wire for name in ("two", "three", "four")}
+
+        def has(name, *moments):
+            begin, end = parts[name]
+            return [begin < moment < end for moment in moments]
+        self.check("of one of several checks, its own calls alone", has("two", first, second, third),
+                   [False, True, False])
+        self.check("of one that is judged with another, the same calls", has("three", first, second, third),
+                   [False, True, False])
+        self.check("of one that is judged twice, all its calls", has("four", second, third, fourth),
+                   [False, True, True])
+
+    def test_what_it_wrote(self):
+        with tempfile.TemporaryFile() as file:
+            for written, wanted in ((b"", []), (b"one\n\n  two\x1b[1m\n", ["one", "  two\\x1b[1m"]),
+                                    (b"".join(b"line %d\n" % number for number in range(5000)),
+                                     [f"line {number}" for number in range(4990, 5000)]),
+                                    (b"x" * 5000, ["x" * 200 + "\u2026"])):
+                file.seek(0)
+                file.truncate()
+                file.write(written)
+                file.flush()
+                process = SimpleNamespace(output=file)
+                self.check(f"the last lines of {len(written)} bytes", Process.last_lines(cast(Process, process), 10),
+                           wanted)
 
 
 class Server(http.server.ThreadingHTTPServer):

@@ -1,9 +1,12 @@
-"""Which FAILs come of one cause: the first of them is told, and the others are named in the last lines."""
+"""Which FAILs say nothing new: the first of them is told, and the others are named in the last lines, with the reason
+why they are not told."""
+import enum
 import re
-from typing import Callable, Dict, Optional, Pattern, Tuple
+from typing import Callable, Dict, Hashable, NamedTuple, Optional, Tuple
 
-SIGNS = re.compile(r"\d+|[0-9a-f]{8}-[0-9a-f-]{27}")  # that differ from one FAIL of a cause to another
-LATER = "a later invocation: "  # what `again` writes before the words that an invocation by itself would have had
+from .kit import Verdict
+
+SIGNS = re.compile(r"\d+|[0-9a-f]{8}-[0-9a-f-]{27}")  # that differ from one FAIL of the same words to another
 # Checks that fail as well if one of these has failed: they say nothing new then.
 FOLLOWS: Dict[str, Tuple[str, ...]] = {
     "long_text": ("utf8",), "kinds": ("utf8", "long_text", "payload_empty", "payload_null", "payload_scalars"),
@@ -39,38 +42,43 @@ FOLLOWS: Dict[str, Tuple[str, ...]] = {
     "ends_at_500_register": ("crash_noticed", "ends_at_500"), "refused_registration": ("ends_at_500_register",),
     "refused_next": ("ends_at_spindown", "crash_noticed", "ends_at_500"),
 }
-# What many checks look at once more, by the words with which they tell it, and the checks that are about it.
-TOLD: Dict[Pattern[str], Tuple[str, ...]] = {
-    re.compile(r"sees the request identifier"): ("request_id",),
-    re.compile(r"sees the trace"): ("trace_id", "trace_renewed"),
-    re.compile(r"the remaining milliseconds are"): ("deadline",),
-    re.compile(r"an invocation is answered twice"): ("responds_once",),
-    re.compile(r"asks for the next invocation before"): ("next_after_response", "one_next"),
-    re.compile(r"in place of the error"): ("error_reported", "error_message", "error_texts")}
 
 
-def again_of(came: str) -> Optional[Pattern[str]]:
-    """By which of these words a FAIL is of what was looked at once more."""
-    return next((words for words in TOLD if words.search(came)), None)
+class Because(enum.Enum):
+    """Why a FAIL is not told once another one has been, as the words between the two."""
+    CAUSE = "for the same cause as"  # which the connections show
+    BUILDS = "in what builds on"
+    WORDS = "with the same words as"
+
+
+class Known(NamedTuple):
+    """What is known of a FAIL by one that was told."""
+    because: Because
+    first: str  # the check of that one
+    cause: str = ""  # if the connections show it
 
 
 class Causes:
     """The FAILs of a run so far."""
 
     def __init__(self) -> None:
-        self._told: Dict[str, str] = {}  # by their causes: the names of the checks whose FAILs were told
+        self._told: Dict[Hashable, str] = {}  # by what FAILs have in common: the checks whose FAILs were told
         self._failed: Dict[str, str] = {}  # by the name of each check that failed: that of the FAIL that was told
 
-    def first(self, name: str, came: str, cause: str, notes: bool = True) -> Optional[str]:
-        """Notes a FAIL, or looks at it alone: the check whose FAIL was told for the same cause; none if this one is to
-        be told."""
-        seen_again = again_of(came)
-        key = cause or (seen_again.pattern if seen_again else SIGNS.sub("", came.replace(LATER, "")))
-        about = TOLD[seen_again] if seen_again else ()
+    def known(self, verdict: Verdict, notes: bool = True) -> Optional[Known]:
+        """Notes a FAIL, or looks at it alone: why it is not told; none if it is to be."""
+        name, found, cause = verdict.check.name, verdict.found, verdict.seen.cause
+        # (the same words about another request of the handler may have another cause)
+        key: Hashable = cause or found.about or (verdict.seen.asked, SIGNS.sub("", found.key))
         has_failed: Callable[[str], bool] = self._failed.__contains__
-        before = next(filter(has_failed, (*FOLLOWS.get(name, ()), *about)), None)
-        first = self._told.get(key) or (self._failed[before] if before and before != name else None)
+        before = next(filter(has_failed, (*FOLLOWS.get(name, ()), *found.about)), None)
+        known = None
+        if key in self._told:
+            known = Known(Because.CAUSE if cause else Because.BUILDS if found.about else Because.WORDS, self._told[key],
+                          cause)
+        elif before and before != name:
+            known = Known(Because.BUILDS, self._failed[before])
         if notes:
-            self._told.setdefault(key, first or name)
-            self._failed[name] = first or name
-        return first
+            self._told.setdefault(key, known.first if known else name)
+            self._failed[name] = known.first if known else name
+        return known

@@ -42,6 +42,7 @@ class Environment:
     def start(self) -> Process:
         """Starts the command anew, as Lambda starts an environment."""
         stage = self.stage
+        stage.acted = time.monotonic()
         more = {"TMPDIR": self.folder, **stage.variables, **(collecting_early() if stage.collects_early else {})}
         variables = variables_of(stage.service.configuration, stage.function, self.proxy.port, self.number, more)
         self._process = stage.tools.processes.start(stage.tools.command, variables)
@@ -58,7 +59,7 @@ class Environment:
         self._end_open_invocation()
         self.start()
         if not self.asked(asked + 1):
-            raise Missing(f"the new process did not ask for an invocation: {self.stage.said()}")
+            raise Missing(f"the new process did not ask for an invocation: {self.stage.ended()}")
 
     def _end_open_invocation(self) -> None:
         """As Lambda does when a process has ended with one."""

@@ -100,6 +100,11 @@ class Exchange:
     def refused(self) -> bool:
         return self.status is not None and self.status >= 400
 
+    @property
+    def is_wrong(self) -> bool:
+        """Whether it is refused for what it is. (403 is the answer to what comes in another phase, so too late.)"""
+        return self.status is not None and 400 <= self.status < 500 and self.status != 403
+
     def __str__(self) -> str:
         """As a line: the request, its status, and the body of a refusal."""
         body = self.came[:ENOUGH].decode(errors="replace").strip() if self.refused else ""

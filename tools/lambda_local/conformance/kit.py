@@ -2,7 +2,7 @@
 import concurrent.futures
 import time
 import traceback
-from typing import Any, Callable, Dict, Iterator, List, NamedTuple, Optional, Set, Tuple
+from typing import Any, Callable, Dict, Iterator, List, NamedTuple, Optional, Protocol, Set, Tuple, Union
 
 from ..service import Fault
 from .pages import Page
@@ -29,52 +29,124 @@ class Scenario(NamedTuple):
     settings: Dict[str, Any]  # of the stage
 
 
+class Finding(NamedTuple):
+    """What came in place of what is expected."""
+    words: str  # as a line
+    is_deed: bool = False  # the program did it: a busy machine may be the reason of what it only did not do in time
+    about: Tuple[str, ...] = ()  # the checks that look at this by themselves
+    is_later: bool = False  # of an invocation that followed what its check is about
+    like: str = ""  # the words that it would have had by itself
+
+    @property
+    def key(self) -> str:
+        """What FAILs that tell the same have in common."""
+        return self.like or self.words
+
+    def within(self, words: str) -> "Finding":
+        """The same, told in other words."""
+        return self._replace(words=words, like=self.key)
+
+
+Came = Union[str, Finding]
+
+
+def finding(came: Came) -> Finding:
+    return came if isinstance(came, Finding) else Finding(came)
+
+
+def deed(words: str, *about: str) -> Finding:
+    """Something that the program did."""
+    return Finding(words, True, about)
+
+
 class Seen(NamedTuple):
-    """Of a scenario with a FAIL."""
-    history: Optional[str]  # the service's, for its timeline
+    """What a FAIL shows: the part of its scenario from its check's first call to its last."""
+    history: Optional[str]  # the service's, of the whole scenario, for its timeline
     acts: Tuple[str, ...]  # what the kit did in the service's place
     wire: Tuple[str, ...]  # what the proxy saw that may be the cause, and the last exchange
     cause: str  # what that comes from, if the connections show it: told once
+    begin: int = 0  # of the part, in milliseconds of the history; 0 for all of it
+    end: int = 0
+    written: Tuple[str, ...] = ()  # the last lines that the program wrote until then
+    asked: str = ""  # what its handler was asked for last
+
+
+NOTHING_SEEN = Seen(None, (), (), "")
 
 
 class Verdict(NamedTuple):
     check: Check
     scenario: str
     outcome: str
-    came: str  # what came, as a line
+    found: Finding  # what came
     seconds: float  # that its scenario took
     seen: Seen
     stops: bool = False  # whether nothing else can be judged
+
+    @property
+    def came(self) -> str:
+        return self.found.words
 
 
 class Missing(Exception):
     """What a scenario needs did not come: its checks that are not judged yet fail with these words; the last one if
     there is none."""
 
+    def __init__(self, came: Came) -> None:
+        super().__init__(finding(came).words)
+        self.finding = finding(came)
+
+
+class Witness(Protocol):
+    """What a jury asks of its stage."""
+
+    def has_acted_since(self, moment: float) -> bool:
+        """Whether the kit has begun anything of its own since then: an invocation, a process, a shutdown."""
+
+    def seen(self, begin: float, end: float) -> Seen:
+        """What it saw between two moments."""
+
+
+class Judgement(NamedTuple):
+    outcome: str
+    found: Finding
+    seen: Seen
+
 
 class Jury:
-    """The verdicts on the checks of one scenario."""
+    """The verdicts on the checks of one scenario. Moments are those of `time.monotonic`."""
 
     def __init__(self, scenario: Scenario) -> None:
         self.scenario, self.stops, self._last = scenario, False, ""
-        self.verdicts: Dict[str, Tuple[str, str]] = {}  # by the names of checks: an outcome, and what came
+        self.verdicts: Dict[str, Judgement] = {}  # by the names of checks
+        self.witness: Optional[Witness] = None
+        self._moments = [time.monotonic()]  # of the scenario's begin, and of each judgement
+        self._begun: Dict[str, float] = {}  # by the names of checks: when their first calls were to come
 
-    def judge(self, name: str, outcome: str, came: str) -> None:
+    def judge(self, name: str, outcome: str, came: Came) -> None:
         """Of several outcomes of a check the worst counts, and of these the first."""
         if not any(check.name == name for check in self.scenario.checks):
             raise ValueError(f"scenario {self.scenario.name} has no check {name}")
-        self._last = name
-        before = self.verdicts.get(name)
-        if not before or GRAVITY.index(outcome) > GRAVITY.index(before[0]):
-            self.verdicts[name] = (outcome, came)
+        self._last, begin = name, self._begun.setdefault(name, self._part_begun())
+        before, now = self.verdicts.get(name), time.monotonic()
+        if not before or GRAVITY.index(outcome) > GRAVITY.index(before.outcome):
+            seen = self.witness.seen(begin, now) if self.witness and outcome == FAIL else NOTHING_SEEN
+            self.verdicts[name] = Judgement(outcome, finding(came), seen)
+        self._moments.append(now)
 
-    def cannot_go_on(self, outcome: str, came: str) -> None:
+    def _part_begun(self) -> float:
+        """When that began which is judged now: at the last judgement since which the kit has done anything. (Checks
+        that are judged one after the other are of the same calls.)"""
+        moments, witness = reversed(self._moments), self.witness
+        return next((moment for moment in moments if witness and witness.has_acted_since(moment)), self._moments[0])
+
+    def cannot_go_on(self, outcome: str, came: Came) -> None:
         """Judges the checks that are left, or the last one, which more was to be seen of."""
         if len(self.verdicts) == len(self.scenario.checks):
             self.judge(self._last, outcome, came)
         self.rest(outcome, came)
 
-    def rest(self, outcome: str, came: str) -> None:
+    def rest(self, outcome: str, came: Came) -> None:
         for check in self.scenario.checks:
             if check.name not in self.verdicts:
                 self.judge(check.name, outcome, came)
@@ -104,26 +176,25 @@ def names_of(registry: List[Scenario]) -> Set[str]:
 
 def run(scenario: Scenario, open_stage: OpenStage) -> List[Verdict]:
     """Plays one scenario on a stage of its own: its verdicts, in the order of its checks."""
-    jury, begun, seen = Jury(scenario), time.monotonic(), Seen(None, (), (), "")
+    jury, begun, history = Jury(scenario), time.monotonic(), None
     with open_stage(scenario, jury) as stage:
+        jury.witness = stage
         try:
             stage.prepare()
             scenario.play(stage)
             jury.rest(FAIL, "the scenario ended before it came to this check")
         except Missing as missing:
-            jury.cannot_go_on(scenario.settings.get("judged", FAIL), str(missing))
+            jury.cannot_go_on(scenario.settings.get("judged", FAIL), missing.finding)
             jury.stops = scenario.settings.get("first", False)
         except Fault:
             raise
         except Exception:  # a fault of the kit itself, or the service is gone: said as it is
             jury.cannot_go_on(FAIL, "the kit could not go on: " + traceback.format_exc().strip().splitlines()[-1])
-        if any(outcome == FAIL for outcome, _ in jury.verdicts.values()):
-            drawn = scenario.settings.get("drawn", True)
-            seen = Seen(stage.history() if drawn else None, tuple(stage.acts()), tuple(stage.on_the_wire()),
-                        stage.cause())
+        if scenario.settings.get("drawn", True) and any(one.outcome == FAIL for one in jury.verdicts.values()):
+            history = stage.history()
     seconds = time.monotonic() - begun
-    return [Verdict(check, scenario.name, *jury.verdicts[check.name], seconds, seen, jury.stops)
-            for check in scenario.checks]
+    return [Verdict(check, scenario.name, found.outcome, found.found, seconds, found.seen._replace(history=history),
+                    jury.stops) for check in scenario.checks for found in (jury.verdicts[check.name],)]
 
 
 def has_failed(verdicts: List[Verdict]) -> bool:

@@ -15,7 +15,7 @@ from ..service import Fault
 from .sockets import chosen_ports
 from .watch import NO_SESSION, OwnTime, begun_at, open_descriptors, processes_of, resident, threads_of
 
-SHOWN = 400  # bytes of the end of what it wrote
+LONGEST_LINE = 200  # letters of a line that it wrote
 LOOK = 0.05  # seconds between two looks at what it does
 MEGABYTES = 128  # of a function's memory
 # (Node collects all its garbage only after thousands of requests, unless a module has it do so.)
@@ -53,6 +53,12 @@ def collecting_early() -> Dict[str, str]:
     process then holds is what it keeps. Options of the caller's own come first."""
     options = {name: f"{os.environ.get(name, '')} {words}".strip() for name, words in COLLECT_EARLY.items()}
     return {**LITTLE_HEAPS, **options}
+
+
+def printable(text: str, most: int) -> str:
+    """A text as a line of a terminal, of so many letters."""
+    line = "".join(letter if letter.isprintable() else repr(letter)[1:-1] for letter in text[:most + 1])
+    return line if len(line) <= most else f"{line[:most]}\u2026"
 
 
 class Holds(NamedTuple):
@@ -196,15 +202,16 @@ class Process:
         GUARD.release(self.number)
         self._gone(self)
 
-    def written(self) -> str:
-        """The end of what it wrote, as one line."""
+    def last_lines(self, most: int) -> List[str]:
+        """The last lines that it wrote and that are not empty, as they may be printed."""
         try:
             size = os.fstat(self.output.fileno()).st_size
-            text = os.pread(self.output.fileno(), SHOWN, max(0, size - SHOWN)).decode(errors="replace")
+            begin = max(0, size - most * (LONGEST_LINE + 1))
+            text = os.pread(self.output.fileno(), size - begin, begin).decode(errors="replace")
         except (OSError, ValueError):
-            return ""
-        lines = [line.strip() for line in text.splitlines() if line.strip()]
-        return lines[-1] if lines else ""
+            return []
+        lines = text.expandtabs(4).splitlines()[1 if begin else 0:] or text.splitlines()
+        return [printable(line.rstrip(), LONGEST_LINE) for line in lines if line.strip()][-most:]
 
     def how_it_ended(self) -> str:
         if not self.ended:

@@ -3,15 +3,15 @@ show, and the timeline. FAILs of one cause are told once and then counted."""
 import argparse
 import itertools
 import os
-from typing import Any, Callable, Dict, Iterable, List, Optional, Set
+from typing import Any, Callable, Dict, Iterable, List, Set, Tuple
 
 from .. import junit
 from ..service import Fault
-from .causes import Causes
+from .causes import Causes, Known
 from .clock import CLOCK
-from .kit import FAIL, NOTE, PASS, SHOULD, Verdict
+from .kit import FAIL, NOTE, PASS, SHOULD, Seen, Verdict
 
-LINES, WIDTH = 24, 200  # of a timeline as text, and lines of what the kit did
+LINES, FIRST, WIDTH = 24, 8, 200  # of a timeline as text and what the kit did, of which these come first; letters
 
 
 def draw(history: str, *words: str) -> str:
@@ -36,8 +36,13 @@ def shortened(lines: Iterable[str]) -> List[str]:
         count = sum(1 for _ in same)
         told.append(line if count == 1 else f"{line} ({count:,} times)")
     if len(told) > LINES:
-        told = [*told[:LINES // 2], f".. {len(told) - LINES} lines ..", *told[-LINES // 2:]]
+        told = [*told[:FIRST], f".. {len(told) - LINES} lines ..", *told[FIRST - LINES:]]
     return told
+
+
+def part_of(seen: Seen) -> Tuple[str, ...]:
+    """The words that ask for the part of a timeline that a FAIL is about."""
+    return ("--from", str(seen.begin), "--to", str(seen.end)) if seen.end else ()
 
 
 class Report:
@@ -47,8 +52,8 @@ class Report:
         self.write, self.pictures, self.junit_path = write, options.pictures, options.junit
         self._program = ["--program", options.program] if options.program else []
         self.strict, self._causes = options.strict, Causes()
-        self._again: Dict[str, List[str]] = {}  # by the names of checks: others that failed for the same cause
-        self._timelines: Set[str] = set()
+        self._again: Dict[Known, List[str]] = {}  # checks that failed as others have
+        self._timelines: Set[Tuple[str, Tuple[str, ...]]] = set()  # that were drawn: of scenarios, parts
         self.suite, self.counts = junit.Suite(name), {PASS: 0, FAIL: 0, SHOULD: 0, NOTE: 0}
         self._drawn: Dict[str, str] = {}  # by their paths
         if self.junit_path and not os.access(os.path.dirname(os.path.abspath(self.junit_path)), os.W_OK):
@@ -68,18 +73,14 @@ class Report:
 
     def tells(self, verdicts: Iterable[Verdict]) -> bool:
         """Whether one of these is a FAIL for another cause than those before."""
-        return any(verdict.outcome == FAIL and not self._first(verdict, False) for verdict in verdicts)
-
-    def _first(self, verdict: Verdict, notes: bool = True) -> Optional[str]:
-        return self._causes.first(verdict.check.name, verdict.came, verdict.seen.cause, notes)
+        return any(verdict.outcome == FAIL and not self._causes.known(verdict, False) for verdict in verdicts)
 
     def add(self, verdict: Verdict) -> None:
         self.counts[verdict.outcome] += 1
-        is_fail = verdict.outcome == FAIL
-        first = self._first(verdict) if is_fail else None
-        if first:
-            self._again.setdefault(first, []).append(verdict.check.name)
-            details = [f"for the same cause as {first}"]
+        known = self._causes.known(verdict) if verdict.outcome == FAIL else None
+        if known:
+            self._again.setdefault(known, []).append(verdict.check.name)
+            details = [f"{known.because.value} {known.first}"]
         else:
             details = self._tell(verdict)
         failed = verdict.outcome == FAIL or (verdict.outcome == SHOULD and self.strict)
@@ -105,13 +106,17 @@ class Report:
 
     def _details(self, verdict: Verdict) -> List[str]:
         lines = [*self._rule(verdict), *(f"wire      {line}" for line in verdict.seen.wire)]
+        if verdict.seen.written:
+            lines += ["wrote", *("  " + line for line in verdict.seen.written)]
         if verdict.seen.history:
             lines += [f"kit       {act}" for act in shortened(verdict.seen.acts)]
-            if verdict.scenario in self._timelines:
+            part = part_of(verdict.seen)
+            if (verdict.scenario, part) in self._timelines:
                 lines.append("timeline  as above")
             else:
-                self._timelines.add(verdict.scenario)
-                lines += ["timeline", *("  " + line for line in text_timeline(verdict.seen.history, *self._program))]
+                self._timelines.add((verdict.scenario, part))
+                drawn = text_timeline(verdict.seen.history, *part, *self._program)
+                lines += ["timeline", *("  " + line for line in drawn)]
             if self.pictures:
                 lines.append(f"picture   {self._picture(verdict)}")
         return lines
@@ -128,9 +133,10 @@ class Report:
     def finish(self, seconds: float) -> int:
         """The last lines and the file: the exit status."""
         self.suite.seconds = seconds
-        for name, others in self._again.items():
+        for known, others in self._again.items():
             checks = "check fails" if len(others) == 1 else "checks fail"
-            self.write(f"{len(others)} more {checks} for the same cause as {name}: {', '.join(others)}")
+            because = f"{known.because.value} {known.first}" + (f" ({known.cause})" if known.cause else "")
+            self.write(f"{len(others)} more {checks} {because}: {', '.join(others)}")
         if CLOCK.stretch() > 1.5:
             self.write(f"(this machine is busy with other things: limits were {CLOCK.stretch():.1f} times as long)")
         should = f"{self.counts[SHOULD]} should, " if self.counts[SHOULD] else ""

@@ -7,7 +7,6 @@ import time
 from typing import Any, Callable, List, NoReturn, Tuple, cast
 
 from . import kit
-from .causes import LATER, again_of
 from .clock import CLOCK
 from .kit import FAIL, Jury, OpenStage, Scenario, Verdict
 from .process import Processes, program_of
@@ -160,8 +159,7 @@ def judge_others(scenarios: List[Scenario], open_stage: OpenStage, report: Repor
 
 def fails_later(verdicts: List[Verdict]) -> bool:
     """Whether what failed is something that another scenario is about."""
-    return all(again_of(verdict.came) or verdict.came.startswith(LATER)
-               for verdict in verdicts if verdict.outcome == FAIL)
+    return all(verdict.found.about or verdict.found.is_later for verdict in verdicts if verdict.outcome == FAIL)
 
 
 def at_once() -> int:

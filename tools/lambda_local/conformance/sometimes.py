@@ -2,19 +2,14 @@
 name of a file, that its processes share on one machine is none of their mistakes. A fault that shows itself only
 sometimes is one, and so it is looked at what was seen, and whether the command meets itself."""
 import concurrent.futures
-import re
 import time
 from typing import List
 
-from .kit import FAIL, NOTE, PASS, OpenStage, Scenario, Verdict, has_failed, run
+from .kit import FAIL, NOTE, PASS, Finding, OpenStage, Scenario, Verdict, has_failed, run
 
 LEAST, MOST = 2, 5  # times that a scenario is played by itself before it counts as passed
 SECONDS = 6  # after which it is played no more than the least
 AT_ONCE = 3  # copies of it that are played beside one another
-# What shows that a program has done something wrong; and that it has only not done it in time, which a busy machine may
-# be the reason of. (403 is the answer to what comes in another phase, so also too late.)
-DONE = re.compile(r"received|in place of|came as|twice|second Next|-> 4(?!03)\d\d|sees the|responses to each")
-NOT_IN_TIME = re.compile(r"[Tt]imeout|timed out|ExitError|no answer|within|it ended")
 
 
 def run_alone(scenario: Scenario, open_stage: OpenStage, before: List[Verdict]) -> List[Verdict]:
@@ -26,22 +21,18 @@ def run_alone(scenario: Scenario, open_stage: OpenStage, before: List[Verdict]) 
         verdicts, times = run(scenario, open_stage), times + 1
         if has_failed(verdicts):
             return verdicts
-    is_its_own = any(map(shows_what_it_did, before)) and not meets_itself(scenario, open_stage)
+    was_done = any(one.outcome == FAIL and one.found.is_deed for one in before)
+    is_its_own = was_done and not meets_itself(scenario, open_stage)
     return [judged(earlier, later, times, is_its_own) for earlier, later in zip(before, verdicts)]
-
-
-def shows_what_it_did(verdict: Verdict) -> bool:
-    came = verdict.came
-    return verdict.outcome == FAIL and bool(DONE.search(came)) and not NOT_IN_TIME.search(came)
 
 
 def judged(earlier: Verdict, later: Verdict, times: int, is_its_own: bool) -> Verdict:
     if earlier.outcome != FAIL or later.outcome != PASS:
         return later
     if is_its_own:
-        return earlier._replace(came=f"in 1 of {times + 1} runs: {earlier.came}")
-    return later._replace(outcome=NOTE, came=f"by itself it passes {times} times; beside other scenarios: "
-                                             f"{earlier.came}")
+        return earlier._replace(found=earlier.found.within(f"in 1 of {times + 1} runs: {earlier.came}"))
+    return later._replace(outcome=NOTE, found=Finding(f"by itself it passes {times} times; beside other scenarios: "
+                                                      f"{earlier.came}"))
 
 
 def meets_itself(scenario: Scenario, open_stage: OpenStage) -> bool:

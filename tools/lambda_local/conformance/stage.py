@@ -8,13 +8,14 @@ import json
 import math
 import os
 import time
-from typing import Any, Callable, Dict, Iterator, List, NamedTuple, Optional, Sequence, Union
+from typing import Any, Callable, Dict, List, NamedTuple, Optional, Sequence, Union
 
 from ..service import Fault, Service, ask
+from . import evidence
 from .clock import CLOCK
 from .environment import LOOK, Environment
 from .exchanges import as_json, read_json
-from .kit import FAIL, NOTE, PASS, SHOULD, Jury, Missing, Scenario
+from .kit import FAIL, NOTE, PASS, SHOULD, Came, Finding, Jury, Missing, Scenario, Seen
 from .parked import parked
 from .process import Processes
 from .watch import OwnTime
@@ -25,14 +26,12 @@ ACCOUNT, REGION = "123456789012", "us-east-1"
 PATIENCE = 10  # seconds beyond twice an Init's limit: one check alone is about that limit
 ANSWERED_WITHIN = 10  # seconds that a caller waits beyond the function's timeout
 SHOWN = 200  # letters of what came
-BEHIND = 3  # lines of what the connections show
 SILENT = 12  # seconds of its own after which a process that has to answer, or to ask, does not do so any more
 GONE_ON = 6  # seconds of its own in which a process that asks for its next invocation answers its last one all the same
 UNANSWERED = "the caller received no answer, and the next invocation is asked for"
-MALFORMED = (400, 404, 405, 411, 414, 431, 501, 505)  # statuses of requests that are wrong in whatever state
 REFUSED = 3  # polls that are refused for what they are, after which it is not waited for another one
-TWO_POLLS = "there is a second Next while one waits"
 RESTARTS = "its command starts other processes in place of those that have ended"
+OF_LAMBDA = ("Function.Timeout", "Sandbox.Timedout", "Runtime.ExitError")  # errors of what sends no answer
 LONGEST_NAME = 64  # letters of a function's name
 LONG_NAME = "_of_a_function_whose_name_has_as_many_letters_as_Lambda_allows"
 STAGES = itertools.count()
@@ -62,13 +61,18 @@ class Answer(NamedTuple):
         try:
             return read_json(self.body)
         except ValueError:
-            raise Missing(f"the caller received what is not JSON: {shown(self.body)}") from None
+            raise Missing(self.came(f"the caller received what is not JSON: {shown(self.body)}")) from None
 
     @property
     def report(self) -> Dict[str, Any]:
         """Returns the error report; an empty one if it is not a JSON object."""
         value = as_json(self.body)
         return value if isinstance(value, dict) else {}
+
+    def came(self, words: str = "") -> Finding:
+        """What the caller received, in these words: something that the program sent, unless it sent nothing in time."""
+        is_late = self.failed and self.report.get("errorType") in OF_LAMBDA
+        return Finding(words or f"the caller received {shown(self.body)}", not is_late)
 
 
 def shown(value: Any) -> str:
@@ -83,6 +87,12 @@ def shown(value: Any) -> str:
 def compact(event: Event) -> bytes:
     """The bytes of an event: compact, members in their order, text as it is."""
     return event if isinstance(event, bytes) else json.dumps(event, ensure_ascii=False, separators=(",", ":")).encode()
+
+
+def told(event: Event) -> str:
+    """What a handler is asked for by an event, in a word."""
+    value = as_json(event) if isinstance(event, bytes) else event
+    return str(value.get("do", "")) if isinstance(value, dict) else ""
 
 
 class Stage:
@@ -101,7 +111,8 @@ class Stage:
         self.timeout = timeout = math.ceil(timeout * CLOCK.slowness())
         self.patience = 2 * tools.options.init_seconds + PATIENCE
         self.name = (scenario.name + LONG_NAME)[:LONGEST_NAME] if has_long_name else scenario.name
-        self._cause = ""
+        self._cause = self.last_event = ""
+        self.acted = time.monotonic()  # when the kit has begun anything last
         function = {"name": self.name, "handler": handler, "timeout": timeout, "ports": [0] * environments,
                     "extensions": list(extensions)}
         configuration = {"account": ACCOUNT, "region": REGION, "salt": salt(), "functions": [function]}
@@ -130,7 +141,7 @@ class Stage:
             if not environment.asked(in_vain=self.misdirected) and not self.starts_plainly(environment):
                 if self.is_first:
                     self.refuse_if_it_ended()
-                raise Missing(self.misdirected() or f"no Next within {self.patience:g} s: {self.said()}")
+                raise Missing(self.misdirected() or f"no Next within {self.patience:g} s: {self.ended()}")
         self.idle()  # (the service knows of it too)
 
     def starts_plainly(self, environment: Environment) -> bool:
@@ -164,29 +175,30 @@ class Stage:
         """A command that ends before it asks for anything is none that can be tested."""
         environment = self.environment
         if environment.process.ended and not environment.proxy.exchanges:
-            command, written = " ".join(self.tools.command), environment.process.written()
-            raise Fault(2, f"{command}: {environment.process.how_it_ended()} before it asked for anything"
-                           + (f"; its last line: {shown(written)}" if written else ""))
+            words = (f"{' '.join(self.tools.command)}: {environment.process.how_it_ended()} before it asked for "
+                     f"anything")
+            lines = environment.process.last_lines(evidence.WRITTEN)
+            raise Fault(2, "\n".join([words + (", and wrote:" if lines else ""), *(f"  {line}" for line in lines)]))
 
-    def misdirected(self) -> str:
+    def misdirected(self) -> Optional[Finding]:
         """Says that a request is refused that is of no route, or none at all, if there is one."""
         refused = [one for one in self.environment.proxy.of("other") if one.refused and not one.by_rule]
-        return f"its request is refused: {refused[-1]}" if refused else ""
+        return Finding(f"its request is refused: {refused[-1]}", refused[-1].is_wrong) if refused else None
 
     # -- judging
 
-    def check(self, name: str, passed: Any, came: Any, measured: str = "") -> None:
+    def check(self, name: str, passed: Any, came: Optional[Came], measured: str = "") -> None:
         """A PASS, with what was measured, or a FAIL, with what came."""
-        self.jury.judge(name, PASS if passed else FAIL, measured if passed else came)
+        self.jury.judge(name, PASS if passed else FAIL, measured if passed else came or "")
 
-    def note(self, name: str, came: str) -> None:
+    def note(self, name: str, came: Came) -> None:
         self.jury.judge(name, NOTE, came)
 
-    def should(self, name: str, came: str) -> None:
+    def should(self, name: str, came: Came) -> None:
         """What the pages recommend is not done, as clients of AWS's own do not either."""
         self.jury.judge(name, SHOULD, came)
 
-    def in_time(self, name: str, passed: Any, own: OwnTime, limit: float, came: Any, measured: str = "") -> None:
+    def in_time(self, name: str, passed: Any, own: OwnTime, limit: float, came: Came, measured: str = "") -> None:
         """Judges what has a limit in seconds: a program is late by its own time alone, and in time by the real one."""
         if not passed and own.has_others():
             self._cause = RESTARTS
@@ -199,6 +211,7 @@ class Stage:
 
     def invoke(self, event: Event, qualified: bool = False, trace: Optional[str] = None) -> Answer:
         """Invokes the function, and again if no environment is free yet. Returns what its caller received."""
+        self.acted, self.last_event = time.monotonic(), told(event)
         headers = {"X-Amzn-Trace-Id": trace} if trace else {}
         path = f"/2015-03-31/functions/{self.name}/invocations" + ("?Qualifier=$LATEST" if qualified else "")
         end, own = CLOCK.now() + ANSWERED_WITHIN, OwnTime(self.environment.process.number)
@@ -207,9 +220,9 @@ class Stage:
             if answer.status == 200:
                 return answer
             if answer.status != 429:
-                raise Missing(f"the caller received {answer.status} {shown(answer.body)}")
+                raise Missing(Finding(f"the caller received {answer.status} {shown(answer.body)}", True))
             if own.look() > ANSWERED_WITHIN and CLOCK.now() > end:
-                raise Missing(f"it did not ask for its next invocation within {ANSWERED_WITHIN} s: {self.said()}")
+                raise Missing(f"it did not ask for its next invocation within {ANSWERED_WITHIN} s: {self.ended()}")
             time.sleep(0.05)
 
     def _received(self, path: str, body: bytes, headers: Dict[str, str]) -> Answer:
@@ -228,13 +241,13 @@ class Stage:
                 break
             gone_on = (gone_on or OwnTime(self.environment.process.number)) if self.has_gone_on(begun) else None
             if gone_on and gone_on.look() > GONE_ON:
-                raise Missing(f"{UNANSWERED}: {self.said()}")
+                raise Missing(f"{UNANSWERED}: {self.ended()}")
             if own and self.waits():
                 own = OwnTime(self.environment.process.number)
             if self.is_long and own and own.look() > SILENT:
-                raise Missing(f"the caller received no answer within {SILENT} s: {self.said()}")
+                raise Missing(f"the caller received no answer within {SILENT} s: {self.ended()}")
         if not waiting.done():
-            raise Missing(f"the caller received no answer: {self.said()}")
+            raise Missing(f"the caller received no answer: {self.ended()}")
         try:
             return Answer(*waiting.result())
         except (OSError, http.client.HTTPException) as fault:
@@ -250,11 +263,9 @@ class Stage:
         delivered since this moment."""
         return all(environment.has_gone_on(since) for environment in self.environments)
 
-    def said(self) -> str:
-        """How the tested process ended, and its last line."""
-        process = self.environment.process
-        written = process.written()
-        return process.how_it_ended() + (f"; its last line: {shown(written)}" if written else "")
+    def ended(self) -> str:
+        """How the tested process ended. (What it wrote last, a FAIL shows.)"""
+        return self.environment.process.how_it_ended()
 
     def later(self, call: Callable[..., Any], *arguments: Any, **named: Any) -> concurrent.futures.Future[Any]:
         """Does that in a thread of its own: `.result()` waits for it."""
@@ -264,12 +275,12 @@ class Stage:
         """Returns what the handler returned for this event, as JSON; Missing if that is not an output."""
         answer = self.invoke(event, **named)
         if answer.failed:
-            raise Missing(f"in place of an output the caller received the error {shown(answer.body)}")
+            raise Missing(answer.came(f"in place of an output the caller received the error {shown(answer.body)}"))
         return answer.value
 
     def spin_down(self, environment: Optional[Environment] = None) -> None:
         """Shuts an environment down as soon as it is idle."""
-        number = (environment or self.environment).number
+        number, self.acted = (environment or self.environment).number, time.monotonic()
         end = CLOCK.now() + self.patience
         while ask(self.service.port, "POST", f"/_local/env/{number}/spindown")[0] != 202:
             if CLOCK.now() > end:
@@ -296,39 +307,18 @@ class Stage:
             if not self.environment.process.ended:
                 raise
 
-    def acts(self) -> Iterator[str]:
-        """What the proxies did in the service's place, as lines."""
-        for environment in self.environments:
-            for exchange in environment.proxy.exchanges:
-                if exchange.by_rule:
-                    yield f"{exchange.method} {exchange.path}: the kit {exchange.by_rule.did(exchange)}"
+    # -- what a FAIL shows
 
-    def cause(self) -> str:
-        """What a FAIL comes from, whatever its check is about, in words; none if the connections do not show it."""
-        exchanges = [one for environment in self.environments for one in list(environment.proxy.exchanges)]
-        if any(exchange.behind for exchange in exchanges):
-            return "a body is longer than its length says"
-        malformed = next((one for one in exchanges if one.status in MALFORMED and not one.by_rule), None)
-        if malformed:
-            return f"{malformed.kind} is answered {malformed.status}"
-        return TWO_POLLS if any(map(self.polls_twice, self.environments)) else self._cause
+    def has_acted_since(self, moment: float) -> bool:
+        """Whether an invocation, a process or a shutdown was begun since then."""
+        return self.acted > moment
 
-    def polls_twice(self, environment: Environment) -> bool:
-        """Whether it asks while a Next of its waits."""
-        polls = environment.proxy.of(self.poll_kind)
-        return any(other.begun < one.end for one, other in zip(polls, polls[1:]))
+    def seen(self, begin: float, end: float) -> Seen:
+        return evidence.seen(self, evidence.Part(begin, end))
 
-    def on_the_wire(self) -> Iterator[str]:
-        """What the connections show that may be the cause of a FAIL, and the last exchange that is over, as lines."""
-        exchanges = [one for environment in self.environments for one in list(environment.proxy.exchanges)]
-        yield from [fault for exchange in exchanges for fault in exchange.faults()][:BEHIND]
-        if any(map(self.polls_twice, self.environments)):
-            yield TWO_POLLS
-        over = [exchange for exchange in exchanges if exchange.ended]
-        refused = [exchange for exchange in over if exchange.refused]
-        for name, found in (("refused", refused), ("last", over)):
-            if found and (name == "last" or found[-1] is not over[-1]):
-                yield f"{name}: {max(found, key=lambda one: one.end)}"
+    def cause(self, shown_there: str) -> str:
+        """What a FAIL comes from, by what the connections show there, or by what is known of the program."""
+        return shown_there or self._cause
 
     def history(self) -> Optional[str]:
         try:

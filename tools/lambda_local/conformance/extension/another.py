@@ -2,11 +2,10 @@
 from typing import List, Optional
 
 from .. import pages
-from ..kit import Missing, Scenario, scenarios_of
+from ..kit import Finding, Missing, Scenario, scenarios_of
 from ..manners import Manner
 from ..exchanges import Rule
 from ..runtime.another import MANY, Way, titled
-from ..stage import shown
 from .stage import ExtensionStage
 
 SCENARIOS: List[Scenario] = []
@@ -39,7 +38,7 @@ def another_lambda(stage: ExtensionStage) -> None:
         stage.check(way.name, not fault, fault)
 
 
-def fault_in(stage: ExtensionStage, manner: Manner) -> Optional[str]:
+def fault_in(stage: ExtensionStage, manner: Manner) -> Optional[Finding]:
     """What is wrong with a process that is answered in this manner."""
     stage.environment.proxy.manner = manner
     try:
@@ -48,10 +47,10 @@ def fault_in(stage: ExtensionStage, manner: Manner) -> Optional[str]:
         for number in range(EVENTS if stage.registered_for("INVOKE") else 0):
             answer = stage.invoke(str(number).encode())
             if answer.failed:
-                return f"the caller received {shown(answer.body)}"
+                return answer.came()
             stage.idle()
     except Missing as missing:
-        return str(missing)
+        return missing.finding
     finally:
         stage.environment.proxy.manner = None
         stage.forget()
@@ -71,7 +70,7 @@ def connection_ends(stage: ExtensionStage) -> None:
     stage.invoke(b"1")
     event = stage.event("INVOKE")
     return stage.check("connection_end", environment.asked_after(event, ASKS, "event"),
-                       f"no Next within {ASKS} s: {stage.said()}")
+                       f"no Next within {ASKS} s: {stage.ended()}")
 
 
 @scenario(
@@ -82,7 +81,7 @@ def lost_poll(stage: ExtensionStage) -> None:
     environment.proxy.rule = Rule("event", ends_after=WAITS)
     stage.register()
     if not environment.asked(kind="event"):
-        raise Missing(f"it did not ask for an event: {stage.said()}")
+        raise Missing(f"it did not ask for an event: {stage.ended()}")
     lost = environment.proxy.of("event")[0]
     environment.proxy.wait(lambda: lost.ended, ASKS)
     goes_on = environment.asked_after(lost, ASKS, "event") or environment.process.ended

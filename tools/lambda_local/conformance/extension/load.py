@@ -3,7 +3,7 @@ from math import inf
 from typing import List
 
 from .. import leaks, pages
-from ..kit import NOTE, Missing, Scenario, scenarios_of
+from ..kit import NOTE, Missing, Scenario, deed, scenarios_of
 from .stage import ExtensionStage
 
 SCENARIOS: List[Scenario] = []
@@ -38,7 +38,7 @@ def many_events(stage: ExtensionStage) -> None:
 
     def once(number: int) -> None:
         if stage.invoke(str(number).encode()).failed or process.ended:
-            raise Missing(f"it did not take event {number + 1}: {stage.said()}")
+            raise Missing(f"it did not take event {number + 1}: {stage.ended()}")
     def marks() -> List[bytes]:
         told = [event["requestId"].encode() for event in map(stage.body_of, stage.events("INVOKE")[-200:])]
         return [stage.identifier.encode(), *told]
@@ -48,12 +48,12 @@ def many_events(stage: ExtensionStage) -> None:
         looks = leaks.repeat(process, once, course, files)
         stage.event("INVOKE", looks.done)
     except Missing as missing:
-        stage.check("many_events", False, str(missing))
+        stage.check("many_events", False, missing.finding)
         return stage.jury.rest(NOTE, "not judged: it does not take as many")
-    stage.check("many_events", not process.ended, stage.said(), f"{looks.done} events")
+    stage.check("many_events", not process.ended, stage.ended(), f"{looks.done} events")
     refused = [one for one in requests[before:] if one.refused and one.kind != "event"]
     if 0 < len(refused) < looks.done // EVERY:
         stage.check("many_events", False,
-                    f"of its requests at {looks.done} events {len(refused)} are refused: {refused[0]}")
+                    deed(f"of its requests at {looks.done} events {len(refused)} are refused: {refused[0]}"))
     leaks.judge(stage, looks, CHECKS, course.wanted)
     return files.judge("files")

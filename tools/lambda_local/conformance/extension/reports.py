@@ -2,7 +2,7 @@
 from typing import List
 
 from .. import pages
-from ..kit import Missing, Scenario, scenarios_of
+from ..kit import Missing, Scenario, deed, scenarios_of
 from ..exchanges import Rule
 from ..stage import shown
 from ..watch import OwnTime
@@ -31,7 +31,7 @@ def reports(stage: ExtensionStage, name: str, kind: str) -> None:
     exchange = environment.saw(kind, 0.2)
     stray = [one for one in environment.proxy.of(*ROUTES) if one.kind != kind or (one.refused and one is not exchange)]
     if stray:
-        return stage.check(name, False, f"it sends its report, or another request, elsewhere: {stray[0]}")
+        return stage.check(name, False, deed(f"it sends its report, or another request, elsewhere: {stray[0]}"))
     if exchange is None:
         return stage.note(name, f"it makes no such report, though CONFORMANCE_FAILS asks for one: "
                                 f"{environment.process.how_it_ended()}")
@@ -56,7 +56,7 @@ def reports(stage: ExtensionStage, name: str, kind: str) -> None:
 def failing_init(stage: ExtensionStage) -> None:
     stage.start()
     if not stage.environment.asked(kind="register"):
-        raise Missing(f"it did not register: {stage.said()}")
+        raise Missing(f"it did not register: {stage.ended()}")
     reports(stage, "init_error", "extension_init_error")
 
 
@@ -89,7 +89,7 @@ def container_error(stage: ExtensionStage) -> None:
     stage.environment.proxy.always["event"] = Rule("event", reply=(500, CONTAINER_ERROR))
     stage.register()
     if not stage.environment.asked(kind="event"):
-        raise Missing(f"it did not ask for an event: {stage.said()}")
+        raise Missing(f"it did not ask for an event: {stage.ended()}")
     ends(stage, "ends_at_500", "500")
 
 
@@ -103,7 +103,7 @@ def container_error_at_registration(stage: ExtensionStage) -> None:
         proxy.always[kind] = Rule(kind, reply=(500, CONTAINER_ERROR))
     stage.start()
     if not stage.environment.asked(kind="register"):
-        raise Missing(f"it did not register: {stage.said()}")
+        raise Missing(f"it did not register: {stage.ended()}")
     ends(stage, "ends_at_500_register", "500")
     if polls := proxy.of("event"):
         stage.should("ends_at_500_register", f"it asked {len(polls)} times for an event before it ended")
@@ -126,7 +126,7 @@ def registration_refused(stage: ExtensionStage) -> None:
     stage.start()
     process = stage.environment.process
     if not stage.environment.asked(kind="register"):
-        raise Missing(f"it did not register: {stage.said()}")
+        raise Missing(f"it did not register: {stage.ended()}")
     again_and_again(stage, "register")
     polls, tries = proxy.of("event"), len(proxy.of("register"))
     if polls:
@@ -134,7 +134,7 @@ def registration_refused(stage: ExtensionStage) -> None:
     elif tries > MANY:
         stage.should("refused_registration", f"it registers {tries} times within {ENDS} s")
     stage.check("refused_registration", process.ended or tries > 1 or bool(polls),
-                f"after 403 it neither ends nor registers again: {stage.said()}", process.how_it_ended())
+                f"after 403 it neither ends nor registers again: {stage.ended()}", process.how_it_ended())
 
 
 @scenario(
@@ -145,7 +145,7 @@ def next_refused(stage: ExtensionStage) -> None:
     proxy.always["event"] = Rule("event", reply=(403, UNKNOWN))
     stage.register()
     if not stage.environment.asked(kind="event"):
-        raise Missing(f"it did not ask for an event: {stage.said()}")
+        raise Missing(f"it did not ask for an event: {stage.ended()}")
     process = stage.environment.process
     again_and_again(stage, "event")
     tries = len(proxy.of("event"))
@@ -153,7 +153,7 @@ def next_refused(stage: ExtensionStage) -> None:
         stage.should("refused_next", f"it asks {tries} times within {ENDS} s")
     del proxy.always["event"]
     goes_on = process.ended or stage.environment.asked(tries + 1, ASKS, kind="event")
-    stage.check("refused_next", goes_on or tries > 1, f"after 403 it neither ends nor asks again: {stage.said()}",
+    stage.check("refused_next", goes_on or tries > 1, f"after 403 it neither ends nor asks again: {stage.ended()}",
                 process.how_it_ended())
 
 
@@ -166,4 +166,4 @@ def event_of_another_type(stage: ExtensionStage) -> None:
                                   headers=[("Lambda-Extension-Event-Identifier", "0")])
     stage.begin()
     goes_on = environment.asked(2, ASKS, kind="event") and not environment.process.wait(0.2)
-    stage.check("unknown_event", goes_on, f"after an unknown event {stage.said()}")
+    stage.check("unknown_event", goes_on, f"after an unknown event {stage.ended()}")

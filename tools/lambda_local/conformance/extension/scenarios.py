@@ -5,7 +5,7 @@ from typing import List
 
 from .. import pages
 from ..clock import CLOCK
-from ..kit import NOTE, Missing, Scenario, scenarios_of
+from ..kit import NOTE, Finding, Missing, Scenario, deed, scenarios_of
 from ..watch import began_after, members, parent_of
 from ..sockets import owner_of
 from ..stage import shown
@@ -34,26 +34,27 @@ def registration(stage: ExtensionStage) -> None:
     stage.start()
     if not environment.asked(kind="register", in_vain=stage.misdirected) or environment.saw("register", 5) is None:
         stage.refuse_if_it_ended()
-        raise Missing(stage.misdirected() or f"it did not register: {stage.said()}")
+        raise Missing(stage.misdirected() or f"it did not register: {stage.ended()}")
     exchange = environment.proxy.of("register")[0]
     if exchange.refused:
-        raise Missing(f"its registration is refused: {exchange}")
+        raise Missing(Finding(f"its registration is refused: {exchange}", exchange.is_wrong))
     seconds, own = exchange.begun - environment.process.begun, environment.own
     own.real = seconds
     stage.in_time("registers", exchange.status == 200 and min(seconds, own.seconds) <= options.init_seconds, own,
                   options.init_seconds, f"after {seconds:.2f} s, answered {exchange.status}", f"after {seconds:.2f} s")
     name, asked = exchange.request.headers.get("lambda-extension-name"), exchange.json()
-    stage.check("name", name == options.name, f"{shown(name)} in place of {options.name}")
+    stage.check("name", name == options.name, deed(f"{shown(name)} in place of {options.name}"))
     events = asked.get("events") if isinstance(asked, dict) else None
     stage.check("events", isinstance(events, list) and sorted(events) == sorted(options.events),
                 f"{shown(exchange.request.body)}")
     polled = environment.asked(kind="event", in_vain=stage.misdirected)
     first = environment.proxy.of("event")[0] if polled else None
     own, seconds = environment.own, first.begun - exchange.begun if first else 0
+    astray = stage.misdirected()
     own.real = seconds
     stage.in_time("asks_for_events", polled and min(seconds, own.seconds) <= options.init_seconds, own,
                   options.init_seconds, f"{seconds:.2f} s after its registration" if polled
-                  else f"no Next: {stage.misdirected() or stage.said()}")
+                  else f"no Next: {astray.words if astray else stage.ended()}")
     CLOCK.sleep(SETTLES)
     names = stage.names()
     stage.check("name", len(names) < 2, f"it registers {len(names)} times, as {' and as '.join(names)}")
@@ -93,13 +94,19 @@ def invocations(stage: ExtensionStage) -> None:
     CLOCK.sleep(SETTLES)
     polls = environment.proxy.of("event")
     overlap = any(other.begun < one.end for one, other in zip(polls, polls[1:]))
-    stage.check("asks_after_invoke", not silent, f"no Next within {2 * TIMEOUT} s after an INVOKE: {stage.said()}")
-    stage.check("invoke_in_time", not late,
-                f"{late[0] if late else 0:.1f} s after its INVOKE, of a timeout of {TIMEOUT} s")
-    stage.check("one_poll", not overlap, "a second Next while one waited")
+    stage.check("asks_after_invoke", not silent, f"no Next within {2 * TIMEOUT} s after an INVOKE: {stage.ended()}")
+    if silent and not late:
+        stage.note("invoke_in_time", "not judged: it does not ask again")
+    else:
+        stage.check("invoke_in_time", not late,
+                    f"{late[0] if late else 0:.1f} s after its INVOKE, of a timeout of {TIMEOUT} s")
+    if len(polls) < 2:
+        stage.note("one_poll", "not judged: it asks once")
+    else:
+        stage.check("one_poll", not overlap, deed("a second Next while one waited"))
     stray = [one for one in environment.proxy.of("other", "register") if one.refused]
     stray += environment.proxy.of(*OF_RUNTIMES)
-    stage.check("known_requests", not stray, str(stray and stray[0]))
+    stage.check("known_requests", not stray, deed(str(stray and stray[0])))
     return None
 
 
@@ -113,7 +120,7 @@ def ends_at(stage: ExtensionStage, name: str, reason: str) -> None:
     stage.in_time(name, ended, own, SHUTDOWN_SECONDS + SPARE,
                   f"{asked}it still ran {SHUTDOWN_SECONDS:g} s after its SHUTDOWN, and was killed")
     if ended and stage.environment.process.status:
-        stage.note(name, f"at its SHUTDOWN {stage.said()}")
+        stage.note(name, f"at its SHUTDOWN {stage.ended()}")
 
 
 def without_shutdown(stage: ExtensionStage) -> bool:
@@ -154,7 +161,7 @@ def works_anew(stage: ExtensionStage, name: str) -> None:
     stage.idle()
     answer = stage.invoke(b'"anew"')
     stage.check(name, stage.identifier != before and answer.body == b'"anew"',
-                f"the next caller received {shown(answer.body)}")
+                answer.came(f"the next caller received {shown(answer.body)}"))
 
 
 @scenario(
@@ -215,4 +222,4 @@ def idle_for_long(stage: ExtensionStage) -> None:
     stage.idle()
     poll = environment.given_up("event", seconds)
     after = f"{poll.end - poll.begun:.1f} s" if poll else ""
-    stage.check("next_without_timeout", poll is None, f"it gave its Next up after {after}; {stage.said()}")
+    stage.check("next_without_timeout", poll is None, f"it gave its Next up after {after}; {stage.ended()}")

@@ -9,7 +9,7 @@ from typing import Any, Dict, List, Optional, Tuple
 
 from ...service import EXTENSION, RUNTIME, ask
 from ..clock import CLOCK
-from ..kit import Jury, Missing, Scenario
+from ..kit import Finding, Jury, Missing, Scenario
 from ..exchanges import Exchange, Rule
 from ..parked import parked
 from ..stage import SILENT, Answer, Event, Stage, Tools, shown
@@ -110,13 +110,13 @@ class ExtensionStage(Stage):
             proxy.rule = Rule("event", reply=(200, ANOTHER_EVENT), headers=[("Lambda-Extension-Event-Identifier", "1")])
             proxy.then = Rule("event", holds=True)
 
-    def cause(self) -> str:
+    def cause(self, shown_there: str) -> str:
         own = ("event", "extension_init_error", "extension_exit_error")
         is_unknown = any(one.status == 403 and not one.by_rule and b"Unknown" in one.came
                          for one in self.environment.proxy.of(*own))
         if len(self.names()) > 1:
             return "it registers under several names"
-        return super().cause() or ("its identifier is not known" if is_unknown else "")
+        return super().cause(shown_there) or ("its identifier is not known" if is_unknown else "")
 
     def names(self) -> List[str]:
         """Those under which it has registered."""
@@ -133,7 +133,7 @@ class ExtensionStage(Stage):
         self.start()
         asked = self.environment.asked(before + 1, kind="register")
         if not asked or self.environment.saw("register", 5, before + 1) is None:
-            raise Missing(f"it did not register: {self.said()}")
+            raise Missing(f"it did not register: {self.ended()}")
         registered = self.environment.proxy.of("register")[before]
         if registered.status != 200:
             raise Missing(f"its registration was answered {registered.status} {shown(registered.came)}")
@@ -165,12 +165,12 @@ class ExtensionStage(Stage):
         asked = environment.asked(before + 1, kind="register", in_vain=goes_on_without)
         if (not (asked or self.starts_plainly(environment))
                 or environment.saw("register", 5, before + 1) is None):
-            raise Missing(f"it did not register: {self.said()}")
+            raise Missing(f"it did not register: {self.ended()}")
         registered = environment.proxy.of("register")[before]
         if registered.status != 200:
             raise Missing(f"its registration was answered {registered.status} {shown(registered.came)}")
         if not environment.asked(polls + 1, kind="event"):
-            raise Missing(f"it did not ask for an event: {self.said()}")
+            raise Missing(f"it did not ask for an event: {self.ended()}")
         if self._wants_companion:  # (the service gives an Init ten seconds from its first call on)
             self.companion = Companion(self.environment.service_port)
         self.play()
@@ -206,7 +206,7 @@ class ExtensionStage(Stage):
         """The last exchange in which it registered; Missing if there is none."""
         found = [one for one in self.environment.proxy.of("register") if one.status == 200]
         if not found:
-            raise Missing(f"it did not register: {self.said()}")
+            raise Missing(f"it did not register: {self.ended()}")
         return found[-1]
 
     @property
@@ -235,7 +235,7 @@ class ExtensionStage(Stage):
         end = CLOCK.now() + seconds
         while len(self.events(kind)) < count:
             if CLOCK.now() > end:
-                raise Missing(f"it did not take its event {kind}: {self.said()}")
+                raise Missing(f"it did not take its event {kind}: {self.ended()}")
             self.environment.proxy.wait(lambda: False, 0.02)
         return self.events(kind)[count - 1]
 
@@ -260,9 +260,9 @@ class ExtensionStage(Stage):
                 return
             polls = self.environment.proxy.of("event")
             if polls and polls[-1].refused and own.real > SETTLES:
-                raise Missing(f"its Next is refused: {polls[-1]}")
+                raise Missing(Finding(f"its Next is refused: {polls[-1]}", polls[-1].is_wrong))
             if self.waits() and CLOCK.now() < end:  # (the service does not know of it yet, or the runtime is late)
                 own = OwnTime(self.environment.process.number)
             if own.look() > SILENT or self.environment.process.ended:
-                raise Missing(f"it does not wait for an event: {self.said()}")
+                raise Missing(f"it does not wait for an event: {self.ended()}")
             time.sleep(0.02)

@@ -118,7 +118,7 @@ def subscription(stage: "ExtensionStage") -> None:
     stage.start()
     environment = stage.environment
     if not environment.asked(kind="event") and not stage.telemetry.faults:
-        raise Missing(f"it did not ask for an event: {stage.said()}")
+        raise Missing(f"it did not ask for an event: {stage.ended()}")
     if stage.registered_for("INVOKE") and environment.proxy.of("event"):  # (it may subscribe late)
         stage.play()
         stage.idle()
@@ -139,5 +139,5 @@ def no_telemetry(stage: "ExtensionStage") -> None:
     answer = stage.invoke(b"1")
     asked = stage.environment.proxy.of("telemetry")
     stage.idle()  # (it waits for no telemetry that cannot come)
-    stage.check("without_telemetry", answer.body == b"1", f"the caller received {shown(answer.body)}",
+    stage.check("without_telemetry", answer.body == b"1", answer.came(),
                 f"refused {len(asked)} times" if asked else "it asks for none")

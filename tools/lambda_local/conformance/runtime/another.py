@@ -2,8 +2,8 @@
 from typing import List, NamedTuple, Optional, Sequence, Tuple
 
 from .. import pages
-from ..again import fault_after, usable
-from ..kit import FAIL, PASS, SHOULD, Missing, Scenario, scenarios_of
+from ..again import OF_IDENTIFIERS, fault_after, usable
+from ..kit import FAIL, PASS, SHOULD, Finding, Missing, Scenario, deed, scenarios_of
 from ..manners import Manner
 from ..exchanges import Exchange, Rule
 from ..stage import Stage, shown
@@ -98,7 +98,7 @@ def yet_another_lambda(stage: Stage) -> None:
     play(stage, WAYS[HALF:])
 
 
-def fault_in(stage: Stage, name: str, manner: Manner) -> Optional[str]:
+def fault_in(stage: Stage, name: str, manner: Manner) -> Optional[Finding]:
     """What is wrong with invocations that are answered in this manner."""
     try:
         usable(stage)
@@ -107,13 +107,14 @@ def fault_in(stage: Stage, name: str, manner: Manner) -> Optional[str]:
         stage.environment.proxy.manner = manner
         answer = stage.invoke({"do": "context", "value": 0}, trace=TRACE)
         if answer.failed or not isinstance(answer.value, dict):
-            return f"the caller received {shown(answer.body)}"
+            return answer.came()
         if answer.value.get("requestId") != answer.headers.get("x-amzn-requestid"):
-            return f"the handler sees the request identifier {shown(answer.value.get('requestId'))}"
+            return deed(f"the handler sees the request identifier {shown(answer.value.get('requestId'))}",
+                        *OF_IDENTIFIERS)
         if name == "without_trace" and answer.value.get("traceId") == OLDER_TRACE:
             stage.should(name, f"the handler sees the trace of an earlier invocation, {OLDER_TRACE}")
     except Missing as missing:
-        return str(missing)
+        return missing.finding
     return fault_after(stage, name)
 
 

@@ -5,7 +5,7 @@ from typing import List, Optional
 from .. import pages
 from ..again import MESSAGE, TYPE, fault_after, usable
 from ..clock import CLOCK
-from ..kit import Missing, Scenario, scenarios_of
+from ..kit import Missing, Scenario, deed, scenarios_of
 from ..exchanges import Exchange, Rule
 from ..stage import Stage, shown
 from .payloads import received
@@ -43,10 +43,10 @@ def one_after_the_other(stage: Stage) -> None:
     overlap = next(((one, other) for one, other in zip(polls, polls[1:])
                     if other.begun < one.end), None)
     stage.check("one_next", overlap is None,
-                "a second Next while one waited" if overlap else f"{len(polls)} one after the other")
+                deed("a second Next while one waited"))
     judge_responses(stage, polls, proxy.of("response", "error"))
     stray = [one for one in proxy.of("other") if one.refused]
-    stage.check("known_routes", not stray, str(stray and stray[0]))
+    stage.check("known_routes", not stray, deed(str(stray and stray[0])))
 
 
 def judge_responses(stage: Stage, polls: List[Exchange], sent: List[Exchange]) -> None:
@@ -61,10 +61,10 @@ def judge_responses(stage: Stage, polls: List[Exchange], sent: List[Exchange]) -
             early += any(poll.end <= other.begun and (not own or other.begun < (own[0].asked or math.inf))
                          for other in polls)
     stage.check("next_after_response", early == 0,
-                f"in {early} of {len(counts)} invocations Next came before the response")
+                deed(f"in {early} of {len(counts)} invocations Next came before the response"))
     stage.check("responds_once", all(count == 1 for count in counts),
-                f"responses to each of {len(counts)} invocations: {counts}")
-    stage.check("identifier_as_given", otherwise is None, f"{otherwise}: the identifier was given otherwise")
+                deed(f"responses to each of {len(counts)} invocations: {counts}"))
+    stage.check("identifier_as_given", otherwise is None, deed(f"{otherwise}: the identifier was given otherwise"))
 
 
 def simple(identifier: str) -> str:
@@ -94,7 +94,7 @@ def connection_ends(stage: Stage) -> None:
     works = round(WORKS * CLOCK.slowness())  # (so that the end is surely there when the handler returns)
     output = stage.output({"do": "sleep", "value": works})
     if output != works:
-        return stage.check("connection_end", False, f"the caller received {shown(output)}")
+        return stage.check("connection_end", False, deed(f"the caller received {shown(output)}"))
     if fault := fault_after(stage, "after the connection's end", environment.process):
         return stage.check("connection_end", False, fault)
     return ends_after_response(stage)
@@ -109,7 +109,7 @@ def ends_after_response(stage: Stage) -> None:
     stage.output({"do": "echo", "value": 1})
     response = environment.saw("response", 5, len(environment.proxy.of("response")))
     if response is None or not (environment.asked_after(response, ASKS) or process.ended):
-        raise Missing(f"no Next within {ASKS} s after the connection's end: {stage.said()}")
+        raise Missing(f"no Next within {ASKS} s after the connection's end: {stage.ended()}")
     ended = process.wait(LOOKS_UP)
     fault = fault_after(stage, "after the connection's end")
     if ended and not fault:

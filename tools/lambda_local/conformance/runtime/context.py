@@ -4,7 +4,7 @@ from typing import Any, List, Optional
 
 from .. import pages
 from ..again import SLACK, remaining_fault
-from ..kit import Scenario, scenarios_of
+from ..kit import Scenario, deed, scenarios_of
 from ..stage import Stage, shown
 
 SCENARIOS: List[Scenario] = []
@@ -38,10 +38,10 @@ def context(stage: Stage) -> None:
         seen = answer.value if isinstance(answer.value, dict) else {}
         request = answer.headers.get("x-amzn-requestid")
         stage.check("request_id", seen.get("requestId") == request,
-                    f"{shown(seen.get('requestId'))} in place of {request}")
+                    deed(f"{shown(seen.get('requestId'))} in place of {request}"))
         arn = stage.arn + (":$LATEST" if qualified else "")
         stage.check("function_arn", seen.get("functionArn") == arn,
-                    f"{shown(seen.get('functionArn'))} in place of {arn}")
+                    deed(f"{shown(seen.get('functionArn'))} in place of {arn}"))
         judge_time(stage, seen.get("remaining"), request)
         judge_trace(stage, place, seen.get("traceId"))
 
@@ -58,6 +58,6 @@ def judge_time(stage: Stage, remaining: Any, request: Optional[str]) -> None:
 
 def judge_trace(stage: Stage, place: int, seen: Optional[str]) -> None:
     if place == 0:
-        return stage.check("trace_id", seen == TRACES[0], f"{shown(seen)} in place of {TRACES[0]}")
-    return stage.check("trace_renewed", seen == TRACES[1], f"in the second invocation {shown(seen)} in place of "
-                                                           f"{TRACES[1]}")
+        return stage.check("trace_id", seen == TRACES[0], deed(f"{shown(seen)} in place of {TRACES[0]}"))
+    return stage.check("trace_renewed", seen == TRACES[1],
+                       deed(f"in the second invocation {shown(seen)} in place of {TRACES[1]}"))

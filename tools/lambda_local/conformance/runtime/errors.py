@@ -43,7 +43,7 @@ TRACES = ("Root=1-5759e98a-bd862e3fe1be46a994272793;Parent=53995c3f42cd8ad8;Samp
      "another type, a NOTE"))
 def errors(stage: Stage) -> None:
     answer = stage.invoke({"do": "fail", "type": TYPE, "message": MESSAGE})
-    report, came = answer.report, f"the caller received {shown(answer.body)}"
+    report, came = answer.report, answer.came()
     proxy = stage.environment.proxy
     proxy.wait(lambda: any(one.kind in ("error", "response") and one.ended for one in proxy.exchanges), REPORTED)
     exchange = stage.environment.saw("error", 0)
@@ -97,7 +97,8 @@ def error_texts(stage: Stage) -> None:
             continue
         fits = came == message or (not message and came in (None, TYPE))  # (some languages have no empty message)
         if not answer.failed or not fits:
-            return stage.check("error_texts", False, f"{name}: {shown(message)} came as {shown(answer.body)}")
+            came = answer.came(f"{name}: {shown(message)} came as {shown(answer.body)}")
+            return stage.check("error_texts", False, came)
     if escaped:
         return stage.note("error_texts", f"a delete comes as {AS_SENT}")
     return stage.check("error_texts", True, "")
@@ -112,12 +113,14 @@ def error_texts(stage: Stage) -> None:
      "is a SHOULD"))
 def error_then_output(stage: Stage) -> None:
     before = [context_fault(stage, trace) for trace in TRACES[:2]]
-    stage.invoke({"do": "fail", "type": TYPE, "message": MESSAGE})
-    process = stage.environment.process
+    answer, process = stage.invoke({"do": "fail", "type": TYPE, "message": MESSAGE}), stage.environment.process
     fault = None if any(before) else context_fault_after(stage, TRACES[3])  # (of the very next one)
     fault = fault or fault_after(stage, "after the error")
     if process.ended:
         stage.should("same_process", f"after it has reported the error {process.how_it_ended()}")
-    stage.check("same_process", True, "")
+    elif not answer.failed:
+        stage.note("same_process", "not judged: it reports no error")
+    else:
+        stage.check("same_process", True, "")
     fault = fault or (context_fault(stage, TRACES[2]) if not any(before) else None)
     return stage.check("after_error", not fault, fault)

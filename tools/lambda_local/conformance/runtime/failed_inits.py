@@ -36,12 +36,12 @@ def init_fails(stage: Stage, report_check: str, late: str = FAIL) -> Optional[Ex
             stage.jury.judge(report_check, late,
                              f"it asked for an invocation, and only that one failed: {shown(answer.body)}")
         elif answer.body.strip() != b"1":
-            stage.check(report_check, False, f"no Init fails, and for the value 1 the caller received "
-                                             f"{shown(answer.body)}")
+            stage.check(report_check, False, answer.came(f"no Init fails, and for the value 1 the caller received "
+                                                         f"{shown(answer.body)}"))
         else:
             stage.note(report_check, "no Init fails here: its handler is compiled in, or it does not look at _HANDLER")
     else:
-        stage.check(report_check, False, f"no request to init/error; {stage.said()}")
+        stage.check(report_check, False, f"no request to init/error; {stage.ended()}")
     return None
 
 
@@ -60,7 +60,7 @@ def failing_init(stage: Stage) -> None:
                              f"{ENDS} s after its report {process.how_it_ended()}")
     if "init_error" in stage.jury.verdicts and stage.environment.proxy.of("next"):
         return stage.note("init_error_ends", "no Init failed")
-    return stage.check("init_error_ends", process.ended, process.how_it_ended())
+    return stage.note("init_error_ends", f"not judged: it sent no init/error ({process.how_it_ended()})")
 
 
 @scenario(

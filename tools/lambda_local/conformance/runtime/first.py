@@ -4,7 +4,7 @@ from typing import Any, Dict, List, Tuple, cast
 
 from ...service import Fault
 from .. import pages
-from ..kit import Missing, Scenario, scenarios_of
+from ..kit import Finding, Missing, Scenario, scenarios_of
 from ..stage import Answer, Event, Stage, compact, shown
 from ..watch import OwnTime
 from .payloads import is_json
@@ -52,7 +52,8 @@ def is_wrong(stage: Stage, event: Event, answer: Answer) -> None:
     """The one FAIL of a runtime of which nothing else can be judged."""
     stage.jury.stops = True
     why = f": is what the handler returns awaited, and passed on? Else {HANDLER}" if gives_nothing([answer]) else ""
-    stage.check("first_echo", False, f"for {shown(compact(event))} the caller received {shown(answer.body)}{why}")
+    words = f"for {shown(compact(event))} the caller received {shown(answer.body)}{why}"
+    stage.check("first_echo", False, answer.came(words))
 
 
 def first_answer(stage: Stage, event: Event) -> Answer:
@@ -65,11 +66,11 @@ def first_answer(stage: Stage, event: Event) -> Answer:
         accepted = [one.request_id for one in sent if one.status == ACCEPTED]  # (the caller may not have it yet)
         refused = next((one for one in sent if one.refused and one.request_id not in accepted), None)
         if refused and not waiting.done():
-            raise Missing(f"its answer is refused: {refused}")
+            raise Missing(Finding(f"its answer is refused: {refused}", refused.is_wrong))
         if stage.waits():
             own = OwnTime(environment.process.number)
         if own.look() > SECONDS and not waiting.done():
-            raise Missing(f"the caller has no answer after {SECONDS} s: {stage.said()}")
+            raise Missing(f"the caller has no answer after {SECONDS} s: {stage.ended()}")
     return cast(Answer, waiting.result())
 
 

@@ -4,7 +4,7 @@ from typing import Any, List
 
 from .. import pages
 from ..clock import CLOCK
-from ..kit import Missing, Scenario, scenarios_of
+from ..kit import Missing, Scenario, deed, scenarios_of
 from ..exchanges import Exchange, Rule
 from ..stage import Stage, shown
 
@@ -114,7 +114,7 @@ def killed_at_a_timeout(stage: Stage) -> None:
     asked = len(environment.proxy.of("next"))
     environment.start()
     if not environment.asked(asked + 1):
-        raise Missing(f"the new process did not ask for an invocation: {stage.said()}")
+        raise Missing(f"the new process did not ask for an invocation: {stage.ended()}")
     output = stage.output({"do": "echo", "value": "anew"})
     stage.check("cold_start", output == "anew", f"the new process gave {shown(output)}")
 
@@ -132,8 +132,8 @@ def handler_ends_the_process(stage: Stage) -> None:
     if environment.process.ended:
         sent = len(environment.proxy.of("response"))
         return stage.check("handler_exits", sent == 0,
-                           environment.process.how_it_ended() + (", and sent a response" if sent else ""))
+                           deed(f"{environment.process.how_it_ended()}, and sent a response"))
     if answer.done():
         received = answer.result()
-        return stage.check("handler_exits", received.failed, f"the caller received {shown(received.body)}")
+        return stage.check("handler_exits", received.failed, received.came())
     return stage.check("handler_exits", False, f"{ENDS} s later neither had the process ended nor the caller an answer")

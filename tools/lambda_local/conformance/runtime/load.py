@@ -6,7 +6,7 @@ from typing import List, Optional
 from .. import leaks, pages
 from ..again import MESSAGE, TYPE, usable
 from ..clock import CLOCK
-from ..kit import NOTE, Missing, Scenario, scenarios_of
+from ..kit import NOTE, Missing, Scenario, deed, scenarios_of
 from ..stage import Stage, compact, shown
 
 SCENARIOS: List[Scenario] = []
@@ -64,12 +64,12 @@ def thousands(stage: Stage) -> None:
         left = max(SECONDS - SECONDS_WITH, begun + SECONDS - CLOCK.now())
         after = asked("", leaks.Course(LITTLE, left, MOST_LITTLE, PATIENCE_LITTLE, leaks.SUSPECT_OF_LITTLE))
     except Missing as missing:
-        stage.check("many_invocations", False, str(missing))
+        stage.check("many_invocations", False, missing.finding)
         return stage.jury.rest(NOTE, NOT_SO_MANY)
     refused, done = [one for one in requests[before:] if one.refused and one.kind != "next"], looks.done + after.done
     # (what it does in each of them, or at each error, other checks are about)
     stage.check("many_invocations", not 0 < len(refused) < done // EVERY,
-                f"of the requests in {done} invocations {len(refused)} are refused: {refused and refused[0]}",
+                deed(f"of the requests in {done} invocations {len(refused)} are refused: {refused and refused[0]}"),
                 f"{done} invocations")
     leaks.judge(stage, looks, CHECKS, given or INVOCATIONS, after)
     return files.judge("files")

@@ -5,7 +5,7 @@ from typing import Any, Dict, List
 
 from .. import pages
 from ..again import fault_after
-from ..kit import Missing, Scenario, scenarios_of
+from ..kit import Missing, Scenario, deed, scenarios_of
 from ..manners import Manner
 from ..exchanges import Exchange, as_json
 from ..stage import Answer, Event, Stage, compact, shown
@@ -63,7 +63,7 @@ def received(stage: Stage, name: str, event: Event, expected: Any) -> None:
     if not answer.failed and not is_json(answer.body, expected) and is_json(answer.body, without_empty(expected)):
         return stage.note(name, "{} came as [], as in a language that has one type for both")
     return stage.check(name, not answer.failed and is_json(answer.body, expected),
-                       f"the caller received {shown(answer.body)}")
+                       answer.came())
 
 
 def without_empty(value: Any) -> Any:
@@ -147,7 +147,7 @@ def nested(stage: Stage) -> None:
         if not fault:
             return stage.note("nesting", f"it reports an error, as its parser may limit depth: {shown(answer.body)}")
         return stage.check("nesting", False, fault)
-    return stage.check("nesting", is_json(answer.body, value), f"the caller received {shown(answer.body)}")
+    return stage.check("nesting", is_json(answer.body, value), answer.came())
 
 
 @scenario(
@@ -156,20 +156,21 @@ def nested(stage: Stage) -> None:
      "NOTE)"))
 def numbers(stage: Stage) -> None:
     sent = "[" + ",".join(NUMBERS) + "]"
-    body = stage.invoke(b'{"do":"echo","value":' + sent.encode() + b"}").body.decode(errors="replace")
+    answer = stage.invoke(b'{"do":"echo","value":' + sent.encode() + b"}")
+    body = answer.body.decode(errors="replace")
     if "".join(body.split()) == sent:
         return stage.check("numbers", True, "as they were written")
     try:
         came = json.loads(body, parse_int=Written, parse_float=Written)
         pairs = list(zip(NUMBERS, as_many(came)))
     except (ValueError, TypeError):
-        return stage.check("numbers", False, f"the caller received {shown(body)}")
+        return stage.check("numbers", False, answer.came())
     changed = [f"{before} came as {after}" for before, after in pairs if before != after]
     if all(float(before) == float(after) for before, after in pairs):
         return stage.note("numbers", "the same as binary64, written otherwise: " + ", ".join(changed))
     if all(is_near(before, after) for before, after in pairs):
         return stage.note("numbers", "the same to 13 digits, as its writer may limit precision: " + ", ".join(changed))
-    return stage.check("numbers", False, ", ".join(changed))
+    return stage.check("numbers", False, deed(", ".join(changed)))
 
 
 def is_near(before: str, after: str) -> bool:
@@ -197,10 +198,10 @@ def large_payloads(stage: Stage) -> None:
     value = "x" * (LIMIT - len(compact({"do": "echo", "value": ""})))
     answer = stage.invoke({"do": "echo", "value": value})
     stage.check("payload_limit", is_json(answer.body, value),
-                f"the caller received {len(answer.body):,} bytes: {shown(answer.body)}")
+                answer.came(f"the caller received {len(answer.body):,} bytes: {shown(answer.body)}"))
     answer = stage.invoke({"do": "large", "value": LIMIT - 2})
     stage.check("output_limit", answer.body == b'"' + b"x" * (LIMIT - 2) + b'"',
-                f"the caller received {len(answer.body):,} bytes: {shown(answer.body)}")
+                answer.came(f"the caller received {len(answer.body):,} bytes: {shown(answer.body)}"))
     fault = fault_after(stage, "after a large output")
     if fault:
         stage.check("output_limit", False, fault)
@@ -210,7 +211,7 @@ def large_payloads(stage: Stage) -> None:
     ("stdout", pages.RESPONSE, "what a handler writes to standard output is no part of its response"))
 def printed(stage: Stage) -> None:
     answer = stage.invoke({"do": "print", "value": "this is no output"})
-    stage.check("stdout", answer.body.strip() == b"null", f"the caller received {shown(answer.body)}")
+    stage.check("stdout", answer.body.strip() == b"null", answer.came())
 
 
 @scenario(
@@ -243,11 +244,11 @@ def judge_stream(stage: Stage, whole: str, answer: Answer, exchange: Exchange) -
     if mode is None:
         if is_json(answer.body, whole):
             return stage.note("stream", "it does not stream: the response came whole")
-        return stage.check("stream", False, f"the caller received {shown(answer.body)}")
+        return stage.check("stream", False, answer.came())
     prelude, zeros, rest = answer.body.partition(PRELUDE_END)
     body = rest if zeros and isinstance(as_json(prelude), dict) else answer.body
     right = (mode.lower() == "streaming" and exchange.request.chunked
              and body in (whole.encode(), f'"{whole}"'.encode()))
     return stage.check("stream", right,
-                       f"mode {shown(mode)}, {'in chunks' if exchange.request.chunked else 'not in chunks'}, "
-                       f"and the caller received {shown(answer.body)}")
+                       answer.came(f"mode {shown(mode)}, {'' if exchange.request.chunked else 'not '}in chunks, and "
+                                   f"the caller received {shown(answer.body)}"))

@@ -4,7 +4,7 @@ from typing import List, Optional
 from .. import pages
 from ..again import fault_after
 from ..exchanges import Exchange
-from ..kit import Missing, Scenario, scenarios_of
+from ..kit import Finding, Missing, Scenario, deed, scenarios_of
 from ..manners import Manner
 from ..stage import Stage, shown
 from .payloads import LIMIT
@@ -35,16 +35,16 @@ def goes_on(stage: Stage, name: str, exchange: Exchange) -> None:
     return stage.note(name, f"after {refused} {process.how_it_ended()}, which no document forbids")
 
 
-def sent_again(stage: Stage, exchange: Exchange) -> Optional[str]:
+def sent_again(stage: Stage, exchange: Exchange) -> Optional[Finding]:
     """A response that is sent once more after it was refused, or another one in its place, in words. (If the connection
     was reset as the refusal came, that may be lost: then the same one may come again.)"""
     sent = [one.length for one in stage.environment.proxy.of("response") if one.request_id == exchange.request_id]
     others = sum(length != exchange.length for length in sent)
     if others:
-        return f"after {exchange.status} it sends another response in its place: of {sent[-1]:,} bytes"
+        return deed(f"after {exchange.status} it sends another response in its place: of {sent[-1]:,} bytes")
     if len(sent) < 2 or exchange.is_reset:
         return None
-    return f"after {exchange.status} it sends the same response again: {len(sent)} times in all"
+    return deed(f"after {exchange.status} it sends the same response again: {len(sent)} times in all")
 
 
 @scenario(
@@ -59,7 +59,7 @@ def response_too_large(stage: Stage) -> None:
         raise Missing(f"no response of {LIMIT + 1:,} bytes was sent within 15 s")
     answer.result()
     if exchange.status != 413:
-        raise Missing(f"its response had {len(exchange.request.body):,} bytes in place of {LIMIT + 1:,}")
+        raise Missing(deed(f"its response had {len(exchange.request.body):,} bytes in place of {LIMIT + 1:,}"))
     goes_on(stage, "too_large", exchange)
 
 
