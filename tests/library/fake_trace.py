@@ -12,6 +12,14 @@ def line(ticket):
             f'"ticket":{ticket}}}\n').encode()
 
 
+def failed(ticket, report=None):
+    """That of one in which a failure is reported, with or without its bodies."""
+    body = "" if report is None else f'"body":"{report}",'
+    return (f'{{"answers":[{{"answer":"error",{body}"source":{ticket},"ticket":0}},{{"answer":"accepted",'
+            f'"ticket":{ticket}}}],"call":{{{body}"environment":1,"id":1,"kind":"failure"}},"moment":{ticket},'
+            f'"phases":[],"released":[],"ticket":{ticket}}}\n').encode()
+
+
 def chunks(body, size=1 << 20):
     return b"".join(b"%x\r\n%b\r\n" % (len(part), part)
                     for part in (body[at:at + size] for at in range(0, len(body), size)))

@@ -79,7 +79,7 @@ LIES: Dict[str, Tuple[str, str, str, str]] = {
                       'in ("none", "same-origin")', 'in ("none", "same-site")'),
     "trace": ("random_scripts TRACES=3", OF_TOOLS + "timeline/world.py",
               "elif now.name.capitalize() != environment.phase:", "elif False:"),
-    "trace_followed": ("follows", OF_TOOLS + "history/running.py", "?follow=1&from=", "?from="),
+    "trace_followed": ("follows", OF_TOOLS + "history/running.py", "follow=1&from=", "from="),
     "up": ("runtimes", OF_TOOLS + "up/restarts.py",
            "PAUSES[min(self.early - 2, len(PAUSES) - 1)] if self.early > 1 else 0", "0"),
     "up_command": ("credentials", OF_TOOLS + "variables.py",

@@ -45,7 +45,7 @@ WRONG = {
     "a moment of 5,000 digits": ((b'"moment":1000', b'"moment":' + b"9" * 5000), "it is not JSON"),
     "a moment of 30 digits": ((b'"moment":1000', b'"moment":' + b"9" * 30), "the moment of an entry is 9999"),
     "no number": ((b'"moment":1000', b'"moment":NaN'), "NaN is not a whole number"),
-    "5,000 levels": ((b'"call":{', b'"call":' + b"[" * 5000 + b"{"), "it is nested too deep, or too long"),
+    "5,000 levels": ((b'"call":{', b'"call":' + b"[" * 5000 + b"{"), "it is nested too deep"),
     "a call that is none": ((b'"kind":"invoke"', b'"kind":"dance"'), "the kind of a call is 'dance'"),
     "a call of no kind": ((b'"kind":"invoke"', b'"kind":["invoke"]'), "the kind of a call is ['invoke']"),
     "another call's kind": ((b'"kind":"invoke"', b'"kind":"next"'), "the kind of a call is 'next'"),

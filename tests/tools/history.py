@@ -16,7 +16,7 @@ from lambda_local.history.words import Word
 from lambda_local.rerun.record import parsed
 from lambda_local.service import Fault, Service, ask
 from tests.library.cases import Case
-from tests.library.fake_trace import HEAD, LAST, Fake, chunks, line
+from tests.library.fake_trace import HEAD, LAST, Fake, chunks, failed, line
 from tests.library.timelines import PROGRAM
 from tests.library.traces import entries_in
 
@@ -142,6 +142,27 @@ class History(Case):
             self.check("in a line", taken(running), ([1], "the connection ends within a message"))
             self.check("it goes on with the next entry", (taken(running), running.next), (([2], ""), 3))
             self.check("what was asked", server.asked, [f"{TARGET}{n}" for n in (0, 1, 2)])
+
+    def test_reports(self):
+        """Without bodies, but for those of entries with a report. What breaks off on the way to one is asked again."""
+        told = HEAD + chunks(failed(1, "why") + line(2)) + LAST
+        with following(HEAD + chunks(line(0) + failed(1) + line(2)) + LAST, told, only_reports=True) as (running, fake):
+            entries = list(running.entries())
+            self.check("only the report is there", [(one.ticket, one.call.body, [answer.body for answer in one.answers])
+                                                    for one in entries],
+                       [(0, None, []), (1, b"why", [b"why", None]), (2, None, [])])
+            self.check("what was asked", fake.asked, [f"{TARGET}0&bodies=none", "/_local/trace?from=1"])
+        with following(HEAD + chunks(line(0) + failed(1)), b"", HEAD + chunks(failed(1)), told[:len(HEAD) + 30],
+                       HEAD + chunks(failed(1) + line(2)) + LAST, told, only_reports=True) as (running, fake):
+            self.check("a report that does not come", taken(running), ([0], "it has closed the connection"))
+            self.check("one that breaks off", taken(running), ([], "the connection ends within a message"))
+            self.check("its entry was not counted", running.next, 1)
+            self.check("it comes the next time", [one.call.body for one in running.entries()], [b"why", None])
+        others = [HEAD + chunks(failed(0)), HEAD + LAST] * 3
+        with following(*others, HEAD + chunks(failed(0) + line(1)) + LAST, only_reports=True) as (running, fake):
+            self.check("a service that has no report to give", [taken(running) for _ in range(3)],
+                       [([], "it does not give entry 0 again")] * 3)
+            self.check("its entry comes without", taken(running), ([0, 1], ""))
 
     def test_silent(self):
         """A service that is silent is asked again, and one that does not answer is lost."""

@@ -14,9 +14,11 @@ import urllib.error
 import urllib.request
 from typing import List
 
+from lambda_local.history.words import Word
+from lambda_local.life import Ended, Invocation
 from lambda_local.up import processes
 from lambda_local.up.invocation_lines import MOST_KEPT, Line, Printed
-from lambda_local.up.invocation_log import Figures, encoded, report_line
+from lambda_local.up.invocation_log import Figures, Invocations, encoded, report_line
 from lambda_local.up.output import MarkedSplitter
 from tests import ROOT
 from tests.library.cases import Case
@@ -237,6 +239,22 @@ class InvocationLog(Case):
         self.under_load("another runtime", {"command": command}, ("speaks.py", SPEAKS))
         self.under_load("an extension", {"runtime": "python", "handler": "app.run",
                                          "extensions": {"x": [sys.executable, "x.py"]}}, ("x.py", SPEAKING_EXTENSION))
+
+    def test_remembered(self):
+        """Of the invocations that have ended, no body is kept, and of an error what its log says."""
+        invocations = Invocations({}, {}, {})
+        for number in range(2000):
+            invocation = Invocation("f", str(number), 1, None)
+            invocation.delivered = 2
+            report = json.dumps({"errorType": "Runtime.ExitError", "errorMessage": "m" * 100_000}).encode()
+            kind, body = (Word.OUTPUT, bytes(5 << 20)) if number % 2 else (Word.ERROR, report)
+            invocations.take(Ended(3, invocation, None, kind, body))
+        kept = invocations.ended
+        self.check("the last 1024", (list(kept)[0], len(kept)), ("976", 1024))
+        self.check("the bytes that are kept of an output", kept["1999"].body, None)
+        self.check("and of a report, of which a log has at most 4 KB", len(kept["1998"].body or b"") < 8192)
+        self.check("the log says its end", [len(line) for line in invocations.failure_of(kept["1998"])],
+                   [len("RequestId: 1998 Error: ") + 4096, len("Runtime.ExitError")])
 
     def test_clients(self):
         """The aws command line, if one is here that reads the endpoint."""

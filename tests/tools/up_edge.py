@@ -234,12 +234,12 @@ class UpEdge(Case):
                 json.dumps({"ReservedConcurrentExecutions": count}))
         reserve(0)
         watch.refresh()
-        self.check("what the service has is here", watch.running.next, 1)
+        self.check("what the service has is here", watch.taken, 1)
         limits = resource.getrlimit(resource.RLIMIT_NOFILE)
         resource.setrlimit(resource.RLIMIT_NOFILE, (3, limits[1]))
         try:
-            assert watch.running._socket
-            watch.running._socket.shutdown(socket.SHUT_RDWR)
+            for connection in list(watch.running._sockets):
+                connection.shutdown(socket.SHUT_RDWR)
             self.check("without a descriptor it is lost", until(lambda: "descriptors" in watch.warnings, 60))
             time.sleep(1)
         finally:
@@ -256,6 +256,32 @@ class UpEdge(Case):
         lines = stream.read().decode().splitlines()
         self.check("what it lacks is told once", [line.count("no descriptor to read the history by") for line in lines],
                    [1])
+        service.kill()
+
+    def test_taken(self):
+        """What is up to date was given to all who follow, however long these take, and once to each."""
+        service = Service({"account": "123456789012", "region": "us-east-1",
+                           "functions": [{"name": "f", "ports": [0]}]})
+        log, stream = pipe_log()
+        watch, seen = Watch(service, log), []
+
+        def follow(event):
+            time.sleep(0.3)
+            seen.append(type(event).__name__)
+        watch.followers.append(follow)
+        watch.start()
+        ask(service.port, "PUT", "/2017-10-31/functions/f/concurrency", '{"ReservedConcurrentExecutions":0}')
+        for count in (1, 2):
+            self.check("it is throttled", ask(service.port, "POST", "/2015-03-31/functions/f/invocations", "{}")[0],
+                       429)
+            watch.refresh()
+            self.check("its event was given", seen, ["Throttled"] * count)
+        service.stop()
+        watch.join(60)
+        log.close()
+        log.writer.join(10)
+        log.stream.close()
+        stream.close()
         service.kill()
 
     def test_history_that_is_none(self):

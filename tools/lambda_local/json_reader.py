@@ -1,4 +1,5 @@
-"""Reads JSON of anyone: it raises `NotJson` and nothing else."""
+"""Reads JSON of anyone: whatever the text is, it raises `NotJson` and nothing else. Want of memory is no fault of the
+text, and stays a MemoryError."""
 import json
 from typing import Union
 
@@ -33,8 +34,8 @@ def read_json(given: Union[str, bytes], deepest: int = DEEPEST, longest: int = L
     try:
         text = given if isinstance(given, str) else given.decode()
         value: object = json.loads(text, parse_constant=refuse_constant)
-    except (RecursionError, MemoryError):
-        raise NotJson("it is nested too deep, or too long") from None
+    except RecursionError:
+        raise NotJson("it is nested too deep") from None
     except ValueError as fault:
         raise NotJson(str(fault)) from None
     if text.count("[") + text.count("{") > deepest and is_deeper(value, deepest):

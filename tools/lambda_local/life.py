@@ -22,7 +22,7 @@ class Invocation:
         self.function, self.identifier, self.moment = function, identifier, moment
         self.environment = environment  # where it was placed
         self.delivered: Optional[int] = None
-        self.generation: Optional[Generation] = None  # of the environment, if it is the first that this handles
+        self.asked: Optional[int] = None  # when the Init was over, if this is the environment's first after it
         self.is_over = False  # it was answered
 
     @property
@@ -137,7 +137,7 @@ class Life:
         if invocation and invocation.environment:
             generation = invocation.environment.generation
             invocation.delivered = entry.moment
-            invocation.generation = generation if generation.deliveries == 1 else None
+            invocation.asked = generation.asked if generation.deliveries == 1 else None
             yield Begun(entry.moment, invocation, invocation.environment)
 
     def _ended(self, entry: Entry, answer: Answer) -> Iterator[Event]:

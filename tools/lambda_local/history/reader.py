@@ -39,14 +39,15 @@ DECODER = json.JSONDecoder(parse_float=refused, parse_constant=refused)
 
 
 def entry_of(line: bytes) -> Entry:
-    """The entry of a line, with or without its end; NotTrace if it is none."""
+    """The entry of a line, with or without its end; NotTrace if it is none. (Want of memory is no fault of the line.)
+    """
     try:
         text = line.decode()
         given, end = DECODER.raw_decode(text)
     except NotTrace:
         raise
-    except (RecursionError, MemoryError):
-        raise NotTrace("it is nested too deep, or too long") from None
+    except RecursionError:
+        raise NotTrace("it is nested too deep") from None
     except ValueError as fault:
         raise NotTrace(f"it is not JSON: {fault}") from None
     if text[end:] not in ("", "\n"):
@@ -75,14 +76,23 @@ class Reader:
     def __init__(self, environments: int, first: int = 0) -> None:
         self.environments, self.next, self.moment = environments, first, 0
 
-    def take(self, line: bytes) -> Entry:
-        """The entry of a line; NotTrace if it is not the next one."""
+    def read(self, line: bytes) -> Entry:
+        """The entry of a line, which is not counted yet; NotTrace if it is not the next one."""
         try:
             entry = entry_of(line)
             self._look_at(entry)
         except NotTrace as fault:
             raise NotTrace(f"entry {self.next} of the trace: {fault}") from None
+        return entry
+
+    def count(self, entry: Entry) -> None:
+        """From here on the one after it is the next."""
         self.next, self.moment = entry.ticket + 1, entry.moment
+
+    def take(self, line: bytes) -> Entry:
+        """The entry of a line, which is counted; NotTrace if it is not the next one."""
+        entry = self.read(line)
+        self.count(entry)
         return entry
 
     def _look_at(self, entry: Entry) -> None:

@@ -6,21 +6,24 @@
 
 It is one connection, of which no more is read than is asked for: what has not been asked for waits in the service's
 history. A service that is silent is asked again from the next entry on, so one that does not answer any more is
-noticed."""
+noticed. Who needs no more of payloads, outputs and reports than what reports say asks for entries without bodies, and
+gets the few that have a report with them."""
 import contextlib
 import errno
 import socket
 import threading
-from typing import Iterable, Iterator, List, Optional
+from typing import Generator, Iterable, Iterator, List, Set
 
 from ..http1 import CLOSED, NEED_DATA, Data, EndOfMessage, Malformed, Response, ResponseReader, request_head
 from .entries import Entry
 from .reader import LONGEST_LINE, Reader
 from .shapes import NotTrace
+from .words import FAILURES, Word
 
 SILENCE = 30.0  # seconds without a byte
 AT_ONCE = 1 << 16  # bytes
 MOST_SAID = 200  # bytes of an answer that is none
+MOST_TRIES = 3  # to get a report; then its entry is taken without
 NO_DESCRIPTOR = (errno.EMFILE, errno.ENFILE)
 
 
@@ -53,10 +56,11 @@ def lines_in(pieces: Iterable[bytes]) -> Iterator[bytes]:
 class Running:
     """A service whose callers' port this is. One thread at a time takes its entries; `close` may be called by any."""
 
-    def __init__(self, port: int, environments: int, silence: float = SILENCE) -> None:
-        self.port, self.silence = port, silence
+    def __init__(self, port: int, environments: int, silence: float = SILENCE, only_reports: bool = False) -> None:
+        self.port, self.silence, self.only_reports = port, silence, only_reports
         self._reader, self._lock = Reader(environments), threading.Lock()
-        self._socket: Optional[socket.socket] = None
+        self._sockets: Set[socket.socket] = set()
+        self._tries = 0  # to get the next entry with its report
         self._is_closed = False
 
     @property
@@ -69,9 +73,10 @@ class Running:
         does not answer, NotTrace if its answer is none: they may be asked for again, and go on with the next one."""
         while not self._is_closed:
             try:
-                with contextlib.closing(self._connected()) as connection:
-                    for line in lines_in(self._answer(connection)):
-                        yield self._reader.take(line)
+                more = "&bodies=none" if self.only_reports else ""
+                with contextlib.closing(self._lines(f"follow=1&from={self.next}{more}")) as lines:
+                    for line in lines:
+                        yield self._counted(line)
                 return
             except socket.timeout:
                 pass  # (it was silent: it is asked again)
@@ -79,28 +84,59 @@ class Running:
                 if not self._is_closed:
                     raise lost(fault) from None
 
+    def _counted(self, line: bytes) -> Entry:
+        """The entry of a line. It is counted once it is here with all that it is asked for: what breaks off before that
+        is asked for again."""
+        entry = self._reader.read(line)
+        if self.only_reports and has_report(entry) and self._tries < MOST_TRIES:
+            self._tries += 1
+            entry = self._whole(entry)
+        self._tries = 0
+        self._reader.count(entry)
+        return entry
+
+    def _whole(self, entry: Entry) -> Entry:
+        """The same entry with its bodies; without, if there is no memory for them."""
+        with contextlib.closing(self._lines(f"from={entry.ticket}")) as lines:
+            try:
+                return self._reader.read(next(lines))
+            except StopIteration:
+                raise Lost(f"it does not give entry {entry.ticket} again") from None
+            except MemoryError:
+                return entry
+
     def close(self) -> None:
         """Ends the entries: none is waited for any more."""
         with self._lock:
             self._is_closed = True
-            if self._socket is not None:
+            for connection in self._sockets:
                 with contextlib.suppress(OSError):
-                    self._socket.shutdown(socket.SHUT_RDWR)
+                    connection.shutdown(socket.SHUT_RDWR)
 
-    def _connected(self) -> socket.socket:
+    def _lines(self, query: str) -> Generator[bytes, None, None]:
+        """The lines of the trace that is asked for, by a connection of their own."""
+        with self._connected() as connection:
+            yield from lines_in(self._answer(connection, f"/_local/trace?{query}"))
+
+    @contextlib.contextmanager
+    def _connected(self) -> Iterator[socket.socket]:
         try:
             connection = socket.create_connection(("127.0.0.1", self.port), self.silence)
         except socket.timeout:
             raise Lost(f"no connection within {self.silence:g} s") from None
-        with self._lock:
-            self._socket = connection
-            if self._is_closed:
-                connection.close()
-        return connection
+        with connection:
+            with self._lock:
+                self._sockets.add(connection)
+                if self._is_closed:
+                    connection.close()
+            try:
+                yield connection
+            finally:
+                with self._lock:
+                    self._sockets.discard(connection)
 
-    def _answer(self, connection: socket.socket) -> Iterator[bytes]:
+    def _answer(self, connection: socket.socket, target: str) -> Iterator[bytes]:
         """The pieces of the body, as they come."""
-        target = f"/_local/trace?follow=1&from={self.next}"
         connection.sendall(request_head("GET", target, [("Host", f"127.0.0.1:{self.port}")]))
         reader, status, said = ResponseReader(), 0, b""
         while not isinstance(event := reader.next_event(), EndOfMessage):
@@ -124,6 +160,11 @@ class Running:
             if is_begun:
                 raise
             raise Lost(f"no answer within {self.silence:g} s") from None
+
+
+def has_report(entry: Entry) -> bool:
+    """Whether a failure is reported in it."""
+    return entry.call.kind in FAILURES or any(answer.word is Word.ERROR for answer in entry.answers)
 
 
 def lost(fault: Exception) -> Lost:

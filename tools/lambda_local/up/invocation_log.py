@@ -2,6 +2,7 @@
 Lambda function logs to CloudWatch Logs"), and the last 4 KB of that, which Invoke answers with the log type Tail (API
 reference, "Invoke")."""
 import base64
+import json
 import math
 from collections import OrderedDict
 from datetime import datetime, timezone
@@ -85,12 +86,12 @@ class Invocations:
                  numbers: Mapping[str, Sequence[int]]):
         self.functions, self.printed = functions, printed
         self.numbers = numbers  # of the environments of each function
-        self.ended: "OrderedDict[str, Ended]" = OrderedDict()
+        self.ended: "OrderedDict[str, Ended]" = OrderedDict()  # (without outputs and reports: see `remembered`)
 
     def take(self, event: Event) -> None:
         """From a watch, event by event."""
         if isinstance(event, Ended):
-            self.ended[event.invocation.identifier] = event
+            self.ended[event.invocation.identifier] = remembered(event)
             if len(self.ended) > MOST_REMEMBERED:
                 self.ended.popitem(last=False)
 
@@ -121,8 +122,8 @@ class Invocations:
         begin = invocation.moment if invocation.delivered is None else invocation.delivered
         start = printed.start_before(event.moment) if printed else None
         init = None
-        if invocation.generation and start and invocation.generation.asked is not None:
-            init = max(0.0, invocation.generation.asked - start.moment)
+        if invocation.asked is not None and start:
+            init = max(0.0, invocation.asked - start.moment)
         status = STATUSES.get(event.kind, "error")
         return Figures(invocation.identifier, float(event.moment - begin),
                        self.functions[invocation.function].memory,
@@ -147,6 +148,17 @@ def error_of(event: Ended) -> str:
                 Word.TOO_LARGE_OUTPUT: "Function.ResponseSizeTooLarge"}.get(event.kind, "")
     kind = text_of((members_of(event.body or b"") or {}).get("errorType"))
     return kind if event.invocation.delivered is None or kind in OF_PROCESSES else ""
+
+
+def remembered(event: Ended) -> Ended:
+    """An event with no more of its body than the end of its log may have: of an error that no handler has raised, the
+    ends of its type and its message."""
+    kind = error_of(event)
+    if event.kind is not Word.ERROR or not kind:
+        return event._replace(body=None)
+    message = text_of((members_of(event.body or b"") or {}).get("errorMessage"))
+    said = {"errorType": kind[-MOST_TAIL:], "errorMessage": message[-MOST_TAIL:]}
+    return event._replace(body=json.dumps(said).encode())
 
 
 class Watching(Protocol):

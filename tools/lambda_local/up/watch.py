@@ -40,7 +40,8 @@ class Watch(threading.Thread):
         self.service, self.log = service, log
         self.lines = Lines(log, ())
         self.life, self.lock = Life(service.configuration), threading.RLock()
-        self.running = Running(service.port, len(self.life.environments))
+        self.running = Running(service.port, len(self.life.environments), only_reports=True)
+        self.taken = 0  # entries, of all that followers were given
         self.has_news = threading.Event()  # an entry has come, for those who look again and again
         self.changed = threading.Condition(self.lock)  # the same, for those who wait for one
         self.is_lost = False  # the service does not answer: it is asked again
@@ -70,6 +71,7 @@ class Watch(threading.Thread):
             self._take(entry)
             for reader in self.readers:
                 reader()
+            self.taken = entry.ticket + 1
             self.changed.notify_all()
         self.has_news.set()
 
@@ -79,7 +81,10 @@ class Watch(threading.Thread):
         if isinstance(fault, NoDescriptor):
             self.warn("descriptors", "there is no descriptor to read the history by (ulimit -n): what happens is told "
                                      "once there is one", "error")
-        elif isinstance(fault, (NotTrace, MemoryError)):
+        elif isinstance(fault, MemoryError):
+            self.warn("memory", "there is no memory to read the history by: what happens is told once there is some",
+                      "error")
+        elif isinstance(fault, NotTrace):
             self.warn("read", f"the service's history cannot be read: {told(fault)}", "error")
         elif in_vain == len(PAUSES) - 1:
             self.warn("lost", f"the service does not give its history: {fault}: it is asked again until it does",
@@ -128,10 +133,11 @@ class Watch(threading.Thread):
             self.changed.notify_all()
 
     def refresh(self) -> None:
-        """Waits until what the service has by now is here. If it does not answer, that is as it was."""
+        """Waits until what the service has by now was taken, which is a moment after it was read. If it does not
+        answer, that is as it was."""
         with contextlib.suppress(OSError, http.client.HTTPException, ValueError, KeyError):
             count = self.service.stats()["entries"]
-            self.until(lambda: self.running.next >= count, UP_TO_DATE)
+            self.until(lambda: self.taken >= count, UP_TO_DATE)
 
     @contextlib.contextmanager
     def muted(self, environment: int) -> Iterator[None]:
