@@ -48,7 +48,7 @@ LIES: Dict[str, Tuple[str, str, str, str]] = {
     "little_memory": ("finds", OF_TOOLS + "limits.sh", '[ "$allowed" -le "$bytes" ]', '[ "$allowed" -ge "$bytes" ]'),
     "management": ("refused", OF_TOOLS + "front/management.py", '"NotImplementedException"', '"NotFoundException"'),
     "moto_queue": ("", OF_TOOLS + "up/queues.py", 'value["batchItemFailures"]', "[]"),
-    "package": ("wheel", "tools/packages/wheel.py", "lambda_local.cli:main", "lambda_local.cli:begin"),
+    "package": ("wheel", "pyproject.toml", "lambda_local.cli:main", "lambda_local.cli:begin"),
     "plugin": ("reports", OF_TOOLS + "in_process.py",
                "type(fault).__name__, \"requestId\"", "\"Error\", \"requestId\""),
     "plugin_events": ("wrong", OF_TOOLS + "front/settings.py", "from 0 to 2", "from 0 to 3"),

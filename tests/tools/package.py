@@ -22,7 +22,7 @@ from tests.library.trees import commit, copy_tree, plain, program, run, text_of,
 
 STAMP = ["sources", "kit", "program", "gate"]  # the lines of what proved a program
 ANSWERED = (0, True, "")
-VERSION = re.compile(r"2026\.1\.2\+g[0-9a-f]{12}")  # of the commit in a copy
+VERSION = re.compile(r"1\.0\.0\+g[0-9a-f]{12}")  # of the commit in a copy
 UP = {"functions": [{"name": "greet", "runtime": "python", "handler": "app.handler", "environments": 2}]}
 APP = "def handler(event, context):\n    return {'hello': event['name']}\n"
 INVOKE = """import json, os, sys, urllib.request
@@ -339,6 +339,7 @@ class Package(Case):
             self.check("its pages, licence and changes",
                        [it for it in wanted if not os.path.isfile(os.path.join(doc, it))], [])
             page = run(["gzip", "-dc", os.path.join(folder, "usr/share/man/man1/lambda_local.1.gz")])[1]
+            self.check("the man page has the version", bool(VERSION.search(page.splitlines()[0])))
             listed = re.findall(r"^ +lambda_local (?:\[?(\w+)\]?)", run([command, "--help"])[1], re.M)
             self.check("the man page has each command of --help",
                        [it for it in listed if not re.search(rf'^\.BI? "?{it}\b', page, re.M)], [])

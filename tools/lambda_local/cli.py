@@ -6,7 +6,7 @@ import sys
 from typing import List, Tuple
 
 from . import explain
-from .paths import LIMITS, PACKAGE, own_program
+from .paths import LAUNCHER, LIMITS, PACKAGE, own_program
 
 # The modules of this package that have the `main` of a tool.
 TOOLS = {
@@ -74,6 +74,8 @@ def main() -> int:
     if words not in SHAPES and not (words[:1] == ["serve"] and len(words) == 2):
         print(f"lambda_local: '{' '.join(words)}' is not one of its commands: --help lists them", file=sys.stderr)
         return 2
+    if program == LAUNCHER:  # (installed by `pip install -e`: the rest is the launcher's)
+        os.execv(LAUNCHER, [LAUNCHER, *words])
     if words == ["path"]:
         print(program)
         return 0

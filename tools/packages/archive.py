@@ -9,7 +9,7 @@ from .source import Source, put
 
 def make(source: Source, folder: str) -> str:
     """Writes the archive into a folder; the same commit and program give the same bytes."""
-    name = f"lambda_local-{source.commit[:12]}-x86_64-linux"
+    name = f"lambda_local-{source.version}-x86_64-linux"
     files = {**source.files, "bin/lambda_local": (0o755, source.program), "PROVED": (0o644, source.proved)}
     room = io.BytesIO()
     with tarfile.open(fileobj=room, mode="w", format=tarfile.GNU_FORMAT) as tar:

@@ -7,7 +7,7 @@ import subprocess
 import tempfile
 from typing import Union
 
-from .source import Fault, Source, put, read
+from .source import Commit, Fault, put, read
 
 NAME = "lambda-local"  # (a package's name has no underscore)
 LIB, DOC = "usr/lib/lambda_local", f"usr/share/doc/{NAME}"
@@ -20,7 +20,7 @@ Depends: libc6 (>= 2.34), python3 (>= 3.9)
 Suggests: nodejs, python3-boto3, python3-pytest
 Section: devel
 Priority: optional
-Description: local AWS Lambda service, proved to meet its contracts
+Description: local AWS Lambda for functions, runtimes and extensions
  lambda_local serves functions, runtimes and extensions over HTTP as
  Lambda does: several functions and environments, reserved concurrency,
  timeouts and shutdown. What happened is kept as a history that replays
@@ -72,25 +72,26 @@ def packed(text: Union[str, bytes]) -> bytes:
     return gzip.compress(text if isinstance(text, bytes) else text.encode(), 9, mtime=0)
 
 
-def lay_out(source: Source, root: str) -> None:
+def lay_out(source: Commit, root: str) -> None:
     """The files as they are installed, below root."""
     for name, (mode, data) in source.files.items():
-        if name.startswith(("tools/", "examples/")) or name == "lambda_local":
+        if name.startswith(("tools/", "examples/")) or name in ("lambda_local", "VERSION"):
             of_node = data.startswith(b"#!/usr/bin/env node")  # which this package does not depend on
             write(root, f"{LIB}/{name}", data.replace(b"#!/usr/bin/env python3", b"#!/usr/bin/python3", 1),
                   0o644 if of_node else mode)
         elif name.startswith("docs/") or name in ("README.md", "CHANGELOG.md"):
             write(root, f"{DOC}/{name}", data)
+    page = read("tools", "packages", "lambda_local.1").replace(b"VERSION", source.version.encode(), 1)
     write(root, f"{LIB}/bin/lambda_local", source.program, 0o755)
     write(root, f"{LIB}/PROVED", source.proved)
     link(root, f"{LIB}/bin/lambda_local.proved", "../PROVED")
     link(root, f"{DOC}/examples", "../../../lib/lambda_local/examples")
     link(root, "usr/bin/lambda_local", "../lib/lambda_local/lambda_local")
-    write(root, "usr/share/man/man1/lambda_local.1.gz", packed(read("tools", "packages", "lambda_local.1")))
+    write(root, "usr/share/man/man1/lambda_local.1.gz", packed(page))
     write(root, f"usr/share/lintian/overrides/{NAME}", OVERRIDES)
 
 
-def describe(source: Source, root: str) -> None:
+def describe(source: Commit, root: str) -> None:
     """What a package says of itself."""
     size = sum(os.lstat(os.path.join(folder, name)).st_size for folder, _, names in os.walk(root) for name in names)
     said = {"name": NAME, "version": source.version, "commit": source.commit, "person": source.person,
@@ -102,7 +103,7 @@ def describe(source: Source, root: str) -> None:
     write(root, "DEBIAN/prerm", PRERM, 0o755)
 
 
-def make(source: Source, folder: str) -> str:
+def make(source: Commit, folder: str) -> str:
     """Writes the Debian package into a folder; the same commit and program give the same bytes."""
     if not shutil.which("dpkg-deb"):
         raise Fault(4, "no dpkg-deb is on the path: Debian's package dpkg has it")
