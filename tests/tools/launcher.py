@@ -93,8 +93,9 @@ class Launcher(Case):
             for words in (["nothing"], ["serve"], ["replay", "file"], ["trace", "file"], ["trace", "--bodies", "all"],
                           ["serve", "a", "b"], ["path", "x"], ["--quick"]):
                 status, output, said = run(root, *words)
-                fine = (status == 2 and not output and said.count("\n") == 1 and "'" + " ".join(words) + "'" in said
-                        and "--help" in said)
+                wanted = ("serve takes one file: lambda_local serve CONFIGURATION" if words[0] == "serve" else
+                          "'" + " ".join(words) + "' is not one of its commands: --help lists them")
+                fine = (status, output, said) == (2, "", f"lambda_local: {wanted}\n")
                 self.check(f"'{' '.join(words)}' is refused with a line", fine, shown=(status, output, said))
             self.check("nothing was unpacked for that", os.path.exists(os.path.join(root, RELEASED)), False)
             status, output, said = run(root, "--version")

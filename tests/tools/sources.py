@@ -3,8 +3,12 @@ the events of both, batches, messages that fail, and what a wrong queue does. Qu
 LAMBDA_LOCAL_PROGRAM, else ./lambda_local."""
 import contextlib
 import importlib.util
+import json
 import os
+import random
 import re
+import signal
+import socket
 import time
 import unittest
 from datetime import datetime, timedelta, timezone
@@ -13,7 +17,7 @@ from typing import Tuple
 from lambda_local.configuration import Members
 from lambda_local.up import sources
 from lambda_local.up.expressions import WrongExpression, cron_of, expression_of, rate_of
-from lambda_local.up.queues import failures_in
+from lambda_local.up.queues import failures_in, is_message, record_of
 from tests.library.cases import Case
 from tests.library.events_kit import READY, READY_SECONDS, json_lines
 from tests.library.sqs_server import Server
@@ -221,11 +225,52 @@ class Sources(Case):
                     self.check(f"{body}: a line says so", up.until(why, 60))
                     self.check("the message stays", server.queue.bodies(), [body])
 
+    def test_odd_messages(self):
+        """Whatever a server gives is no message, or an event can be made of it."""
+        chosen = random.Random(7)
+        values = (None, 5, 1.5, True, "", "text", "\ud800", b"\xff", [], ["x"], {}, {"StringValue": 5}, {"x": None},
+                  {"x": {"DataType": None, "BinaryValue": b"\xff"}}, {"x": {"StringValue": "\0"}}, {5: {}})
+        names = ("MessageId", "ReceiptHandle", "Body", "Attributes", "MessageAttributes", "MD5OfBody")
+        taken = 0
+        for _ in range(20_000):
+            whole = {"MessageId": "m", "ReceiptHandle": "r", "Body": "b"}
+            message = {**whole, **{name: chosen.choice(values) for name in names if chosen.random() < 0.3}}
+            if is_message(message):
+                taken += 1
+                json.dumps(record_of(message, "arn", "region"), ensure_ascii=False).encode(errors="replace")
+        self.check("some are taken, some are not", 2_000 < taken < 18_000, shown=taken)
+        self.check("what is no object is none", [is_message(value) for value in values], [False] * len(values))
+
+    @WITH_BOTO3
+    def test_a_server_that_holds(self):
+        """A server that does not answer a poll does not hold up the end."""
+        with socket.socket() as silent:
+            silent.bind(("127.0.0.1", 0))
+            silent.listen()
+            where = type("Silent", (), {"url": f"http://127.0.0.1:{silent.getsockname()[1]}/0/q"})
+            up = self.running(where)
+            with up as running:
+                connection, _ = silent.accept()
+                time.sleep(2)
+                begun = time.monotonic()
+                running.process.send_signal(signal.SIGTERM)
+                running.process.wait(30)
+                seconds = time.monotonic() - begun
+                connection.close()
+            self.check("it ends within seconds", seconds < 7, shown=seconds)
+
     @WITH_BOTO3
     def test_wrong_servers(self):
         with Server() as server:
             with self.running(server) as up:
                 self.check("it is polled", until(lambda: server.queue.asked != [], 60))
+                whole = {"MessageId": "m", "ReceiptHandle": "r", "Body": "beside"}
+                server.queue.wrong = (200, json.dumps({"Messages": [
+                    {**whole, "MessageAttributes": {"x": None}}, {**whole, "Body": 5}, None, whole]}).encode())
+                self.check("an odd message is told", up.until("queue orders: 3 messages of its server are left in the "
+                                                              "queue", 20))
+                self.check("one beside it is handled",
+                           until(lambda: any(event["Records"][0]["body"] == "beside" for event in seen_by(up)), 20))
                 for wrong in (
                         (500, b"no"), (200, b"<"), (200, b"<a/>"), (200, b"\0\xff" * 100), (403, b"<ErrorResponse/>"),
                         (200, b"<ReceiveMessageResponse><ReceiveMessageResult><Message><Body>x</Body></Message>"

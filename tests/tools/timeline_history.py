@@ -215,6 +215,18 @@ class TimelineHistory(TimelineCase):
         self.check("hidden: the calls", (calls(), calls("--all")) == (8, 11), shown=f"{calls()} {calls('--all')}")
         self.check("hidden calls do not count for --limit", calls("--limit", "8") == 8)
 
+    def test_moments(self):
+        """Each line has the moment at which it happened, also if a call made it that is not shown."""
+        up = ONE.replace('"ports":[9001]', '"ports":[9001],"extensions":["lambda_local.up"]')
+        script = (up + "\n0 register 1 =lambda_local.up s -\n1 ext-next 1 1\n2 next 1\n3 invoke f - - =1\n"
+                  "60 ext-exit-failure 1 1 =E\n70 next 1\n80 register 1 =lambda_local.up s -\n90 ext-next 1 2\n"
+                  "95 spindown 1\n")
+        shown = run("--text", script=script)[1].splitlines()
+        self.check("moments of the text", [line.split(" ms  ")[0].strip() for line in shown],
+                   "2 2 3 3 3 60 60 60 70 90 95 95 95".split(), shown="\n".join(shown))
+        found = re.findall(r"(\d+) ms  caller 1: invoke f, call 3, is answered after (\d+) ms", "\n".join(shown))
+        self.check("an answer comes as long after its call as its line says", found, [("60", "57")])
+
     def test_reports(self):
         """A report with a type is told as lambda_local up tells it; any other as it is."""
         python = ('{"errorMessage":%20"\'x\'",%20"errorType":%20"KeyError",%20"requestId":%20"1",%20"stackTrace":'

@@ -5,6 +5,7 @@ import glob
 import io
 import json
 import os
+import random
 import shutil
 import stat
 import subprocess
@@ -33,6 +34,16 @@ def packed(*members):
             member.create_system, member.external_attr = 3, mode << 16
             archive.writestr(member, data)
     return room.getvalue()
+
+
+def damaged(method):
+    """A .zip file whose one member is packed in this way, and has other bytes in its middle."""
+    room = io.BytesIO()
+    with zipfile.ZipFile(room, "w", method) as archive:
+        archive.writestr("python/x.py", bytes(random.Random(5).randbytes(20_000)))
+    data = bytearray(room.getvalue())
+    data[60:300] = b"\xff" * 240
+    return bytes(data)
 
 
 def file_of(data, folder, name="layer.zip"):
@@ -84,6 +95,11 @@ class UpProjects(Case):
             path = file_of(packed(("bomb", b"\0" * 5000, 0o644)), folder)
             self.check("a layer that is too large", "more than 1000 bytes" in fault_of([path], folder))
             layers.MOST_BYTES = most
+            for kind, method in (("deflate", zipfile.ZIP_DEFLATED), ("bzip2", zipfile.ZIP_BZIP2),
+                                 ("LZMA", zipfile.ZIP_LZMA)):
+                path = file_of(damaged(method), folder, f"{kind}.zip")
+                self.check(f"{kind} that is damaged", fault_of([path], folder).startswith(
+                    f"here: layers: {path}: it is not unpacked: "), shown=fault_of([path], folder))
             path = file_of(b"no zip at all", folder, "none.zip")
             self.check("what is no .zip", fault_of([path], folder),
                        f"here: layers: {path}: it is not unpacked: File is not a zip file")

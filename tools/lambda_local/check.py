@@ -11,6 +11,7 @@ import sys
 
 from .history.comparison import compared
 from .history.script import FORM_2, Script
+from .outgoing import printable, several, tell
 from .program import Fault, program_path
 from .usage import parser_of
 
@@ -29,9 +30,9 @@ def check(path: str, program: str) -> int:
     if seen.answers and not seen.saved:
         raise Fault(2, f"{path}: no line is `# ENTRY TICKET WORDS`: this script has no answers to compare with")
     if seen.difference:
-        print(f"check: {path}: {seen.difference}", file=sys.stderr)
+        tell(f"check: {path}: {seen.difference}")
         return 1
-    print(f"{path}: the same {seen.answers} answers")
+    print(printable(f"{path}: the same {several(seen.answers, 'answer')}"))
     return 0
 
 
@@ -45,7 +46,7 @@ def main() -> int:
     try:
         return check(options.history, program_path(options.program))
     except Fault as fault:
-        print(f"check: {fault}", file=sys.stderr)
+        tell(f"check: {fault}")
         return fault.status
 
 

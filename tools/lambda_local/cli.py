@@ -6,6 +6,7 @@ import sys
 from typing import List, Tuple
 
 from . import explain
+from .outgoing import tell
 from .paths import LAUNCHER, LIMITS, PACKAGE, own_program
 
 # The modules of this package that have the `main` of a tool.
@@ -26,8 +27,7 @@ SHAPES: Tuple[List[str], ...] = ([], ["replay"], ["trace"], ["trace", "--bodies"
 def start(program: str, words: List[str]) -> int:
     """Becomes the program."""
     if not shutil.which(program):
-        print(f"lambda_local: {program} is not a program that can be started: LAMBDA_LOCAL_PROGRAM names another",
-              file=sys.stderr)
+        tell(f"lambda_local: {program} is not a program that can be started: LAMBDA_LOCAL_PROGRAM names another")
         return 4
     os.environ.pop("LAMBDA_LOCAL_PROGRAM", None)
     if words[:1] == ["serve"]:
@@ -72,7 +72,9 @@ def main() -> int:
         sys.argv[:] = [f"lambda_local {words[0]}", *words[1:]]
         return int(importlib.import_module(TOOLS[words[0]], __package__).main() or 0)
     if words not in SHAPES and not (words[:1] == ["serve"] and len(words) == 2):
-        print(f"lambda_local: '{' '.join(words)}' is not one of its commands: --help lists them", file=sys.stderr)
+        told = ("serve takes one file: lambda_local serve CONFIGURATION" if words[0] == "serve"
+                else f"'{' '.join(words)}' is not one of its commands: --help lists them")
+        tell(f"lambda_local: {told}")
         return 2
     if program == LAUNCHER:  # (installed by `pip install -e`: the rest is the launcher's)
         os.execv(LAUNCHER, [LAUNCHER, *words])

@@ -25,6 +25,8 @@ from email.message import Message
 from typing import Dict, Optional, Tuple
 from urllib.parse import quote, urlsplit
 
+from . import outgoing
+from .outgoing import printable_lines
 from .paths import bundled
 from .service import Fault
 from .usage import parser_of
@@ -156,7 +158,11 @@ def ask(options: argparse.Namespace, payload: bytes) -> Answer:
 # ---- what comes of it ------------------------------------------------------------------------------------------------
 
 def print_body(body: bytes) -> None:
-    sys.stdout.buffer.write(body if body.endswith(b"\n") else body + b"\n")
+    """The bytes as they are; on a terminal, without what would do something to it."""
+    if sys.stdout.isatty():
+        print(printable_lines(body.decode(errors="replace").rstrip("\n")))
+    else:
+        sys.stdout.buffer.write(body if body.endswith(b"\n") else body + b"\n")
     sys.stdout.flush()
 
 
@@ -170,11 +176,11 @@ def show_log(headers: Message) -> None:
     except binascii.Error:
         say("the log in the answer is not Base64")
         return
-    print(text, end="" if text.endswith("\n") else "\n", file=sys.stderr)
+    print(printable_lines(text.rstrip("\n")), file=sys.stderr)
 
 
 def say(text: object) -> None:
-    print(f"invoke: {text}", file=sys.stderr)
+    outgoing.tell(f"invoke: {text}")
 
 
 def refusal(name: str, status: int, headers: Message, body: bytes) -> str:

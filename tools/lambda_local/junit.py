@@ -4,11 +4,10 @@
     suite.case("errors", "error_type", seconds=0.2)
     suite.case("errors", "error_message", seconds=0.2, failure="expected ..", details="the timeline ..")
     suite.write("report.xml")"""
-import os
-import tempfile
 from typing import List, NamedTuple, Optional
 from xml.sax.saxutils import escape, quoteattr
 
+from .outgoing import written
 from .service import Fault
 
 
@@ -56,14 +55,11 @@ class Suite:
             lines.append(f"    <system-out>{content(output)}</system-out>")
         return "\n".join([*lines, "  </testcase>"])
 
-    def write(self, path: str) -> None:
+    def write(self, path: str, has_payloads: bool = False) -> None:
         """Writes the file whole or not at all."""
         try:
-            folder = os.path.dirname(os.path.abspath(path))
-            with tempfile.NamedTemporaryFile("w", encoding="utf-8", dir=folder, delete=False) as file:
+            with written(path, has_payloads) as file:
                 file.write(self.text())
-            os.chmod(file.name, 0o644)
-            os.replace(file.name, path)
         except OSError as fault:
             raise Fault(2, f"--junit {path}: {fault.strerror}: name a file in a folder that can be written") from None
 

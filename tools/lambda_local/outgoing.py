@@ -1,13 +1,13 @@
 """What leaves the tools, by one function for each way out: a line that a person reads, the value of an HTTP header,
-a variable and a word of a process, a path, a file that has payloads. (`variables` has what keeps a client from AWS and
-from proxies.)
+a variable and a word of a process, a path, a file. (`variables` has what keeps a client from AWS and from proxies.)
 
 Texts of functions, callers, files and variables go through these, whatever is in them."""
-import io
+import contextlib
 import os
 import re
+import stat
 import sys
-from typing import Optional, Protocol, TextIO
+from typing import Iterator, Optional, Protocol, TextIO
 
 # Control characters but the tab, separators of lines, what turns the direction of writing, and halves of characters.
 UNSAFE = re.compile("[\x00-\x08\x0a-\x1f\x7f-\x9f\u2028\u2029\u202a-\u202e\u2066-\u2069\ud800-\udfff]")
@@ -15,6 +15,7 @@ COLOUR = re.compile("(\x1b\\[[0-9;:]*m)")  # also bold, underlined ..: a termina
 PLAIN = "\x1b[0m"
 SHORT = {"\n": "\\n", "\r": "\\r"}
 HEADER_VALUE = re.compile("[!-~](?:[ -~]*[!-~])?")
+ESCAPED = "backslashreplace"  # what is not of UTF-8, in a file
 
 
 class Log(Protocol):
@@ -54,6 +55,11 @@ def tell(text: str, stream: Optional[TextIO] = None) -> None:
     print(printable(text), file=stream or sys.stderr, flush=True)
 
 
+def printable_lines(text: str) -> str:
+    """A text of several lines, which may have colours, for a terminal."""
+    return "\n".join(map(printable_output, text.split("\n")))
+
+
 def header_value(text: str, otherwise: str, most: int = 1000) -> str:
     """A text as the value of an HTTP header if it is printable ASCII, else another one."""
     return text if len(text) <= most and HEADER_VALUE.fullmatch(text) else otherwise
@@ -71,7 +77,49 @@ def is_name_of_variable(text: str) -> bool:
     return text != "" and "=" not in text and is_for_the_system(text)
 
 
-def opened_for_payloads(path: str) -> io.TextIOWrapper:
-    """A file to be written anew that its user alone may read; one that is there keeps its mode."""
-    number = os.open(path, os.O_WRONLY | os.O_CREAT | os.O_TRUNC | os.O_CLOEXEC, 0o600)
-    return io.TextIOWrapper(io.FileIO(number, "w"), encoding="utf-8", errors="backslashreplace", write_through=True)
+@contextlib.contextmanager
+def written(path: str, has_payloads: bool = True) -> Iterator[TextIO]:
+    """A text file that replaces what is there once it is complete, and not at all if writing it fails or is given up;
+    OSError says why. It is written beside it, under a name that nothing has. A link stays, and leads to the new file;
+    what is not a file, such as a pipe, is written as it is. A file keeps its mode; a new one that has payloads can be
+    read by its user alone."""
+    if is_written_in_place(path):
+        with open(path, "w", encoding="utf-8", errors=ESCAPED) as file:
+            yield file
+        return
+    place, before = os.path.realpath(path), of_file(path)
+    beside = os.path.join(os.path.dirname(place), f".lambda_local.{os.urandom(8).hex()}")
+    number = os.open(beside, os.O_WRONLY | os.O_CREAT | os.O_EXCL | os.O_CLOEXEC, 0o600 if has_payloads else 0o666)
+    try:
+        with open(number, "w", encoding="utf-8", errors=ESCAPED) as file:
+            yield file
+            file.flush()
+            if before is not None:
+                with contextlib.suppress(OSError):
+                    os.fchown(number, before.st_uid, before.st_gid)
+                os.fchmod(number, stat.S_IMODE(before.st_mode))
+            os.fsync(number)  # (some systems find only now that they have no room)
+        os.replace(beside, place)
+    except BaseException:
+        with contextlib.suppress(OSError):
+            os.unlink(beside)
+        raise
+
+
+def is_written_in_place(path: str) -> bool:
+    """Whether this is no regular file, or a name by which the system gives what is open, such as /dev/stdout."""
+    if os.path.abspath(path).startswith(("/dev/", "/proc/")):
+        return True
+    return os.path.exists(path) and not os.path.isfile(path)
+
+
+def of_file(path: str) -> Optional[os.stat_result]:
+    """The owner and the mode of a file that is there. (It is opened for that: the system may refuse to have it
+    written, or to follow a link in a folder of everyone.)"""
+    if not os.path.lexists(path):
+        return None
+    number = os.open(path, os.O_WRONLY | os.O_CLOEXEC)
+    try:
+        return os.fstat(number)
+    finally:
+        os.close(number)

@@ -6,9 +6,9 @@ import functools
 import os
 import shutil
 import subprocess
-import sys
 from typing import Optional
 
+from .outgoing import tell
 from .paths import LAUNCHER, own_program
 
 
@@ -50,14 +50,13 @@ def ask_launcher(launcher: str) -> str:
     if done.returncode:
         raise NoProgram(said[-1] if said else f"{launcher} path ended with status {done.returncode}")
     for line in said:
-        print(f"lambda_local: {line}", file=sys.stderr)
+        tell(f"lambda_local: {line}")
     return done.stdout.rstrip("\n")
 
 
 @functools.lru_cache(maxsize=None)
 def tell_unproved(program: str) -> None:
-    print(f"lambda_local: {program} is not proved: './lambda_local build' proves and builds the program",
-          file=sys.stderr)
+    tell(f"lambda_local: {program} is not proved: './lambda_local build' proves and builds the program")
 
 
 def place_of_fault(program: str, configuration: bytes) -> str:

@@ -8,6 +8,7 @@
 import importlib
 import sys
 
+from ..outgoing import tell
 from ..service import Fault
 
 SUBCOMMANDS = ("runtime", "extension", "service")
@@ -20,12 +21,12 @@ def main() -> int:
         return 0
     if not words or words[0] not in SUBCOMMANDS:
         usage = "lambda_local conformance --help"
-        print(f"conformance: write one of {', '.join(SUBCOMMANDS)} as its first word (`{usage}`)", file=sys.stderr)
+        tell(f"conformance: write one of {', '.join(SUBCOMMANDS)} as its first word (`{usage}`)")
         return 2
     try:
         return int(importlib.import_module(f"lambda_local.conformance.{words[0]}").main(words[1:]))
     except Fault as fault:
-        print(f"conformance: {fault}", file=sys.stderr)
+        tell(f"conformance: {fault}")
         return fault.status
     except BrokenPipeError:
         return 1

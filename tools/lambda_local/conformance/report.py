@@ -6,6 +6,7 @@ import os
 from typing import Any, Callable, Dict, Iterable, List, Set, Tuple
 
 from .. import junit
+from ..outgoing import written
 from ..service import Fault
 from .causes import Causes, Known
 from .clock import CLOCK
@@ -126,7 +127,7 @@ class Report:
         path = os.path.join(self.pictures, f"{verdict.scenario}.svg")
         if path not in self._drawn:
             self._drawn[path] = draw(verdict.seen.history or "", "--svg", *self._program)
-            with open(path, "w", encoding="utf-8") as file:
+            with written(path) as file:
                 file.write(self._drawn[path])
         return path
 

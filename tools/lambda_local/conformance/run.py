@@ -15,6 +15,7 @@ from .sometimes import run_alone
 from .stage import Stage, Tools, patient
 from .watch import OLDER
 from ..guard import GUARD
+from .. import usage
 from ..program import Fault, NoProgram
 from ..usage import parser_of as parser_of_tool
 
@@ -23,7 +24,7 @@ BUSY = 2  # times as long as usual a little work takes, from which on what is la
 ENOUGH = 5  # scenarios that have failed by themselves, after which what has failed beside others is believed
 
 
-class Parser(argparse.ArgumentParser):
+class Parser(usage.Parser):
     """Wrong usage is one line and status 2."""
 
     def error(self, message: str) -> NoReturn:

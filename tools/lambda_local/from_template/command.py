@@ -22,6 +22,7 @@ import sys
 from typing import List, Optional
 
 from ..configuration import Members
+from ..outgoing import written
 from ..usage import parser_of
 from . import cloudformation, serverless
 from .functions import functions_of
@@ -101,7 +102,7 @@ def folder_of_output() -> Optional[str]:
 
 def write(text: str, output: Optional[str]) -> None:
     if output:
-        with open(output, "w") as file:
+        with written(output, has_payloads=False) as file:
             file.write(text)
     else:
         sys.stdout.write(text)

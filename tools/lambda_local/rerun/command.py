@@ -15,11 +15,9 @@ Exit statuses: 0, all are equal; 1, something differs; 2, a fault in the argumen
 not be run to the end; 4, there is no program to start."""
 import argparse
 import io
-import os
-import stat
 import sys
-import tempfile
 
+from ..outgoing import tell, written
 from ..program import Fault, NoProgram
 from ..usage import parser_of
 from .again import rerun
@@ -50,18 +48,10 @@ def options_of() -> argparse.Namespace:
 
 
 def write(path: str, text: str) -> None:
-    """Writes a file whole or not at all; it stays as private as the one in whose place it comes."""
+    """Writes a history over the one that was recorded."""
     try:
-        mode = stat.S_IMODE(os.stat(path).st_mode)
-        number, beside = tempfile.mkstemp(dir=os.path.dirname(os.path.abspath(path)))
-        try:
-            with open(number, "w") as file:
-                file.write(text)
-            os.chmod(beside, mode)
-            os.replace(beside, path)
-        except BaseException:
-            os.unlink(beside)
-            raise
+        with written(path) as file:
+            file.write(text)
     except OSError as fault:
         raise Fault(2, f"--update: {path}: {fault.strerror}") from None
 
@@ -89,5 +79,5 @@ def main() -> int:
     try:
         return run(options)
     except Fault as fault:
-        print(f"rerun: {fault}", file=sys.stderr)
+        tell(f"rerun: {fault}")
         return fault.status if fault.status > 128 or isinstance(fault, NoProgram) else 2

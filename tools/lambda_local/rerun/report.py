@@ -74,4 +74,4 @@ def write_junit(path: str, results: Sequence[Result]) -> None:
         name = f"call {result.invocation.ticket}: {shown(result.invocation.payload, EVENT_OF_A_NAME)}"
         lines = result.lines + [f"its event: {shown(result.invocation.payload, EVENT)}"]
         suite.case(result.invocation.function, name, result.seconds, failure, "\n".join(lines))
-    suite.write(path)
+    suite.write(path, has_payloads=True)

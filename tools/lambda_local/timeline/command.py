@@ -18,17 +18,20 @@ Exit statuses: 0; 2 for a fault in the arguments or in the input; 3 if a trace i
 calls; 4 if the program could not be run or the output not be written.
 """
 import argparse
+import contextlib
 import os
 import re
 import sys
 import time
-from typing import Callable, Iterable, Iterator, List, Optional, Sequence, Tuple
+from typing import Callable, Iterable, Iterator, List, Optional, Sequence, TextIO, Tuple
 
+from .. import outgoing
 from ..history.comparison import answers_of, compared
 from ..history.entries import Entry
 from ..history.replay import Traced
 from ..history.script import Script, opened
 from ..history.words import WAITING
+from ..outgoing import written
 from ..program import Fault, program_path
 from ..usage import parser_of
 from .drawing import Drawing, svg
@@ -173,7 +176,7 @@ def differences(script: Script, program: str) -> Tuple[str, str]:
 
 
 def tell(words: str) -> None:
-    print(f"timeline: {words}", file=sys.stderr)
+    outgoing.tell(f"timeline: {words}")
 
 
 def run(chosen: argparse.Namespace, write: Say, closing: Closing, say: Say = tell,
@@ -220,39 +223,37 @@ def drawn(history: str, *words: str) -> str:
     return "".join(written)
 
 
+@contextlib.contextmanager
+def output_of(path: Optional[str]) -> Iterator[TextIO]:
+    """What is written to: a file, which is there once it is whole, or standard output."""
+    if path is not None:
+        with written(path) as file:
+            yield file
+        return
+    with open(sys.stdout.fileno(), "w", encoding="utf-8", closefd=False) as file:
+        yield file
+
+
 def main() -> int:
     chosen = arguments()
     closing: Closing = []
-    partial: Optional[str] = None
     try:
         if chosen.live:
             return serve(chosen.live, chosen.limit or MOST_LIVE, chosen.all)
         try:
-            if chosen.output and (not os.path.exists(chosen.output) or os.path.isfile(chosen.output)):
-                partial = chosen.output + ".partial"
-            out = open(partial or chosen.output, "w", encoding="utf-8") if chosen.output else open(
-                sys.stdout.fileno(), "w", encoding="utf-8", closefd=False)
-        except OSError as fault:
-            raise Fault(4, f"{chosen.output}: {fault.strerror}")
-        try:
-            run(chosen, out.write, closing)
-            out.close()
-            if partial:
-                os.replace(partial, chosen.output)
-                partial = None
+            with output_of(chosen.output) as out:
+                run(chosen, out.write, closing)
         except BrokenPipeError:
             os.dup2(os.open(os.devnull, os.O_WRONLY), sys.stdout.fileno())
             return 4
         except OSError as fault:
-            raise Fault(4, f"input or output failed: {fault.strerror}")
+            raise Fault(4, f"{chosen.output or 'standard output'}: {fault.strerror}") from None
     except Fault as fault:
-        print(f"timeline: {fault}", file=sys.stderr)
+        tell(str(fault))
         return fault.status
     except KeyboardInterrupt:
         return 130
     finally:
         for close in closing:
             close()
-        if partial and os.path.exists(partial):
-            os.remove(partial)
     return 0

@@ -1,7 +1,6 @@
 """Follows a service that runs, and shows it on a page that updates itself (`served`)."""
 import http.client
 import signal
-import sys
 import threading
 from datetime import datetime, timezone
 from typing import Callable, Optional, Tuple
@@ -10,6 +9,7 @@ from urllib.parse import urlsplit
 from ..history.opening import Configuration, read_configuration
 from ..history.running import Lost, Running
 from ..history.script import FORM_2
+from ..outgoing import tell
 from ..program import Fault
 from .live_page import fragment
 from .recent import Recent
@@ -124,7 +124,7 @@ def words_of(fault: BaseException) -> str:
 
 
 def say(words: str) -> None:
-    print(f"timeline: {words}", file=sys.stderr, flush=True)
+    tell(f"timeline: {words}")
 
 
 def serve(url: str, limit: int, shows_all: bool) -> int:

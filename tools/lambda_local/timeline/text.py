@@ -1,4 +1,5 @@
 """The log: one line an event."""
+import functools
 from typing import Callable, Optional
 
 from ..history.entries import Answer
@@ -10,64 +11,58 @@ from .world import Environment
 
 
 class Text(Sink):
-    """One line an event, as it happens."""
+    """One line an event, with the moment at which it happened."""
 
     def __init__(self, configuration: Configuration, write: Callable[[str], object]) -> None:
-        self.configuration, self.write, self.now = configuration, write, 0
-        self.last: Optional[int] = None
-        self.stamp = ""
+        self.configuration, self.write = configuration, write
 
-    def line(self, words: str) -> None:
-        if self.now != self.last:
-            self.last, self.stamp = self.now, f"{moment_words(self.now):>10}"
-        self.write(f"{self.stamp}  {words}\n")
-
-    def begin(self, moment: int) -> None:
-        self.now = moment
+    def line(self, moment: int, words: str) -> None:
+        self.write(f"{stamp(moment)}  {words}\n")
 
     def full(self, moment: int, words: str) -> None:
-        self.now = moment
-        self.line(f"account: {words}: refused JournalFull, so it has no number")
+        self.line(moment, f"account: {words}: refused JournalFull, so it has no number")
 
     def expired(self, moment: int, entry: int, environment: Environment) -> None:
-        self.now = moment
-        self.line(f"{self.configuration.place(environment.number)}: the deadline of {environment.phase} has come "
-                  f"(entry {entry})")
+        self.line(moment, f"{self.configuration.place(environment.number)}: the deadline of {environment.phase} has "
+                          f"come (entry {entry})")
+
+    def words_of(self, call: Call) -> str:
+        """Who has made a call, which one, and its number."""
+        return f"{who(self.configuration, call)}: {what(self.configuration, call)}, call {call.ticket}"
 
     def taken(self, call: Call, own: Optional[Answer]) -> None:
-        self.now = call.moment
         if own is None:
             payload = payload_words(call)
-            self.line(f"{who(self.configuration, call)}: {what(self.configuration, call)}, call {call.ticket}"
-                      + (f", {payload}" if payload else "") + ", waits")
+            self.line(call.moment, self.words_of(call) + (f", {payload}" if payload else "") + ", waits")
 
     def answered(self, call: Call) -> None:
-        what_words = what(self.configuration, call)
         if call.ticket == call.end_entry:
             payload = payload_words(call)
-            self.line(f"{who(self.configuration, call)}: {what_words}, call {call.ticket}"
-                      + (f", {payload}" if payload else "") + f": {call.said}")
+            self.line(call.end, self.words_of(call) + (f", {payload}" if payload else "") + f": {call.said}")
         else:
-            self.line(f"{who(self.configuration, call)}: {what_words}, call {call.ticket}, is answered after "
-                      f"{length_words(call.end - call.moment)}: {call.said}")
+            length = length_words(call.end - call.moment)
+            self.line(call.end, f"{self.words_of(call)}, is answered after {length}: {call.said}")
 
     def still_open(self, call: Call, moment: int, entry: int) -> None:
-        self.line(
-            f"{who(self.configuration, call)}: {what(self.configuration, call)}, call {call.ticket}, has no answer yet")
+        self.line(moment, f"{self.words_of(call)}, has no answer yet")
 
     def cut(self, call: Call, moment: int) -> None:
-        self.now = moment
-        words = f"{who(self.configuration, call)}: {what(self.configuration, call)}, call {call.ticket}, still waits"
+        words = f"{self.words_of(call)}, still waits"
         if call.answer:
             words += f", and is answered at {moment_words(call.end)}, after what is shown"
-        self.line(words)
+        self.line(moment, words)
 
     def turned(self, environment: Environment, moment: int, entry: int, phase: str, deadline: Optional[int],
                reason: Optional[str]) -> None:
         place = self.configuration.place(environment.number)
         if phase == "Closing":
-            self.line(f"{place}: reset, {reason}: Closing")
+            self.line(moment, f"{place}: reset, {reason}: Closing")
         else:
             begins = phase == "Starting" and environment.phase == "Closing"
             generation = f", generation {environment.generation + 1}" if begins else ""
-            self.line(f"{place}: {phase}{generation}" + (f", until {deadline}" if deadline is not None else ""))
+            self.line(moment, f"{place}: {phase}{generation}" + (f", until {deadline}" if deadline is not None else ""))
+
+
+@functools.lru_cache(maxsize=16)
+def stamp(moment: int) -> str:
+    return f"{moment_words(moment):>10}"

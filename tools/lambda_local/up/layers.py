@@ -9,6 +9,7 @@ import zipfile
 from typing import Dict, List, Mapping, Sequence, Tuple
 
 from ..guard import GUARD
+from ..reports import shorten
 from ..service import Fault
 
 MOST_BYTES = 262_144_000  # of a function's layers and code, unpacked
@@ -48,10 +49,11 @@ def unpacked(path: str, where: str) -> str:
     try:
         with zipfile.ZipFile(path) as archive:
             unpack(archive, os.path.realpath(folder))
-    except (Unsafe, zipfile.BadZipFile, NotImplementedError, RuntimeError, ValueError, OSError, EOFError) as fault:
+    except Exception as fault:  # (each way of packing has faults of its own)
         shutil.rmtree(folder, ignore_errors=True)
         GUARD.release(folder)
-        said = str(fault) if isinstance(fault, Unsafe) else f"it is not unpacked: {fault}"
+        why = shorten(str(fault) or type(fault).__name__)
+        said = str(fault) if isinstance(fault, Unsafe) else f"it is not unpacked: {why}"
         raise Fault(2, f"{where}: {said}") from None
     return folder
 

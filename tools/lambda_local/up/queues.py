@@ -12,6 +12,7 @@ from typing import Any, Dict, Iterator, List, NamedTuple, Optional
 from urllib.parse import urlsplit
 
 from ..json_reader import NotJson, read_json
+from ..outgoing import several
 from ..reports import shorten
 from ..service import ask
 from .log import Log
@@ -62,12 +63,22 @@ def attribute_of(given: Dict[str, Any]) -> Dict[str, Any]:
     return attribute
 
 
+def is_message(given: object) -> bool:
+    """Whether a server has given a message as SQS does: another client and another server make other values of it."""
+    return (isinstance(given, dict)
+            and all(isinstance(given.get(name), str) for name in ("MessageId", "ReceiptHandle"))
+            and all(isinstance(given.get(name, ""), str) for name in ("Body", "MD5OfBody"))
+            and isinstance(given.get("Attributes") or {}, dict)
+            and isinstance(attributes := given.get("MessageAttributes") or {}, dict)
+            and all(isinstance(one, dict) for one in attributes.values()))
+
+
 def record_of(message: Dict[str, Any], arn: str, region: str) -> Dict[str, Any]:
     return {
         "messageId": message["MessageId"], "receiptHandle": message["ReceiptHandle"], "body": message.get("Body", ""),
-        "attributes": {str(name): str(value) for name, value in message.get("Attributes", {}).items()},
-        "messageAttributes": {name: attribute_of(value)
-                              for name, value in message.get("MessageAttributes", {}).items()},
+        "attributes": {str(name): str(value) for name, value in (message.get("Attributes") or {}).items()},
+        "messageAttributes": {str(name): attribute_of(value)
+                              for name, value in (message.get("MessageAttributes") or {}).items()},
         "md5OfBody": message.get("MD5OfBody", ""), "eventSource": "aws:sqs", "eventSourceARN": arn, "awsRegion": region}
 
 
@@ -106,6 +117,8 @@ class Poller(threading.Thread):
         self.function, self.queue, self.service, self.stopping, self.log = function, queue, service, stopping, log
         self.keeps_credentials, self.region = keeps_credentials, service.configuration["region"]
         self.pause, self.arn = 0.0, ""
+        self.has_odd = False  # the last poll had a message that is none, which was told
+        self.polls_since: Optional[float] = None  # while a server is asked
 
     def say(self, text: str, level: str = "info", **members: Any) -> None:
         self.log(self.function, f"queue {self.queue.name}: {text}", level=level, kind="queue", function=self.function,
@@ -125,8 +138,25 @@ class Poller(threading.Thread):
             except Exception as fault:  # (whatever a server answers, and whatever the client makes of it)
                 self.wait_after(fault)
                 continue
-            if batch:
-                self.handle(batch)
+            try:
+                if batch:
+                    self.handle(batch)
+            except Exception as fault:  # (whatever is in a batch, it ends no other)
+                self.say(f"a batch of {len(batch)} is not handled: {one_line(fault)}: its messages stay in the queue",
+                         "error", messages=len(batch))
+                self.stopping.wait(FIRST_PAUSE)
+
+    @property
+    def is_held(self) -> bool:
+        """Whether a server holds a poll for longer than it was asked to: its end is not waited for."""
+        since = self.polls_since
+        return since is not None and time.monotonic() - since > 1.5 * POLL_SECONDS
+
+    def join(self, timeout: Optional[float] = None) -> None:
+        """Waits for a batch that is being handled, and for a poll as long as a queue may hold it."""
+        end = None if timeout is None else time.monotonic() + timeout
+        while self.is_alive() and not self.is_held and (end is None or time.monotonic() < end):
+            super().join(0.05)
 
     def works_again(self) -> None:
         if self.pause:
@@ -156,16 +186,31 @@ class Poller(threading.Thread):
         return messages
 
     def received(self, count: int) -> List[Dict[str, Any]]:
-        answer = self.client.receive_message(
-            QueueUrl=self.queue.url, AttributeNames=["All"], MessageAttributeNames=["All"], MaxNumberOfMessages=count,
-            WaitTimeSeconds=POLL_SECONDS)
-        messages: List[Dict[str, Any]] = answer.get("Messages") or []
-        wrong = [message for message in messages if not ("MessageId" in message and "ReceiptHandle" in message)]
-        if wrong:
-            raise ValueError("its server gives a message without MessageId or ReceiptHandle")
+        self.polls_since = time.monotonic()
+        try:
+            answer = self.client.receive_message(
+                QueueUrl=self.queue.url, AttributeNames=["All"], MessageAttributeNames=["All"],
+                MaxNumberOfMessages=count, WaitTimeSeconds=POLL_SECONDS)
+        finally:
+            self.polls_since = None
+        given = answer.get("Messages") or []
+        messages = [one for one in given if is_message(one)]
+        if len(messages) < len(given):
+            self.leave_odd(len(given) - len(messages), not messages)
+        else:
+            self.has_odd = False
         if not self.arn:
             self.arn = self.known_arn()
         return messages
+
+    def leave_odd(self, count: int, are_all: bool) -> None:
+        """Messages of which no event can be made: they are told once, and those beside them go on."""
+        if not self.has_odd:
+            self.say(f"{several(count, 'message')} of its server {'is' if count == 1 else 'are'} left in the queue: "
+                     "a message has texts as MessageId, ReceiptHandle and Body, and objects as its attributes", "error")
+        self.has_odd = True
+        if are_all:
+            self.stopping.wait(FIRST_PAUSE)
 
     def known_arn(self) -> str:
         """The queue's ARN, by its server or by its address."""
@@ -187,7 +232,7 @@ class Poller(threading.Thread):
             if not self.stopping.is_set():
                 self.say(f"{what} {invoked.why}: its messages stay in the queue", "error", messages=len(batch))
             return
-        done = [message for message in batch if message["MessageId"] not in invoked.failed]
+        done = [message for message in batch if str(message["MessageId"]) not in invoked.failed]
         left = self.delete(done)
         if invoked.failed:
             self.say(f"{what}: {len(invoked.failed)} failed and stay in the queue", "warning", messages=len(batch),

@@ -10,7 +10,7 @@ from typing import Callable, Dict, Iterator, List, Optional, Sequence, Tuple, Ty
 from ..front.front import Front
 from ..guard import GUARD
 from ..guard_process import end_all_below
-from ..outgoing import opened_for_payloads
+from ..outgoing import written
 from ..reports import Report
 from ..service import Fault, Service
 from ..telemetry.beside import Sidecars
@@ -24,7 +24,7 @@ from .lines import Lines
 from .log import OUTPUT, Log
 from .looks import Looks
 from .members import load
-from .queues import pollers_of
+from .queues import Poller, pollers_of
 from .reload import Reload
 from .restarts import Restarts
 from .run import Run
@@ -264,14 +264,21 @@ class Session:
 
     # ---- the end -----------------------------------------------------------------------------------------------------
 
-    def save(self) -> None:
+    def save(self) -> bool:
+        """Saves the history; whether it is there, whole."""
         path = self.options.history or SAVED
         try:
-            with opened_for_payloads(path) as file:
-                file.write(self.service.history())
-            self.say(f"the history is in {path}")
-        except (OSError, http.client.HTTPException) as fault:
+            history = self.service.history()
+            with written(path) as file:
+                file.write(history)
+        except OSError as fault:
+            self.say(f"the history could not be saved: {path}: {fault.strerror or fault}", level="error")
+            return False
+        except http.client.HTTPException as fault:
             self.say(f"the history could not be saved: {fault}", level="error")
+            return False
+        self.say(f"the history is in {path}")
+        return True
 
     def step(self, what: str, done: Callable[[], Given], otherwise: Optional[Given] = None) -> Optional[Given]:
         """What a step of the end gives. A fault in it is reported, and the next step is made."""
@@ -283,14 +290,14 @@ class Session:
             return otherwise
 
     def finish(self, failed: bool) -> int:
-        """Stops the service and all processes in order; the service's status. The history is saved if that is asked, or
-        the command failed."""
+        """Stops the service and all processes in order; the service's status, or 4 if the history is not saved. It is
+        saved if that is asked, or the command failed."""
         self.ending.set()
         self.step("waiting for events", lambda: self.front.drain(lambda: self.service.process.poll() is not None))
-        gone = self.service.process.poll() is not None
+        gone, is_saved = self.service.process.poll() is not None, True
         self.step("reading the history", self.watch.refresh)
         if (self.options.history or self.options.command and failed) and not gone:
-            self.step("saving the history", self.save)
+            is_saved = self.step("saving the history", self.save, False)
         self.stopping.set()
         self.watch.wake()
         for environment in self.environments:
@@ -310,7 +317,7 @@ class Session:
         self.service.kill()
         if not self.has_guard:
             self.step("the end of all processes", end_all_below)
-        return status if status >= 0 else 4
+        return status or (0 if is_saved else 4) if status >= 0 else 4
 
     def join(self) -> None:
         """Waits for all threads: the guard ends what one leaves that does not end."""
@@ -318,5 +325,5 @@ class Session:
         for thread in [*self.threads, self.clients, *self.sources]:
             if thread.ident is not None:
                 thread.join(max(0.0, end - time.monotonic()))
-                if thread.is_alive():
+                if thread.is_alive() and not (isinstance(thread, Poller) and thread.is_held):
                     self.say(f"the thread {thread.name} does not end, and is left", level="error", kind="fault")
