@@ -1,9 +1,14 @@
 """Must-fail edits: how one is read, and whether it fits its crate. An edit is a file of lines `file: PATH` (below its
-crate), `old: TEXT` and `new: TEXT`, and, if the gate tries it, `gate: FUNCTION`: whose promise it breaks."""
+crate), `old: TEXT` and `new: TEXT`, and, if the gate tries it, `gate: FUNCTION`: whose promise it breaks. A line
+`same: TEXT` gives it a twin, which has this text in place of the old one, means the same and must still be proved."""
+import glob
+import os
 import re
-from typing import Dict
+from typing import Dict, List
 
-WORDS = re.compile(r"^(gate|file|old|new):(?: (.*))?$", re.M)
+WORDS = re.compile(r"^(gate|file|old|new|same):(?: (.*))?$", re.M)
+FOLDER = os.path.join("tests", "must_fail")
+TWIN = " same"  # behind the name of an edit, for its twin
 # The head of a function, and of a block of methods: the type alone, or the trait and the type.
 HEAD = re.compile(r"^( *)(?:pub(?:\([a-z]+\))? )?(?:const )?fn (\w+)", re.M)
 BLOCK = re.compile(r"^impl(?:<[^{]*?>)? (?:[^{]*? for )?(\w+)", re.M)
@@ -12,6 +17,24 @@ BLOCK = re.compile(r"^impl(?:<[^{]*?>)? (?:[^{]*? for )?(\w+)", re.M)
 def read(path):
     with open(path, encoding="utf-8") as file:
         return file.read()
+
+
+def path_of(root: str, name: str) -> str:
+    """The file of an edit, by CRATE/NAME, or of a twin."""
+    return os.path.join(root, FOLDER, name.replace(TWIN, "") + ".edit")
+
+
+def names_of(root: str) -> List[str]:
+    """All edits by CRATE/NAME, each with its twin behind it."""
+    found = []
+    for path in sorted(glob.glob(os.path.join(root, FOLDER, "*", "*.edit"))):
+        name = os.path.relpath(path, os.path.join(root, FOLDER))[:-len(".edit")]
+        found += [name, name + TWIN] if has_twin(path) else [name]
+    return found
+
+
+def has_twin(edit):
+    return any(key == "same" for key, _ in WORDS.findall(read(edit)))
 
 
 def function_of(edit):
@@ -46,9 +69,9 @@ def _around(text, place):
     return f"{block[1]}::{head[2]}" if block and not is_of_trait else head[2]
 
 
-def edited(edit, crate):
-    """The files of a crate's folder that an edit changes, with their new texts; a ValueError that tells why if the edit
-    does not fit: each text that it replaces must occur in its file exactly once."""
+def edited(edit, crate, by="new"):
+    """The files of a crate's folder that an edit changes, with their new texts, or, by "same", those of its twin; a
+    ValueError that tells why if it does not fit: each text that it replaces must occur in its file exactly once."""
     texts: Dict[str, str] = {}
     path = old = ""
     for key, value in WORDS.findall(read(edit)):
@@ -60,11 +83,13 @@ def edited(edit, crate):
                 raise ValueError(f"there is no {path}") from None
         elif key == "old":
             old = value
-        elif key == "new":
+        elif key == by:
             if not path:
                 raise ValueError("names no file")
             if not old or texts[path].count(old) != 1:
                 raise ValueError(f"stands {texts[path].count(old) if old else 0} times in {path}: {old.strip()}")
+            if value == old:
+                raise ValueError(f"the line `{by}` has the old text: {old.strip()}")
             texts[path] = texts[path].replace(old, value)
     if not texts:
         raise ValueError("names no file")
@@ -72,9 +97,11 @@ def edited(edit, crate):
 
 
 def misfit(edit, crate):
-    """Why an edit does not fit its crate; nothing if it does."""
+    """Why an edit or its twin does not fit its crate; nothing if both do."""
     try:
         edited(edit, crate)
+        if has_twin(edit):
+            edited(edit, crate, "same")
     except ValueError as fault:
         return str(fault)
     return ""

@@ -8,18 +8,14 @@ import re
 import shutil
 import subprocess
 
-from tests.library import edits
+from tests.library import edits, refusals
+from tests.library.gate_record import SCRATCH, line_of
 from tests.library.page_facts import pages_of, text_of
+from tests.library.refusals import git
 
 MEASURED = re.compile(r"^<!-- measured at ([0-9a-f]{7,40}) -->$", re.M)
 SOURCES = ("src", "specs", "proofs")
 OLDEST = 30  # commits that changed sources of crates, after which what the gate does not run is run again for a release
-
-
-def git(root, *words):
-    """Returns what git prints, or nothing if it fails."""
-    ran = subprocess.run(["git", "-C", root, *words], stdout=subprocess.PIPE, stderr=subprocess.DEVNULL, text=True)
-    return ran.stdout.strip() if ran.returncode == 0 else ""
 
 
 def edits_of(root):
@@ -37,10 +33,6 @@ def misfits(root):
             yield f"{os.path.relpath(edit, root)}: {fault}"
 
 
-def line_of(text, word):
-    return "".join(re.findall(rf"^{word} (.*)$", text, re.M))
-
-
 def broken_release(root):
     """What is wrong with the released program, whatever sources it is of."""
     proved = text_of(root, "release", "PROVED")
@@ -54,6 +46,10 @@ def broken_release(root):
         yield "lambda_local.gz does not have the sha256 that PROVED names"
     if not re.fullmatch(r"[1-9]\d* passed, 0 failed", line_of(proved, "gate")):
         yield f"PROVED names no gate that passed: {line_of(proved, 'gate')!r}"
+    scratch = text_of(root, SCRATCH)
+    built = line_of(scratch, "program")
+    if built and line_of(scratch, "sources") == line_of(proved, "sources") and built != line_of(proved, "program"):
+        yield f"{SCRATCH} tells of another program of these sources, {built}"
 
 
 def old_release(root):
@@ -107,13 +103,8 @@ def changes_since(root, commit):
     return int(git(root, "rev-list", "--count", f"{commit}..HEAD", "--", *sources) or 0)
 
 
-def last_refused(root):
-    return text_of(root, "tests", "must_fail", "LAST_REFUSED").split(" ")[0].removesuffix("-dirty")
-
-
 def ages(root):
     """What the gate does not renew: its name, the commit at which it was last run, and what runs it again."""
-    yield "tests/must_fail: all edits", last_refused(root), "tests/must_fail/run"
     for page in pages_of(root):
         for part in re.split(r"^(?=## )", text_of(root, page), flags=re.M):
             for commit in MEASURED.findall(part):
@@ -125,6 +116,7 @@ def too_old(root, oldest=OLDEST):
     whole history cannot tell.)"""
     if git(root, "rev-parse", "--is-shallow-repository") != "false":
         return
+    yield old_edits(root, oldest)
     for name, commit, by in ages(root):
         if not is_known(root, commit):
             yield f"{name}: its age", f"it was run at {commit or 'no commit'}, which git does not know"
@@ -135,16 +127,37 @@ def too_old(root, oldest=OLDEST):
             f"{by} renews it")
 
 
+def old_edits(root, oldest):
+    """The name of a check that no edit and no twin was last tried too long ago, and its fault, else nothing."""
+    ages = refusals.ages(root, refusals.known(root))
+    old = [name for name, age in ages.items() if age is None or age > oldest]
+    return "tests/must_fail: the age of the edits", "" if not old else (
+        f"{len(old)} of {len(ages)} edits and twins were not tried in the last {oldest} commits that changed what they "
+        f"stand on, as {old[0]}; each gate tries some, tests/must_fail/run all, and tests/gate --keep notes them here")
+
+
+def misnoted(root):
+    """What is wrong with the table of edits that were refused."""
+    try:
+        table = refusals.read(os.path.join(root, refusals.NOTED))
+    except ValueError as fault:
+        yield str(fault).replace(f"{root}/", "")
+        return
+    names = set(edits.names_of(root))
+    yield from (f"{refusals.NOTED} names {it}, which is not there" for it in table if it not in names)
+
+
 def age_of_edits(root):
-    """When the further edits were last refused, and how many of them have changed since, or their crates have."""
-    commit = last_refused(root)
-    if not is_known(root, commit):
-        return f"LAST_REFUSED names {commit or 'no commit'}, which git does not know"
-    changed = git(root, "diff", "--name-only", commit).split("\n")
-    of_crates = {it.split("/")[1] for it in changed if re.match(rf"crates/\w+/({'|'.join(SOURCES)})/", it)}
-    edits = [os.path.relpath(it, root) for it in glob.glob(f"{root}/tests/must_fail/*/*.edit")]
-    stale = [it for it in edits if it in changed or it.split("/")[2] in of_crates]
-    return f"last refused at {age(root, commit)}; {len(stale)} of {len(edits)} are new, or of a crate that changed"
+    """How many of the edits and twins were tried as they are, over the crates as they are."""
+    ages = refusals.ages(root, refusals.known(root))
+    fresh, never = [sum(it == age for it in ages.values()) for age in (0, None)]
+    oldest = max((age or 0, name) for name, age in ages.items())
+    yield (f"{fresh} of {len(ages)} edits and twins were tried as they are, {never} never, "
+           f"the stalest other one, {oldest[1]}, {oldest[0]} commits of its sources ago")
+    here, there = refusals.known(root), refusals.merged(root, refusals.read(os.path.join(root, refusals.NOTED)))
+    if here != there:
+        yield f"gates on this machine have tried {sum(it != there.get(name) for name, it in here.items())} since: " \
+              "tests/gate --keep notes them in the tree"
 
 
 def unmeasured(root, page, text):

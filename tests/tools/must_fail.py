@@ -1,0 +1,175 @@
+"""Checks how the gate judges must-fail edits, which it tries anew and what it keeps: by what the prover prints, in
+small repositories, and with commands in place of the prover."""
+import os
+import subprocess
+import sys
+import tempfile
+import unittest
+from typing import Dict, List
+from unittest import mock
+
+from tests.library import edits, evidence, gate_record, refusals, trials
+from tests.library.cases import Case
+from tests.library.trees import commit, write
+
+NAMES_ALONE = ["./proofs/set/waiting/Answers.antt:7:23: error: `returns`: `c` has no field `then-is_awaited`",
+               "note: proofs/set/waiting/Answers.antt:9:1: `then-is_awaited` is not in scope",
+               "fn a::set::waiting: not proved", "only=3 proved=2"]
+BY_PROMISE = ["./proofs/names/is_here/Answers.antt:8:47: error: `returns`: the types first differ where one has `t`",
+              "  expected type `Path Bool a b`", "fn a::names::is_here: not proved", "only=3 proved=2"]
+PARTLY = [NAMES_ALONE[0], "note: src/names.rt:132:1: it is not proved that what the function ensures holds",
+          *NAMES_ALONE[2:]]
+BY_SEARCH = ["fn a::parse: no proof: expected answers in ./proofs/parse/Answers.antt; `search` did not prove `returns`",
+             "only=2 proved=1"]
+EDIT = "file: src/lib.rt\nold: one\nnew: two\n"
+TWINNED = EDIT + "same: 1\n"
+
+
+def repository(folder: str) -> None:
+    """Three crates, the second over the first, with edits; one has a twin."""
+    write(f"{folder}/crates.txt", b"a:\nb: a\nc:\n")
+    for crate, edit in (("a", EDIT), ("b", TWINNED), ("c", EDIT)):
+        write(f"{folder}/crates/{crate}/src/lib.rt", b"fn f() { one }\n")
+        write(f"{folder}/tests/must_fail/{crate}/e.edit", edit.encode())
+    commit(folder)
+
+
+def change(folder: str, path: str, text: str) -> str:
+    """Commits another text of a file. Returns the commit."""
+    write(f"{folder}/{path}", text.encode())
+    commit(folder)
+    return head(folder)
+
+
+def head(folder: str) -> str:
+    return refusals.git(folder, "rev-parse", "--short=8", "HEAD")
+
+
+def note(path: str, lines: List[str]) -> None:
+    write(path, "".join(f"{it}\n" for it in lines).encode())
+
+
+class MustFail(Case):
+    def setUp(self) -> None:
+        room = tempfile.TemporaryDirectory()
+        self.addCleanup(room.cleanup)
+        self.room, self.root = room.name, os.path.join(room.name, "tree")
+        state = mock.patch.dict(os.environ, {"XDG_STATE_HOME": os.path.join(self.room, "state")})
+        state.start()
+        self.addCleanup(state.stop)
+
+    def test_verdicts(self) -> None:
+        for what, status, lines, words in (
+                ("a promise that no longer holds", 1, BY_PROMISE, ""), ("a search that fails", 1, BY_SEARCH, ""),
+                ("a promise, and names beside it", 1, PARTLY, ""), ("names alone", 1, NAMES_ALONE, "by names alone"),
+                ("all is proved", 0, ["only=3 proved=3"], "still proved"),
+                ("no function is refused", 1, ["fn a::f: proved", "only=3 proved=2"], "no function is refused"),
+                ("a text that cannot be read", 1, ["error[E0308]: mismatched types"], "the check ended with status 1"),
+                ("a limit of the prover", 3, ["antt ran out of stack", "only=3 proved=2"], "status 3")):
+            fault = trials.fault_of_edit(status, lines)
+            self.check(f"an edit: {what}", bool(fault) == bool(words) and words in fault, shown=fault)
+        self.check("a twin that is proved", trials.fault_of_twin(0, ["only=3 proved=3"]), "")
+        fault = trials.fault_of_twin(1, NAMES_ALONE)
+        self.check("a twin that is not", "changes nothing, and is not proved" in fault and NAMES_ALONE[0] in fault)
+
+    def test_times(self) -> None:
+        for words, seconds, wanted in (("exit 3", 60, 3), ("echo it; exit 0", 60, 0), ("sleep 60", 0.3, None)):
+            made = trials.run(["sh", "-c", words], self.room, seconds)
+            self.check(f"{words}: its status", made.status, wanted)
+        self.check("what is printed is kept", trials.run(["echo", "it"], self.room, 60).lines, ["it"])
+        with mock.patch.object(trials, "CPU_SECONDS", 1):
+            made = trials.run(["sh", "-c", "while :; do :; done"], self.room, 60)
+        self.check("CPU time is bounded", made.status is None and 0.5 < made.seconds < 3, shown=made)
+
+    def test_twins(self) -> None:
+        repository(self.root)
+        self.check("names", edits.names_of(self.root), ["a/e", "b/e", "b/e same", "c/e"])
+        path = edits.path_of(self.root, "b/e same")
+        crate = f"{self.root}/crates/b"
+        self.check("an edit", edits.edited(path, crate), {"src/lib.rt": "fn f() { two }\n"})
+        self.check("its twin", edits.edited(path, crate, "same"), {"src/lib.rt": "fn f() { 1 }\n"})
+        for lines, words in ((TWINNED + "old: ()\nnew: (x)\nsame: ()\n", "has the old text"),
+                             ("file: src/lib.rt\nold: no\nnew: two\n", "stands 0 times")):
+            write(path, lines.encode())
+            self.check(f"what does not fit: {words}", words in edits.misfit(path, crate))
+
+    def test_the_stalest_come_first(self) -> None:
+        repository(self.root)
+        first = head(self.root)
+        table = {name: refusals.Noted(first, 10) for name in edits.names_of(self.root)}
+        self.check("nothing has changed", self.stalest(table, 240), [])
+        change(self.root, "crates/b/src/lib.rt", "fn f() { one } // b\n")
+        self.check("a crate has changed", self.stalest(table, 240), ["b/e", "b/e same"])
+        second = change(self.root, "crates/a/src/lib.rt", "fn f() { one } // a\n")
+        self.check("and one below it", self.ages(table), {"a/e": 1, "b/e": 2, "b/e same": 2, "c/e": 0})
+        table["b/e"] = refusals.Noted(second, 10)
+        self.check("one was tried since", self.ages(table), {"a/e": 1, "b/e": 0, "b/e same": 2, "c/e": 0})
+        del table["c/e"]
+        self.check("one never", self.stalest(table, 240, in_order=True), ["c/e", "b/e same", "a/e"])
+        self.check("within the budget", self.stalest(table, 30, in_order=True), ["c/e", "b/e same"])
+        table["b/e same"] = refusals.Noted(first, 500)
+        self.check("what does not fit into it blocks none", self.stalest(table, 30, in_order=True), ["c/e", "a/e"])
+        change(self.root, "tests/must_fail/a/e.edit", EDIT.replace("two", "three"))
+        self.check("an edit has changed", self.ages(table)["a/e"], 2)
+
+    def ages(self, table: Dict[str, refusals.Noted]) -> Dict[str, object]:
+        return {**refusals.ages(self.root, table)}
+
+    def stalest(self, table: Dict[str, refusals.Noted], budget: float, in_order: bool = False) -> List[str]:
+        found = [*refusals.stalest(self.root, table, edits.names_of(self.root), budget)]
+        return found if in_order else sorted(found)
+
+    def test_equally_stale_ones_take_turns(self) -> None:
+        repository(self.root)
+        seen = set()
+        for turn in range(20):
+            change(self.root, "page.md", str(turn))
+            seen.update(self.stalest({}, refusals.USUAL))
+        self.check("each is tried in some gate", sorted(seen), edits.names_of(self.root))
+
+    def test_what_gates_learn_comes_into_the_tree(self) -> None:
+        repository(self.root)
+        first = head(self.root)
+        note(f"{self.root}/{refusals.NOTED}", [f"a/e {first} 5", f"b/e {first} 5"])
+        second = change(self.root, "crates/a/src/lib.rt", "fn f() { one } // a\n")
+        before = refusals.git(self.root, "status", "--porcelain")
+        refusals.note("a/e", second, 7.2)
+        refusals.note("b/e", "0123456789", 7)
+        refusals.note("gone/e", second, 7)
+        self.check("noting changes nothing in the tree", refusals.git(self.root, "status", "--porcelain"), before)
+        told = [*gate_record.keep_in_tree(self.root, os.path.join(self.room, "state", "lambda_local"))]
+        self.check("it is told", told, [f"{refusals.NOTED}: 1 edits and twins are noted anew"])
+        self.check("the later commit is kept, of commits and edits that are there",
+                   refusals.text_of(refusals.read(f"{self.root}/{refusals.NOTED}")), f"a/e {second} 7\nb/e {first} 5\n")
+        for lines, words in (([f"a/e {first}"], "is not CRATE/NAME COMMIT SECONDS"), ([f"x/e {first} 5"], "names x/e")):
+            note(f"{self.root}/{refusals.NOTED}", lines)
+            self.check(f"a table that {words}", words in "".join(evidence.misnoted(self.root)))
+        with self.assertRaises(ValueError) as caught:
+            [*gate_record.keep_in_tree(self.root, self.room)]
+        self.check("a folder without records", str(caught.exception), f"no gate has left anything in {self.room}")
+
+    def test_another_programs_table_is_passed_over(self) -> None:
+        repository(self.root)
+        write(refusals.of_machine(), b"rubbish\n")
+        self.check("nothing is known", refusals.known(self.root), {})
+        refusals.note("a/e", head(self.root), 1)
+        self.check("and it is written anew", [*refusals.known(self.root)], ["a/e"])
+
+    def test_costs_of_crates(self) -> None:
+        busy = f"exec {sys.executable} -c 'while True: pass' --crate-name b"
+        ran = subprocess.Popen(["sh", "-c", "timeout 1.5 sh -c \"$0\" & wait", busy])
+        followed = gate_record.CrateSeconds(ran.pid)
+        followed.start()
+        ran.wait()
+        seconds = followed.end()
+        self.check("the CPU seconds of what a command starts", [*seconds] == ["b"] and 0.2 < seconds["b"] < 2,
+                   shown=seconds)
+        record = "commit 1\ncrate_seconds a 5, b 620, c 30\ngate 1 passed, 0 failed\n"
+        page = f"# Costs\n{gate_record.MARK}`a` 1\n\nmore\n"
+        self.check("the page has the most expensive first", gate_record.with_costs(page, record),
+                   f"# Costs\n{gate_record.MARK}`b` 620, `c` 30, `a` 5\n\nmore\n")
+        self.check("and stays without them", gate_record.with_costs(page, "commit 1\n"), page)
+
+
+if __name__ == "__main__":
+    unittest.main()
