@@ -35,6 +35,8 @@ LIES: Dict[str, Tuple[str, str, str, str]] = {
                       'raise Unknown(f"there is not a condition {condition}")', "return True"),
     "from_template_parts": ("schedules", OF_TOOLS + "from_template/schedules.py",
                             '("Schedule", "ScheduleV2")', '("ScheduleV2",)'),
+    "front_answers": ("ends", OF_TOOLS + "front/sending.py",
+                      'return method != "HEAD" and status != 304', "return status != 304"),
     "front_connections": ("written_anew", OF_TOOLS + "front/relay.py",
                           "for name in (TYPE, TRACE) for value", "for name in (TYPE,) for value"),
     "fuzz": ("reports FUZZ_HOURS=0.02", OF_TOOLS + "outgoing.py", "return UNSAFE.sub(_escaped, text)", "return text"),

@@ -35,4 +35,6 @@ class Patience:
                 silent > HEAD_SECONDS or passed > HEAD_SECONDS and taken < SLOWEST * passed)
         if self.phase is Phase.LINGERING:
             return silent > LINGER_SECONDS or passed > WHOLE_LINGER_SECONDS
-        return self.phase in (Phase.IDLE, Phase.ANSWERED) and silent > IDLE_SECONDS
+        if self.phase is Phase.ANSWERED:  # (what is answered may take its time too: a trace that is followed, a stream)
+            return self.wire.draining is not None and silent > IDLE_SECONDS
+        return self.phase is Phase.IDLE and silent > IDLE_SECONDS

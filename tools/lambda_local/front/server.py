@@ -5,14 +5,14 @@ import socket
 import time
 from typing import Optional, Protocol, Set
 
-from ..http1 import (CLOSED, NEED_DATA, CutShort, Event, Malformed, Request as Head, RequestReader, chunk, last_chunk,
-                     response_head)
+from ..http1 import CLOSED, NEED_DATA, CutShort, Event, Malformed, Request as Head, RequestReader
 from ..outgoing import Log
 from .client import NoDescriptor
-from .http import PHRASES, Body, Pieces, Reply, Request, first, words_of
+from .http import Body, Reply, Request, words_of
 from .newcomers import Newcomers
 from .patience import LINGER_BYTES, Patience, Phase
 from .places import Places
+from .sending import send
 from .tasks import begin_task
 from .wire import Gone, Wire
 
@@ -37,7 +37,7 @@ class Connection:
     """One caller."""
 
     def __init__(self, server: "Server") -> None:
-        self.server, self.is_in_reserve, self.has_answered = server, False, False
+        self.server, self.is_in_reserve = server, False
         self.wire = Wire(RequestReader(), self.lost)
         self.patience = Patience(self.wire)
         self.task: "Optional[asyncio.Task[None]]" = None
@@ -67,7 +67,6 @@ class Connection:
     async def serve_one(self) -> bool:
         """Whether the connection is kept."""
         wire, request = self.wire, None
-        self.has_answered = False
         try:
             head = await self.next_head()
             if not isinstance(head, Head):
@@ -84,7 +83,7 @@ class Connection:
         try:
             is_read = request is not None and request.body.is_read
             self.patience.begin(Phase.ANSWERED)
-            keeps = await self.send(request, reply, keeps and is_read)
+            keeps = await send(wire, request, reply, keeps and is_read)
         finally:
             if reply.pieces is not None:
                 await reply.pieces.aclose()
@@ -135,45 +134,6 @@ class Connection:
             while wire.received < most and not wire.reader.ended:
                 wire.reader.buffer.clear()
                 await wire.more()
-
-    # ---- answers -----------------------------------------------------------------------------------------------------
-
-    async def send(self, request: Optional[Request], reply: Reply, keeps: bool) -> bool:
-        """Sends a reply; whether the connection can be kept."""
-        method, version = (request.method, request.version) if request else ("GET", "HTTP/1.1")
-        is_new, has_body = version == "HTTP/1.1", method != "HEAD" and reply.status not in (204, 304)
-        headers, in_chunks = list(reply.headers), False
-        has_length = first(headers, "content-length") is not None
-        if reply.pieces is None:
-            if reply.status not in (204, 304) and not has_length:
-                headers.append(("content-length", str(len(reply.body))))
-        elif has_body and not has_length:
-            in_chunks, keeps = is_new, keeps and is_new
-            if in_chunks:
-                headers.append(("transfer-encoding", "chunked"))
-        if first(headers, "connection") is None and not (keeps and is_new):
-            headers.append(("connection", "keep-alive" if keeps else "close"))
-        reason = PHRASES.get(reply.status, "") if reply.reason is None else reply.reason
-        head = response_head(version, reply.status, reason, headers)
-        self.has_answered = True
-        if reply.pieces is None:
-            await self.wire.write(head + reply.body if has_body else head)
-        else:
-            await self.send_pieces(head, reply.pieces, in_chunks)
-        return keeps
-
-    async def send_pieces(self, head: bytes, pieces: Pieces, in_chunks: bool) -> None:
-        """The first piece goes with the head. A body that breaks off breaks the connection off, so that its reader
-        knows."""
-        wire = self.wire
-        try:
-            async for piece in pieces:
-                await wire.write(head + (chunk(piece) if in_chunks else piece))
-                head, wire.touched = b"", time.monotonic()
-            await wire.write(head + (last_chunk() if in_chunks else b""))
-        except Gone:
-            wire.abort()
-            raise
 
 
 class Server:

@@ -1,0 +1,205 @@
+"""Checks where the answers of a front end, by Python's own reader of HTTP: a client that keeps its connection gets the
+right next answer, whatever a function answers, to whichever method (RFC 9112, section 6.3; RFC 9110, sections 8.6, 9.3
+and 15). The program is LAMBDA_LOCAL_PROGRAM, else ./lambda_local."""
+import asyncio
+import http.client
+import io
+import itertools
+import json
+from typing import Any, AsyncIterator, List
+
+from lambda_local.front import sending
+from lambda_local.front.http import Reply, Request
+from lambda_local.front.wire import Gone
+from lambda_local.http1 import RequestReader
+from tests.library.cases import Case
+from tests.library.up_kit import Up
+from tests.tools.streaming import STREAMING, quoted
+
+METHODS = ("GET", "HEAD", "POST", "PUT", "PATCH", "DELETE", "OPTIONS", "TRACE", "CONNECT")
+STATUSES = (200, 201, 204, 205, 206, 301, 304, 400, 404, 500, 599)
+FORGED = "HTTP/1.1 200 OK\r\nContent-Length: 6\r\n\r\nFORGED"
+NEXT = b"HTTP/1.1 200 OK\r\nContent-Length: 4\r\n\r\nnext"
+PRELUDE = "application/vnd.awslambda.http-integration-response"
+
+
+class Written:
+    """A wire that keeps what is written."""
+    touched, is_aborted = 0.0, False
+
+    def __init__(self) -> None:
+        self.data, self.writes = b"", 0
+
+    async def write(self, data: bytes) -> None:
+        self.data += data
+        self.writes += 1
+
+    def abort(self) -> None:
+        self.is_aborted = True
+
+
+class Pieces:
+    def __init__(self, pieces: List[bytes], seconds: float = 0) -> None:
+        self.pieces, self.seconds = pieces, seconds
+
+    async def __aiter__(self) -> AsyncIterator[bytes]:
+        for piece in self.pieces:
+            if self.seconds:
+                await asyncio.sleep(self.seconds)
+            yield piece
+
+    async def aclose(self) -> None:
+        pass
+
+
+def request_of(method: str, version: str) -> Request:
+    reader = RequestReader()
+    target = "a:80" if method == "CONNECT" else "/"
+    reader.receive(f"{method} {target} {version}\r\nHost: a\r\n\r\n".encode())
+    head: Any = reader.next_event()
+    body: Any = None
+    return Request(head, body)
+
+
+def written(method: str, version: str, reply: Reply, keeps: bool = True) -> Any:
+    """What goes out for a reply, and whether its connection is kept."""
+    wire: Any = Written()
+
+    async def send() -> Any:
+        try:
+            return await sending.send(wire, request_of(method, version), reply, keeps)
+        except Gone:
+            return "breaks off"
+    return wire, asyncio.run(send())
+
+
+class Bytes:
+    """A socket that has these bytes."""
+
+    def __init__(self, file: io.BytesIO) -> None:
+        self.file = file
+
+    def makefile(self, *_: object) -> io.BytesIO:
+        return Unclosed(self.file.read())
+
+
+class Unclosed(io.BytesIO):
+    def close(self) -> None:
+        """What comes after the answer is read too."""
+
+
+def read(data: bytes, method: str) -> Any:
+    """What Python's reader makes of the bytes: status, body, and what is left after it."""
+    file = Bytes(io.BytesIO(data))
+    answer = http.client.HTTPResponse(file, method=method)  # type: ignore[arg-type]
+    rest: Any = answer.fp
+    answer.begin()
+    body = answer.read()
+    return answer.status, body, rest.read()
+
+
+class FrontAnswers(Case):
+    def test_ends(self) -> None:
+        """Each answer has its body, and what follows it on the connection is the next."""
+        wrong, count = [], 0
+        contents = ([b"some", b"", b"thing"], [FORGED.encode()], [])
+        versions = ("HTTP/1.1", "HTTP/1.0")
+        for method, status, version, content in itertools.product(METHODS, STATUSES, versions, contents):
+            whole = b"".join(content)
+            for name, reply in (
+                    ("whole", Reply(status, [], whole)),
+                    ("whole, with a length", Reply(status, [("Content-Length", "3")], whole)),
+                    ("in pieces", Reply(status, [], pieces=Pieces(content))),
+                    ("in pieces, with a length", Reply(status, [("content-length", str(len(whole)))],
+                                                       pieces=Pieces(content)))):
+                wire, keeps = written(method, version, reply)
+                has_content = not (method == "HEAD" or status in (204, 304) or method == "CONNECT" and status < 300)
+                wanted = (status, whole if has_content else b"", NEXT if keeps else b"")
+                seen = read(wire.data + (NEXT if keeps else b""), method)
+                count += 1
+                if seen != wanted:
+                    wrong.append((name, method, status, version, seen))
+        self.check(f"of {count} answers those that a client reads otherwise", wrong, [])
+
+    def test_lengths(self) -> None:
+        """What a head says is what follows."""
+        def heads(method: str, reply: Reply) -> List[str]:
+            wire, _ = written(method, "HTTP/1.1", reply)
+            return sorted(line.lower() for line in wire.data.decode().split("\r\n\r\n")[0].split("\r\n")[1:])
+        self.check("204 has no length", heads("GET", Reply(204, [("Content-Length", "4")], b"some")), [])
+        self.check("HEAD has that of the body", heads("HEAD", Reply(200, [], b"some")), ["content-length: 4"])
+        self.check("or what the service says", heads("HEAD", Reply(405, [("content-length", "49")])),
+                   ["content-length: 49"])
+        self.check("HEAD of pieces says nothing of them", heads("HEAD", Reply(200, [], pieces=Pieces([b"a"]))), [])
+        self.check("a tunnel is none", heads("CONNECT", Reply(200, [], b"some")), ["connection: close"])
+        for name, length in (("more than its head says", 3), ("less", 5)):
+            wire, keeps = written("GET", "HTTP/1.1", Reply(200, [("content-length", str(length))],
+                                                           pieces=Pieces([b"so", b"me"])))
+            self.check(f"a body that has {name} breaks off", (keeps, wire.is_aborted), ("breaks off", True))
+            self.check("with no more than that", len(wire.data.partition(b"\r\n\r\n")[2]) <= length)
+
+    def test_at_once(self) -> None:
+        """The head waits for no piece, and one that is there goes with it."""
+        wire, _ = written("GET", "HTTP/1.1", Reply(200, [("content-length", "2")], pieces=Pieces([b"ab"])))
+        self.check("a piece that is there", wire.writes, 2)  # (the second has the end of chunks, or nothing)
+        wire, _ = written("GET", "HTTP/1.1", Reply(200, [("content-length", "2")], pieces=Pieces([b"ab"], 0.05)))
+        self.check("a piece that comes later", wire.writes, 3)
+
+    def test_kept(self) -> None:
+        """On a kept connection to each kind of port, preludes and methods by turns with an invocation whose answer is
+        known."""
+        functions = [{"name": name, "command": ["./streaming"], "timeout": 5, "url": {"invoke": mode}}
+                     for name, mode in (("s", "RESPONSE_STREAM"), ("b", "BUFFERED"))]
+        up = Up(functions=functions, files={"streaming": STREAMING}, whole={"routes": {"$default": "b"}})
+        self.check("it is ready", up.until("[up] ready"), True)
+        ports = {"a streaming URL": (up.told(r"s: its URL is http://([0-9.:]+)/"), True),
+                 "a URL": (up.told(r"b: its URL is http://([0-9.:]+)/"), False),
+                 "a route": (up.told(r"routes: http://([0-9.:]+)"), False)}
+        preludes = [{"statusCode": status, "headers": headers} for status in (200, 204, 304, 404)
+                    for headers in ({}, {"content-length": "3", "transfer-encoding": "chunked", "connection": "x"})]
+        for name, (address, streams) in ports.items():
+            kept = Kept(address)
+            wrong = []
+            for prelude, method in itertools.product(preludes, ("GET", "HEAD", "POST", "OPTIONS", "DELETE")):
+                event = ({"parts": [json.dumps(prelude), "=" + "00" * 8, FORGED], "type": PRELUDE, "pause": 0.005}
+                         if streams else {"buffered": {**prelude, "body": FORGED}})
+                status = prelude["statusCode"]
+                body = b"" if method == "HEAD" or status in (204, 304) else FORGED.encode()
+                known = {"parts": ["next"]} if streams else {"buffered": "next"}
+                seen = kept.ask(method, event), kept.ask("GET", known)
+                if seen != ((status, body), (200, b"next" if streams else b'"next"')):
+                    wrong.append((prelude, method, seen))
+            self.check(f"{name}: of {len(preludes) * 5} preludes and methods those with a wrong answer", wrong, [])
+        kept = Kept(up.endpoint.partition("//")[2], "/2021-11-15/functions/s/response-streaming-invocations")
+        wrong = []
+        for method, part in itertools.product(("POST", "HEAD", "GET", "PUT", "DELETE"), (FORGED, "", "x" * 70000)):
+            first = kept.ask(method, {"parts": [part] if part else []}, in_body=True)
+            second = kept.ask("POST", {"parts": ["next"]}, in_body=True)
+            if first[0] != (200 if method == "POST" else 501) or second[0] != 200 or b"next" not in second[1]:
+                wrong.append((method, part[:10], first, second))
+        self.check("InvokeWithResponseStream: those with a wrong answer", wrong, [])
+        self.check("it ends", up.end(), (0, []))
+
+
+class Kept:
+    """A client that keeps its connection. It notices if that is closed, which it is only if the answer says so."""
+
+    def __init__(self, address: str, path: str = "/") -> None:
+        self.connection, self.path = http.client.HTTPConnection(address, timeout=20), path
+        self.connection.connect()
+
+    def ask(self, method: str, event: Any, in_body: bool = False) -> Any:
+        assert self.connection.sock is not None
+        path = self.path if in_body else f"{self.path}?event={quoted(event)}"
+        try:
+            self.connection.request(method, path, json.dumps(event) if in_body else None)
+            answer = self.connection.getresponse()
+            body = answer.read()
+        except (http.client.HTTPException, OSError) as fault:
+            self.connection.close()
+            self.connection.connect()
+            return type(fault).__name__, b""
+        if answer.headers["Connection"] == "close":
+            self.connection.close()
+            self.connection.connect()
+        return answer.status, body
