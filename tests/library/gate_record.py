@@ -25,20 +25,16 @@ class CrateSeconds(threading.Thread):
     def __init__(self, command: int) -> None:
         super().__init__(daemon=True)
         self.command, self.is_over = command, threading.Event()
-        self.seconds: Dict[Tuple[str, str], float] = {}  # by a process, by its start, and by the crate
+        self.seconds: Dict[Tuple[str, str], float] = {}  # by a process with its start, and by the crate
 
     def run(self) -> None:
         while not self.is_over.wait(0.3):
-            for process in children(self.command):
-                try:
-                    with open(f"/proc/{process}/cmdline", "rb") as file:
-                        crate = NAMED.search(file.read())
-                except OSError:
-                    continue
+            started = {str(it): crate_of(it) for it in children(self.command)}
+            for process, crate in started.items():
                 fields = fields_of(process)
-                if crate and fields:
-                    used = (int(fields[11]) + int(fields[12])) / TICKS
-                    self.seconds[f"{process} {fields[19]}", crate[1].decode()] = used
+                # (a checker forks parts of itself, whose time it has once they have ended)
+                if crate and fields and not started.get(fields[1]):
+                    self.seconds[f"{process} {fields[19]}", crate] = sum(map(int, fields[11:15])) / TICKS
 
     def end(self) -> Dict[str, float]:
         """The seconds of each crate that was proved."""
@@ -48,6 +44,16 @@ class CrateSeconds(threading.Thread):
         for (_, crate), used in self.seconds.items():
             found[crate] = found.get(crate, 0) + used
         return found
+
+
+def crate_of(process: int) -> str:
+    """The crate that a process checks; nothing if it checks none, or has ended."""
+    try:
+        with open(f"/proc/{process}/cmdline", "rb") as file:
+            named = NAMED.search(file.read())
+    except OSError:
+        return ""
+    return named[1].decode() if named else ""
 
 
 def told(root: str, words: List[str]) -> str:

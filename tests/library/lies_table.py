@@ -54,6 +54,7 @@ LIES: Dict[str, Tuple[str, str, str, str]] = {
     "moto_queue": ("", OF_TOOLS + "up/queues.py", 'value["batchItemFailures"]', "[]"),
     "package": ("wheel", "pyproject.toml", "lambda_local.cli:main", "lambda_local.cli:begin"),
     "must_fail": ("verdicts", "tests/library/trials.py", "if told and all(map(NAMES.match, told)):", "if False:"),
+    "page_checks": ("dead_lemmas", "tests/library/source_facts.py", "if name not in used)", "if name in used)"),
     "plugin": ("reports", OF_TOOLS + "in_process.py",
                "type(fault).__name__, \"requestId\"", "\"Error\", \"requestId\""),
     "plugin_events": ("wrong", OF_TOOLS + "front/settings.py", "from 0 to 2", "from 0 to 3"),

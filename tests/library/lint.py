@@ -7,12 +7,12 @@ import shutil
 import subprocess
 import tempfile
 import zlib
-from typing import Dict, List, Tuple
+from typing import Dict, List, Set, Tuple
 
 from tests.library.checkout import files_of
 
 MOST = 120
-Linter = Tuple[str, Tuple[str, ...], List[str], str]  # as LINTERS says
+Linter = Tuple[str, Tuple[str, ...], List[str], str, str]  # as LINTERS says
 # They cannot be read, or fail, as the conformance kit needs it.
 LEFT_OUT = re.compile(r"examples/conformance/(broken|failing)\.")
 SUFFIXES = {".py": "python", ".sh": "sh", **dict.fromkeys((".c", ".go", ".js", ".mjs", ".css"), "other")}
@@ -21,11 +21,15 @@ SHEBANGS = ((re.compile(r"#!.*python"), "python"), (re.compile(r"#!.*\b(ba|da)?s
 # taste (where a continued line begins, spaces in slices, empty lines in functions and at the end, names for a lambda).
 RULES = ["--ignore", "E12,E133,E203,E226,E24,E306,E402,E501,E704,E731,W391,W503,W504"]
 LINTERS: Tuple[Linter, ...] = (
-    # what it checks, its commands by name, Debian's package
-    ("python", ("pyflakes3", "pyflakes"), [], "pyflakes3"),
-    ("python", ("pycodestyle",), RULES, "pycodestyle"),
-    ("sh", ("shellcheck",), ["-f", "gcc", "-S", "warning"], "shellcheck"),
+    # what it checks, its commands by name, Debian's package, its version in Debian 12: an older one does not judge
+    ("python", ("pyflakes3", "pyflakes"), [], "pyflakes3", "2.5"),
+    ("python", ("pycodestyle",), RULES, "pycodestyle", "2.10"),
+    ("sh", ("shellcheck",), ["-f", "gcc", "-S", "warning"], "shellcheck", "0.9"),
 )
+MYPY = "1.0"
+# What mypy says of a library without types, which it then knows nothing of.
+WITHOUT_STUBS = re.compile(r'module named "(pytest)"|Library stubs not installed for "([\w.]+)"')
+without_stubs: Set[str] = set()  # the libraries of which mypy had none in this run
 
 
 def kind_of(path, name):
@@ -73,9 +77,21 @@ def command_of(linter):
     return next(filter(None, map(shutil.which, linter[1])), None)
 
 
+def version_of(command: str) -> Tuple[int, ...]:
+    """The version that a linter prints; nothing if it prints none."""
+    ran = subprocess.run([command, "--version"], stdout=subprocess.PIPE, stderr=subprocess.STDOUT, text=True)
+    found = re.search(r"\d+(?:\.\d+)+", ran.stdout)
+    return tuple(map(int, found[0].split("."))) if found else ()
+
+
+def is_older(command: str, least: str) -> bool:
+    """Whether a linter is older than one that judges: what it finds is told, and fails nothing."""
+    return version_of(command) < tuple(map(int, least.split(".")))
+
+
 def found_by(linter, root, kinds):
     """What a linter that is here finds."""
-    kind, _, words, _ = linter
+    kind, _, words, *_ = linter
     ran = subprocess.run([command_of(linter), *words, *kinds.get(kind, ())], cwd=root, stdout=subprocess.PIPE,
                          stderr=subprocess.STDOUT, text=True)
     return [it for it in ran.stdout.splitlines() if not is_left_alone(root, it)]
@@ -111,8 +127,8 @@ def checks_of_types(root):
 
 
 def types_found(root, what, folder, options, names, **variables):
-    """What mypy finds in these files, if it is here. If the Python that runs it has no pytest, it cannot judge the
-    modules that import that."""
+    """What mypy finds in these files, if it is here. If it has no types of a library, it cannot judge the modules that
+    import that."""
     mypy = shutil.which("mypy")
     if not mypy or not names:
         return
@@ -123,7 +139,9 @@ def types_found(root, what, folder, options, names, **variables):
                          cwd=folder, stdout=subprocess.PIPE, stderr=subprocess.STDOUT, text=True,
                          env={**os.environ, **variables})
     found = ran.stdout.splitlines() if ran.returncode else []
-    unjudged = {it.split(":")[0] for it in found if 'module named "pytest"' in it}
+    missing = [(it.split(":")[0], WITHOUT_STUBS.search(it)) for it in found]
+    unjudged = {path for path, library in missing if library}
+    without_stubs.update(library[1] or library[2] for _, library in missing if library)
     if unjudged and ran.returncode == 1:  # (2: it could not look at all)
         found = [it for it in found if ": error: " in it and it.split(":")[0] not in unjudged]
     yield what, found

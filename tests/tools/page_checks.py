@@ -1,0 +1,139 @@
+"""Checks what tests/pages asks of the sources and of linters: in small trees, and with commands in place of linters."""
+import contextlib
+import gzip
+import hashlib
+import os
+import tempfile
+import unittest
+from typing import Iterator
+from unittest import mock
+
+from tests.library import evidence, lint, source_facts
+from tests.library.cases import Case
+from tests.library.trees import write
+
+SOURCE = """impl<B: Bell> Rings<B> {
+    /// Rings.
+    pub fn ring(self) {
+    }
+
+    fn first(&self) -> u32
+        requires { 0 < self.now }
+        ensures { result ≡ 1 }
+    {
+        1
+    }
+}
+
+impl Bell for Loud {
+    fn ring(self) {}
+}
+
+pub fn open<A: Copy>(
+    alloc: A,
+) -> Result<u32, AllocError>
+where
+    A: Copy,
+{
+    Ok(1)
+}
+
+fn hidden() {}
+"""
+LIST = "# Proofs\n`hidden`\n## What is not claimed\n- **Bells**: `Rings::ring`\n- **Others**: {}\n## More\n`hidden`\n"
+PROOF = """pub used : (n : ℕ) → n ≡ n
+used n = refl
+
+pub unused : (n : ℕ) → n ≡ n
+unused n = refl
+  where
+    inner : ℕ
+    inner = 1
+
+pub caller : ℕ
+caller = used inner
+"""
+
+
+class PageChecks(Case):
+    def setUp(self) -> None:
+        room = tempfile.TemporaryDirectory()
+        self.addCleanup(room.cleanup)
+        self.root = room.name
+        self.put("crates.txt", "a:\nhttp_routes:\nhttp_front:\n")
+        self.put("crates/a/src/rings.rt", SOURCE)
+
+    def put(self, path: str, text: str) -> None:
+        write(os.path.join(self.root, path), text.encode())
+
+    def test_functions(self) -> None:
+        self.check("each with its type, whether it promises, and whose contract it has",
+                   [(it.path, it.is_public, it.ensures, it.is_of_trait) for it in source_facts.functions(self.root)],
+                   [("Rings::ring", True, False, False), ("Rings::first", False, True, False),
+                    ("ring", False, False, True), ("open", True, False, False), ("hidden", False, False, False)])
+
+    def test_functions_that_promise_nothing(self) -> None:
+        def faults(words: str) -> str:
+            return "\n".join(source_facts.unlisted(self.root, LIST.format(words)))
+        found = faults("nothing")
+        self.check("those that are nowhere", [name for name in ("ring", "first", "open", "hidden")
+                                              if f"::{name} promises nothing" in found], ["open", "hidden"])
+        self.put(source_facts.NO_CLAUSE, "# a comment\na::hidden: it prints\n")
+        self.check("one in the list, one with a reason", faults("`open`"), "")
+        self.check("one in both", "a::hidden is in the list, and in" in faults("`open`, `hidden`"))
+        self.put(source_facts.NO_CLAUSE, "a::hidden: it prints\na::Rings::first: it prints\na::open: \n")
+        found = faults("nothing")
+        self.check("one that has a clause", "a::Rings::first is not there, or has a clause" in found, shown=found)
+        self.check("one without a reason", "a::open has no reason" in found, shown=found)
+
+    def test_paths_of_routes(self) -> None:
+        self.put(source_facts.ROUTES, 'add(router, "/_local/stop");\n')
+        self.put("crates/a/src/lib.rt", '//! `"/_local/stop"`\n    ensures stop { codes "/_local/stop" }\n')
+        with mock.patch.object(source_facts, "KNOWN_ROUTES", ()):
+            self.check("comments and clauses may have one", [*source_facts.routes(self.root)], [])
+            self.put("crates/http_front/src/front.rt", 'const STOP: &str = "/_local/stop";\n')
+            self.check("code may not", "front.rt has a route's" in "".join(source_facts.routes(self.root)))
+        with mock.patch.object(source_facts, "KNOWN_ROUTES", ("crates/a/src/rings.rt",)):
+            self.check("an exception that is none any more",
+                       "rings.rt has no route's path any more" in "".join(source_facts.routes(self.root)))
+
+    def test_dead_lemmas(self) -> None:
+        self.put("crates/a/proofs/It.antt", PROOF)
+        self.put("crates/a/proofs/f/Answers.antt", "pub returns : goal.returns\nreturns c = caller\n")
+        self.check("what only its own lines name", [*source_facts.dead_lemmas(self.root)],
+                   ["crates/a/proofs/It.antt: nothing uses the lemma unused"])
+
+    def test_a_gate_of_another_program(self) -> None:
+        packed, sum_is = gzip.compress(b"it"), hashlib.sha256(b"it").hexdigest()
+        write(os.path.join(self.root, "release", "lambda_local.gz"), packed)
+        self.put("release/PROVED", f"sources 1\nkit k\nprogram {sum_is}\ngate 9 passed, 0 failed\n")
+        for sources, built, words in (("1", sum_is, ""), ("2", "0" * 64, ""), ("1", "0" * 64, "of another program")):
+            self.put(".ci/LAST_FROM_SCRATCH", f"commit 1\nsources {sources}\nprogram {built}\n")
+            found = "".join(evidence.broken_release(self.root))
+            self.check(f"a gate of sources {sources}: {words or 'all is well'}",
+                       bool(found) == bool(words) and words in found, shown=found)
+
+    @contextlib.contextmanager
+    def linter(self, name: str, script: str) -> Iterator[None]:
+        """Puts a command in place of a linter."""
+        write(os.path.join(self.root, "bin", name), f"#!/bin/sh\n{script}\n".encode(), 0o755)
+        with mock.patch.dict(os.environ, {"PATH": f"{self.root}/bin:/usr/bin:/bin"}):
+            yield
+
+    def test_linters_that_do_not_judge(self) -> None:
+        for version, wanted in (("pyflakes3 2.4.0 Python 3.9", True), ("2.5.0 Python 3.11.2", False), ("3.2", False),
+                                ("what?", True)):
+            with self.linter("pyflakes3", f"echo '{version}'"):
+                self.check(f"{version}: it is older", lint.is_older("pyflakes3", "2.5"), wanted)
+        says = ('a.py:1: error: Library stubs not installed for "yaml"  [import-untyped]', "a.py:2: error: Missing",
+                'b.py:3: error: Cannot find implementation or library stub for module named "pytest"', "b.py: note: it",
+                "c.py:4: error: Incompatible types")
+        printed = "\n".join(f"echo '{it}'" for it in says)
+        with self.linter("mypy", f"{printed}\nexit 1"), mock.patch.object(lint, "without_stubs", set()):
+            found = [*lint.types_found(self.root, "mypy", self.root, [], ["a.py"])]
+            self.check("what imports a library without types is not judged", found, [("mypy", [says[4]])])
+            self.check("and is told", sorted(lint.without_stubs), ["pytest", "yaml"])
+
+
+if __name__ == "__main__":
+    unittest.main()
