@@ -72,6 +72,8 @@ LIES: Dict[str, Tuple[str, str, str, str]] = {
                 "return Invoked(None, \"failed\")", "return Invoked([], \"\")"),
     "stopping": ("stops", OF_TOOLS + "service.py", "/_local/stop", "/_local/stops"),
     "streaming": ("framing", OF_TOOLS + "streaming/frames.py", '"PayloadChunk", ', '"PayloadPart", '),
+    "streaming_pairs": ("orders", OF_TOOLS + "streaming/streams.py",
+                        "if expected and expected.identifier is None:", "if expected:"),
     "telemetry": ("subscriptions", OF_TOOLS + "telemetry/subscription.py",
                   'raise Refused("the body is not a JSON object")', "return None"),
     "telemetry_live": ("as_in_history", OF_TOOLS + "telemetry/story.py", '"platform.runtimeDone"', '"platform.done"'),

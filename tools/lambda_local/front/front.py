@@ -130,6 +130,11 @@ class Front(threading.Thread):
             self.last_told[what] = now
             self.log("up", f"the front: {what}", level="error")
 
+    def call(self, what: Callable[..., object], *given: object) -> None:
+        """Has its thread call this soon, unless it has ended."""
+        with contextlib.suppress(RuntimeError):
+            self.loop.call_soon_threadsafe(what, *given)
+
     def drain(self, is_over: Callable[[], bool]) -> None:
         """Waits until no event is left, its time is over, or the service has ended."""
         end = time.monotonic() + self.drain_seconds

@@ -66,9 +66,15 @@ class Invocation:
         if answer.cancelled() or answer.exception() is not None:
             self.stream.end(Fault("Service.Gone", "the service has broken its connection off"))
             return
-        status, headers, result = answer.result()
-        failed = status != 200 or first(headers, "x-amz-function-error") is not None
-        self.stream.end(fault_of(result) if failed else None)
+        self.stream.end(self._fault(self.stream, *answer.result()))
+
+    def _fault(self, stream: Stream, status: int, headers: Headers, result: bytes) -> Optional[Fault]:
+        """Why what has come is not the answer of the service to this invocation; none if it is."""
+        if status != 200 or first(headers, "x-amz-function-error") is not None:
+            return fault_of(result)
+        if first(headers, "x-amzn-requestid") == self.expected.identifier and stream.is_all_of(result):
+            return None
+        return Fault("Runtime.TruncatedResponse", "the service was given another response than what was streamed")
 
     async def aclose(self) -> None:
         self.streams.forget(self.expected)

@@ -1,11 +1,12 @@
 """Callers that wait for a response as it comes, and what has come. All of it is in one loop: the front, which has the
 callers, and the proxies, which see the responses.
 
-Which invocation is a caller's, its trace says: as on Lambda, the function sees the caller's X-Amzn-Trace-Id with a
-Lineage added, or a new one."""
+Which invocation is a caller's, and which environment serves it, the service's own history says (`pairing`). What is
+posted for another one, or at another environment's port, is the service's alone, and so is what is posted once more."""
 import asyncio
 import base64
 import binascii
+import hashlib
 import re
 import secrets
 import time
@@ -18,7 +19,8 @@ MODE, STREAMING = "lambda-runtime-function-response-mode", "streaming"
 ERROR_TYPE, ERROR_BODY = "lambda-runtime-function-error-type", "lambda-runtime-function-error-body"
 MOST_UNREAD = 256 << 10  # bytes; with more, the runtime is not read from until its caller has taken them
 LONGEST_TRACE = 256  # bytes, of the service
-LINEAGE = re.compile(r"(?:.*;)?Lineage=1:([0-9a-f]{16}):0")
+LINEAGE = re.compile(r"(?:(.*);)?Lineage=1:([0-9a-f]{16}):0")
+HELD_SECONDS = 5.0  # for which a response waits until the history says whose it is; then its caller gets it whole
 
 
 class Fault(NamedTuple):
@@ -37,12 +39,13 @@ class Stream:
         self.is_over = self.is_left = False  # no more comes; its caller has gone
         self.fault: Optional[Fault] = None
         self.on_room: Callable[[], None] = lambda: None
-        self.changed = asyncio.Event()
+        self.changed, self.sum = asyncio.Event(), hashlib.blake2b()
 
     # ---- from the runtime --------------------------------------------------------------------------------------------
 
     def feed(self, data: bytes) -> None:
         if not self.is_left:
+            self.sum.update(data)
             self.waiting.append(data)
             self.size += len(data)
             self.changed.set()
@@ -58,6 +61,10 @@ class Stream:
             self.fault = Fault(kind, text_of(first(trailers, ERROR_BODY) or ""))
 
     # ---- from who has asked for it -----------------------------------------------------------------------------------
+
+    def is_all_of(self, output: bytes) -> bool:
+        """Whether this, and nothing else, has come."""
+        return self.sum.digest() == hashlib.blake2b(output).digest()
 
     def end(self, fault: Optional[Fault] = None) -> None:
         """The service has answered."""
@@ -96,25 +103,54 @@ def text_of(body: str) -> str:
 
 
 class Expected:
-    """A caller that waits for the response to an invocation which has not been delivered yet."""
+    """A caller that waits for the response to an invocation. Its token is in the trace that the service gets, and
+    nowhere else before that: the first Invoke with it is this caller's."""
 
     def __init__(self) -> None:
         self.token = secrets.token_hex(8)
-        self.identifier: Optional[str] = None
+        self.identifier: Optional[str] = None  # once the history has it
+        self.environment: Optional[int] = None  # where the service has placed it
         self.begun: "asyncio.Future[Stream]" = asyncio.get_running_loop().create_future()
 
     def trace(self, given: Optional[str]) -> str:
-        """The trace of its invocation."""
-        lineage = f"Lineage=1:{self.token}:0"
+        """The trace of its invocation: the given one with a Lineage, in the place of another caller's; or a new one."""
+        lineage, others = f"Lineage=1:{self.token}:0", LINEAGE.fullmatch(given or "")
+        given = others[1] if others else given
         if given and len(given) + 1 + len(lineage) <= LONGEST_TRACE:
             return f"{given};{lineage}"
         return f"Root=1-{int(time.time()):08x}-{secrets.token_hex(12)};Sampled=0;{lineage}"
 
 
+def token_in(trace: Optional[str]) -> Optional[str]:
+    """The token of a trace that has one."""
+    lineage = LINEAGE.fullmatch(trace or "")
+    return lineage[2] if lineage else None
+
+
+class Serving(NamedTuple):
+    """What an environment serves, as the history has it."""
+    identifier: str
+    expected: Optional[Expected]  # the caller who waits for its response as it comes
+    is_over: bool = False  # it was answered
+
+
+class Held(NamedTuple):
+    """A response that has begun before the history says whose it is."""
+    identifier: str
+    stream: Stream
+    giving_up: asyncio.TimerHandle
+
+
 class Streams:
     def __init__(self) -> None:
         self.expected: Dict[str, Expected] = {}  # by token
-        self.delivered_to: Dict[str, Expected] = {}  # by the identifier of the invocation
+        self.invoked: Dict[str, Expected] = {}  # by the identifier of the invocation
+        # By environment: what its runtime was given last, as its proxy has seen; what the history says; what is held
+        self.given: Dict[int, str] = {}
+        self.serving: Dict[int, Serving] = {}
+        self.held: Dict[int, Held] = {}
+
+    # ---- from the front ----------------------------------------------------------------------------------------------
 
     def expect(self) -> Expected:
         made = Expected()
@@ -124,20 +160,65 @@ class Streams:
     def forget(self, expected: Expected) -> None:
         self.expected.pop(expected.token, None)
         if expected.identifier is not None:
-            self.delivered_to.pop(expected.identifier, None)
+            self.invoked.pop(expected.identifier, None)
 
-    def delivered(self, identifier: str, trace: Optional[str]) -> None:
-        lineage = LINEAGE.fullmatch(trace or "")
-        expected = self.expected.get(lineage[1]) if lineage else None
-        if expected:
-            expected.identifier = identifier
-            self.delivered_to[identifier] = expected
+    # ---- from the service's history ----------------------------------------------------------------------------------
 
-    def begins(self, identifier: str, headers: Headers) -> Optional[Stream]:
-        """A response begins; its stream if it is one, and somebody waits for it."""
-        expected = self.delivered_to.get(identifier)
-        if expected is None or (first(headers, MODE) or "").lower() != STREAMING or expected.begun.done():
+    def placed(self, token: str, identifier: str, environment: int) -> None:
+        """An Invoke with this token was admitted. (A function that invokes another one hands its own trace on: then the
+        token comes again.)"""
+        expected = self.expected.get(token)
+        if expected and expected.identifier is None:
+            expected.identifier, expected.environment = identifier, environment
+            self.invoked[identifier] = expected
+
+    def delivered(self, environment: int, identifier: str) -> None:
+        """The environment's runtime was given this invocation."""
+        expected = self.invoked.get(identifier)
+        self.serving[environment] = Serving(identifier, expected if expected and expected.environment == environment
+                                            else None)
+        if environment in self.held and self.held[environment].identifier == identifier:
+            self._give(environment, self._let_go(environment))
+
+    def ended(self, environment: int, identifier: str) -> None:
+        """It was answered."""
+        serving = self.serving.get(environment)
+        if serving and serving.identifier == identifier:
+            self.serving[environment] = Serving(identifier, None, True)
+
+    # ---- from the proxies --------------------------------------------------------------------------------------------
+
+    def passed(self, environment: int, identifier: str) -> None:
+        """The service's answer with this invocation passes to the environment's runtime."""
+        self.given[environment] = identifier
+
+    def begins(self, environment: int, identifier: str, headers: Headers) -> Optional[Stream]:
+        """A response, or an error, begins. Returns its stream if it is the first for its invocation, is streamed, and
+        somebody waits for it or may be found to."""
+        if self.given.get(environment) != identifier:
             return None
-        stream = Stream(first(headers, "content-type"))
-        expected.begun.set_result(stream)
+        del self.given[environment]
+        if (first(headers, MODE) or "").lower() != STREAMING:
+            return None
+        stream, serving = Stream(first(headers, "content-type")), self.serving.get(environment)
+        if serving and serving.identifier == identifier:
+            return stream if self._give(environment, stream) else None
+        if environment in self.held:
+            self._let_go(environment).leave()
+        giving_up = asyncio.get_running_loop().call_later(HELD_SECONDS, lambda: self._let_go(environment).leave())
+        self.held[environment] = Held(identifier, stream, giving_up)
         return stream
+
+    def _let_go(self, environment: int) -> Stream:
+        held = self.held.pop(environment)
+        held.giving_up.cancel()
+        return held.stream
+
+    def _give(self, environment: int, stream: Stream) -> bool:
+        """The response to what the environment serves is its caller's, if one waits for it. Returns whether it is."""
+        expected = self.serving[environment].expected
+        if expected is None or expected.begun.done():
+            stream.leave()
+            return False
+        expected.begun.set_result(stream)
+        return True

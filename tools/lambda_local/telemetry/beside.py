@@ -4,16 +4,17 @@ import asyncio
 import json
 import uuid
 from concurrent.futures import ThreadPoolExecutor
-from typing import Any, Awaitable, Callable, Container, Dict, Iterable, List, Mapping, Optional, Protocol
+from typing import Any, Awaitable, Callable, Container, Dict, Iterable, List, Mapping, Optional, Protocol, Set
 
 from ..front import origins
 from ..front.front import listener_at
 from ..front.places import A_PROXY, WITH_TELEMETRY
 from ..http1 import Request
+from ..streaming.pairing import Pairing
 from ..streaming.streams import Streams
 from .conversation import Answer
 from .desk import Desk
-from .ears import EnvironmentEars
+from .ears import EnvironmentEars, OfStreams
 from .proxy import Proxy
 from .story import About
 
@@ -123,6 +124,7 @@ class Sidecars:
     def __init__(self, functions: Iterable[Any], streaming: Container[str], path: str, log: Callable[..., None]):
         self.functions, self.streaming, self.path, self.log = list(functions), streaming, path, log
         self.streams = Streams()
+        self.streaming_environments: Set[int] = set()  # by their numbers
         self.found: Dict[int, WithProxy] = {}
 
     def serve(self, configuration: Mapping[str, Any], printed: Mapping[int, Printed]) -> List[Proxy]:
@@ -135,10 +137,14 @@ class Sidecars:
             for place, port in enumerate(part["ports"], 1):
                 number += 1
                 if function.has_telemetry or function.name in self.streaming or function.is_unmarked:
-                    self.found[number] = self._made(function, place, port, printed[number])
+                    self.found[number] = self._made(function, place, port, number, printed[number])
         return [each.proxy for each in self.found.values()]
 
-    def _made(self, function: Any, place: int, port: int, printed: Printed) -> WithProxy:
+    def pairing(self, call: Callable[..., None]) -> Pairing:
+        """What takes the history's entries for the streams, in whose loop `call` has a function called soon."""
+        return Pairing(self.streams, self.streaming_environments, call)
+
+    def _made(self, function: Any, place: int, port: int, number: int, printed: Printed) -> WithProxy:
         name = f"{function.name}/{place}"
 
         def tell(text: str) -> None:
@@ -153,9 +159,11 @@ class Sidecars:
         def deliver(identifier: str) -> Optional[Awaitable[None]]:
             return None if printed.deliver_at_once(identifier) else wait(identifier)
         desk = Desk(about(function), tell)
-        is_plain = not function.has_telemetry and function.name not in self.streaming  # (it gives results in one piece)
-        ears = EnvironmentEars(desk, refusal_of, Streams() if is_plain else self.streams, function.has_telemetry,
-                               deliver)
+        streams = OfStreams()  # (of another function each result comes in one piece)
+        if function.name in self.streaming:
+            streams = OfStreams(self.streams, number)
+            self.streaming_environments.add(number)
+        ears = EnvironmentEars(desk, refusal_of, streams, function.has_telemetry, deliver)
         proxy = Proxy(listener_at(0, f"proxy of {name}", self.path), port, ears, tell, desk.ends,
                       descriptors=WITH_TELEMETRY if function.has_telemetry else A_PROXY)
         return WithTelemetry(desk, proxy, name, printed) if function.has_telemetry else WithProxy(proxy)

@@ -6,7 +6,7 @@ from typing import Awaitable, Callable, List, Optional
 
 from ..http1 import Headers, Request, Response, first
 from ..json_reader import NotJson, read_json
-from ..streaming.streams import Streams
+from ..streaming.streams import Stream, Streams
 from .conversation import Answer, Ears, Exchange
 from .desk import Desk
 from .story import ERROR, SUCCESS, TOO_LARGE
@@ -35,6 +35,20 @@ def plain(text: str) -> str:
         return str(uuid.UUID(text))
     except ValueError:
         return text
+
+
+class OfStreams:
+    """The streams of the responses of one environment, if any are streamed."""
+
+    def __init__(self, streams: Optional[Streams] = None, environment: int = 0):
+        self.streams, self.environment = streams, environment
+
+    def passed(self, identifier: str) -> None:
+        if self.streams is not None:
+            self.streams.passed(self.environment, identifier)
+
+    def begins(self, identifier: str, headers: Headers) -> Optional[Stream]:
+        return None if self.streams is None else self.streams.begins(self.environment, identifier, headers)
 
 
 class Short(Exchange):
@@ -124,7 +138,7 @@ class ExtensionReport(Short):
 
 
 class RuntimePoll(Exchange):
-    def __init__(self, head: Request, desk: Desk, streams: Streams, deliver: Deliver):
+    def __init__(self, head: Request, desk: Desk, streams: OfStreams, deliver: Deliver):
         super().__init__(head)
         self.desk, self.streams, self.deliver, self.polls = desk, streams, deliver, False
 
@@ -138,7 +152,7 @@ class RuntimePoll(Exchange):
         if head.status == 200 and identifier is not None:
             self.waits = self.deliver(plain(identifier))
             trace = first(head.headers, "lambda-runtime-trace-id")
-            self.streams.delivered(plain(identifier), trace)
+            self.streams.passed(plain(identifier))
             self.desk.delivered(plain(identifier), trace)
 
     def lost(self) -> None:
@@ -159,12 +173,12 @@ class InitReport(Exchange):
 class Result(Exchange):
     """A response, or an error. A response that is streamed goes to its caller as well as to the service."""
 
-    def __init__(self, head: Request, desk: Desk, streams: Streams, identifier: str, kind: str):
+    def __init__(self, head: Request, desk: Desk, streams: OfStreams, identifier: str, kind: str):
         super().__init__(head)
         self.desk, self.identifier, self.kind, self.size = desk, plain(identifier), kind, 0
         self.status = 0
         self.trailers: Headers = []
-        self.stream = streams.begins(self.identifier, head.headers) if kind == "response" else None
+        self.stream = streams.begins(self.identifier, head.headers if kind == "response" else [])
         desk.responds(self.identifier)
 
     @property
@@ -205,7 +219,7 @@ class EnvironmentEars(Ears):
     """`refusal` is the service's own answer to a request of a web page, or one for a foreign host. Without telemetry
     the routes of subscriptions are the service's. `deliver` is done before an invocation is passed on."""
 
-    def __init__(self, desk: Desk, refusal: Refusal, streams: Streams, has_telemetry: bool = True,
+    def __init__(self, desk: Desk, refusal: Refusal, streams: OfStreams, has_telemetry: bool = True,
                  deliver: Deliver = lambda _: None):
         self.desk, self.refusal, self.streams, self.has_telemetry = desk, refusal, streams, has_telemetry
         self.deliver = deliver

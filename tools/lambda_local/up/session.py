@@ -82,6 +82,7 @@ class Session:
             self.watch.lines.log = self.report.tell
         self.front.serve(self.service, Tails(invocations, self.watch),
                          self.sidecars.serve(self.service.configuration, self.printed), self.sidecars.streams)
+        self.watch.takers.append(self.sidecars.pairing(self.front.call).take)
         self.environments = list(self.make_environments())
         self.looks.hooks.append(Unnamed(self.watch.life.environments.values(), lambda name, line: log(
             name, f"-- {line}", level="warning", kind="init")).look)

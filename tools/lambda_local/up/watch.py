@@ -47,6 +47,7 @@ class Watch(threading.Thread):
         self.is_lost = False  # the service does not answer: it is asked again
         self.warnings: Set[str] = set()
         self.mute: Counts[int] = Counter()  # by the numbers of environments
+        self.takers: List[Callable[[Entry], None]] = []  # that are given each entry, before its events
         self.followers: List[Callable[[Event], None]] = []  # that are given each event
         self.readers: List[Callable[[], None]] = []  # that are notified once all events of an entry were given
 
@@ -68,7 +69,8 @@ class Watch(threading.Thread):
 
     def _come(self, entry: Entry) -> None:
         with self.lock:
-            self._take(entry)
+            for take in (*self.takers, self._take):
+                self._call(take, entry)
             for reader in self.readers:
                 reader()
             self.taken = entry.ticket + 1
@@ -103,13 +105,16 @@ class Watch(threading.Thread):
         """A fault in one event, which is reported with it: the next one is taken."""
         self.log("up", f"{what}: {told(fault)}", level="error", kind="fault")
 
-    def _take(self, entry: Entry) -> None:
+    def _call(self, take: Callable[[Entry], None], entry: Entry) -> None:
         try:
-            for event in self.life.take(entry):
-                if not self._is_muted(event):
-                    self._report(event)
+            take(entry)
         except Exception as fault:
             self._tell(fault, f"could not follow entry {entry.ticket} of the history, {entry.call.kind}")
+
+    def _take(self, entry: Entry) -> None:
+        for event in self.life.take(entry):
+            if not self._is_muted(event):
+                self._report(event)
 
     def _report(self, event: Event) -> None:
         for take in (*self.followers, self.lines.take):
