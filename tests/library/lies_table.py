@@ -48,6 +48,8 @@ LIES: Dict[str, Tuple[str, str, str, str]] = {
     "invocation_log": ("tails", OF_TOOLS + "up/invocation_log.py", "MOST_TAIL = 4096", "MOST_TAIL = 4090"),
     "invoke": ("results", OF_TOOLS + "invoke.py",
                "        return 1\n    return 0\n", "        return 0\n    return 0\n"),
+    "javascript": ("handlers", "javascript/function_error.js",
+                   "report.errorType : undefined", "report.type : undefined"),
     "launcher": ("says", OF_TOOLS + "help.txt", "conformance", "conformity"),
     "little_memory": ("finds", OF_TOOLS + "limits.sh", '[ "$allowed" -le "$bytes" ]', '[ "$allowed" -ge "$bytes" ]'),
     "management": ("refused", OF_TOOLS + "front/management.py", '"NotImplementedException"', '"NotFoundException"'),
