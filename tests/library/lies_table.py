@@ -63,6 +63,8 @@ LIES: Dict[str, Tuple[str, str, str, str]] = {
     "plugin_sandbox": ("clients", OF_TOOLS + "sandbox.py",
                        "    return any(host == name", "    return all(host == name"),
     "real_projects": ("sam", OF_TOOLS + "from_template/schedules.py", '("Schedule", "ScheduleV2")', '("ScheduleV2",)'),
+    "refused_requests": ("counted", OF_TOOLS + "telemetry/refusals.py",
+                         "elif count == 10 * self.told[kind]:", "elif False:"),
     "rerun": ("compares", OF_TOOLS + "rerun/compare.py", "return [Difference(\"\", then, now)]", "return []"),
     "rerun_command": ("faults", OF_TOOLS + "rerun/functions.py", "there is no function", "there is a function"),
     "rest_events": ("rest_results", OF_TOOLS + "front/rest_payload.py", '"multiValueHeaders"', '"multipleHeaders"'),

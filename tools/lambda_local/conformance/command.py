@@ -10,6 +10,7 @@ import sys
 
 from ..outgoing import tell
 from ..service import Fault
+from .kit import EndedEarly
 
 SUBCOMMANDS = ("runtime", "extension", "service")
 
@@ -27,6 +28,8 @@ def main() -> int:
         return int(importlib.import_module(f"lambda_local.conformance.{words[0]}").main(words[1:]))
     except Fault as fault:
         tell(f"conformance: {fault}")
+        for line in fault.wrote if isinstance(fault, EndedEarly) else ():
+            tell(f"  {line}")
         return fault.status
     except BrokenPipeError:
         return 1

@@ -88,6 +88,14 @@ class Verdict(NamedTuple):
         return self.found.words
 
 
+class EndedEarly(Fault):
+    """The command ended before anything could be tested, and had written these lines."""
+
+    def __init__(self, words: str, wrote: List[str]) -> None:
+        super().__init__(2, words + (", and wrote:" if wrote else ""))
+        self.wrote = wrote
+
+
 class Missing(Exception):
     """What a scenario needs did not come: its checks that are not judged yet fail with these words; the last one if
     there is none."""

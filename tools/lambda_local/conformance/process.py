@@ -10,6 +10,7 @@ import threading
 import time
 from typing import IO, Any, Callable, Dict, Iterator, List, NamedTuple, Optional, Protocol, Set
 
+from ..executables import why_not_found, why_not_started
 from ..guard import GUARD
 from ..service import Fault
 from .sockets import chosen_ports
@@ -30,7 +31,8 @@ def program_of(command: List[str]) -> str:
     """The path of the command's program; a fault if there is none."""
     found = shutil.which(command[0])
     if not found:
-        raise Fault(2, f"{command[0]} is not a program: write one after --, as a path or by a name of PATH")
+        why = why_not_found(command[0]) if "/" in command[0] else None
+        raise Fault(2, f"{command[0]} {why or 'is not a program: write one after --, as a path or by a name of PATH'}")
     return os.path.abspath(found) if "/" in command[0] else found
 
 
@@ -143,7 +145,7 @@ class Process:
             self._child = begun(command, variables, self.output)
         except OSError as fault:
             self.output.close()
-            raise Fault(2, f"{command[0]} could not be started: {fault.strerror}") from None
+            raise Fault(2, f"{command[0]} {why_not_started(program_of(command), fault)}") from None
         self._began_at = begun_at(self._child.pid)
         self._mark = f"AWS_LAMBDA_RUNTIME_API={variables['AWS_LAMBDA_RUNTIME_API']}".encode()
         self.status = 0  # once it has ended

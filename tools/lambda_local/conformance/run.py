@@ -8,7 +8,7 @@ from typing import Any, Callable, List, NoReturn, Tuple, cast
 
 from . import kit
 from .clock import CLOCK
-from .kit import FAIL, Jury, OpenStage, Scenario, Verdict
+from .kit import FAIL, EndedEarly, Jury, OpenStage, Scenario, Verdict
 from .process import Processes, program_of
 from .report import Report
 from .sometimes import run_alone
@@ -126,7 +126,7 @@ def play(name: str, registry: List[Scenario], options: argparse.Namespace, comma
         judge_others([one for one in chosen if one is not registry[0]], open_stage, report, only,
                      1 if processes.ports else at_once())
         return report.finish(time.monotonic() - begun)
-    except NoProgram:
+    except (EndedEarly, NoProgram):
         raise
     except Fault as fault:
         raise Fault(2, str(fault)) from None

@@ -10,14 +10,15 @@ import os
 import time
 from typing import Any, Callable, Dict, List, NamedTuple, Optional, Sequence, Union
 
+from ..executables import what_is_wrong
 from ..service import Fault, Service, ask
 from . import evidence
 from .clock import CLOCK
 from .environment import LOOK, Environment
 from .exchanges import as_json, read_json
-from .kit import FAIL, NOTE, PASS, SHOULD, Came, Finding, Jury, Missing, Scenario, Seen
+from .kit import FAIL, NOTE, PASS, SHOULD, Came, EndedEarly, Finding, Jury, Missing, Scenario, Seen
 from .parked import parked
-from .process import Processes
+from .process import Processes, program_of
 from .watch import OwnTime
 Event = Union[bytes, Dict[str, Any]]  # as its bytes, or as a value
 
@@ -29,6 +30,7 @@ SHOWN = 200  # letters of what came
 SILENT = 12  # seconds of its own after which a process that has to answer, or to ask, does not do so any more
 GONE_ON = 6  # seconds of its own in which a process that asks for its next invocation answers its last one all the same
 UNANSWERED = "the caller received no answer, and the next invocation is asked for"
+NOT_STARTED = (126, 127)  # statuses with which a shell ends in place of a program that cannot be started
 REFUSED = 3  # polls that are refused for what they are, after which it is not waited for another one
 RESTARTS = "its command starts other processes in place of those that have ended"
 OF_LAMBDA = ("Function.Timeout", "Sandbox.Timedout", "Runtime.ExitError")  # errors of what sends no answer
@@ -175,10 +177,13 @@ class Stage:
         """A command that ends before it asks for anything is none that can be tested."""
         environment = self.environment
         if environment.process.ended and not environment.proxy.exchanges:
+            program, status = program_of(self.tools.command), environment.process.status
+            why = what_is_wrong(program, False) if status in NOT_STARTED else None
+            if why:
+                raise Fault(2, f"{self.tools.command[0]} {why}")
             words = (f"{' '.join(self.tools.command)}: {environment.process.how_it_ended()} before it asked for "
                      f"anything")
-            lines = environment.process.last_lines(evidence.WRITTEN)
-            raise Fault(2, "\n".join([words + (", and wrote:" if lines else ""), *(f"  {line}" for line in lines)]))
+            raise EndedEarly(words, environment.process.last_lines(evidence.WRITTEN))
 
     def misdirected(self) -> Optional[Finding]:
         """Says that a request is refused that is of no route, or none at all, if there is one."""

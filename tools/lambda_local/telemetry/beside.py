@@ -16,6 +16,7 @@ from .conversation import Answer
 from .desk import Desk
 from .ears import EnvironmentEars, OfStreams
 from .proxy import Proxy
+from .refusals import Refusals
 from .story import About
 
 KINDS = {400: "InvalidHost", 403: "AccessDenied", 501: "NotImplemented"}  # the service's, at an environment's port
@@ -159,12 +160,18 @@ class Sidecars:
         def deliver(identifier: str) -> Optional[Awaitable[None]]:
             return None if printed.deliver_at_once(identifier) else wait(identifier)
         desk = Desk(about(function), tell)
+        refusals = Refusals(lambda text: self.log(name, f"-- {text}", level="warning", kind="refused",
+                                                  function=function.name))
         streams = OfStreams()  # (of another function each result comes in one piece)
         if function.name in self.streaming:
             streams = OfStreams(self.streams, number)
             self.streaming_environments.add(number)
-        ears = EnvironmentEars(desk, refusal_of, streams, function.has_telemetry, deliver)
-        proxy = Proxy(listener_at(0, f"proxy of {name}", self.path), port, ears, tell, desk.ends,
+        ears = EnvironmentEars(desk, refusal_of, streams, function.has_telemetry, deliver, refusals)
+
+        def ends() -> None:
+            refusals.end()
+            desk.ends()
+        proxy = Proxy(listener_at(0, f"proxy of {name}", self.path), port, ears, tell, ends,
                       descriptors=WITH_TELEMETRY if function.has_telemetry else A_PROXY)
         return WithTelemetry(desk, proxy, name, printed) if function.has_telemetry else WithProxy(proxy)
 

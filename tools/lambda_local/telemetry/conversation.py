@@ -9,6 +9,7 @@ from ..http1 import (CLOSED, NEED_DATA, Data, EndOfMessage, Headers, Malformed, 
 
 BEGINS_OWN = b"PUT "  # what the requests begin with that are answered here; no other route has this method
 LONGEST_BODY = 256 << 10  # bytes of such a request
+LONGEST_REASON = 4096  # bytes of the answer to one that is refused
 MOST_OPEN = 100  # requests on a connection that wait for their answers
 CONTINUE = b"HTTP/1.1 100 Continue\r\n\r\n"
 
@@ -87,6 +88,12 @@ class Ears:
         """The answer to a request for one of the routes here; without a body if it is too long."""
         raise NotImplementedError
 
+    def refused(self, head: Request, answer: Response, body: bytes) -> None:
+        """A request that passed was answered with a status from 400 to 499, and a body that begins so."""
+
+    def unreadable(self, fault: Malformed, head: Optional[Request], begun: bytes) -> None:
+        """What came is no request, or not the rest of this one."""
+
 
 class Conversation:
     """After each call, `to_service` and `to_client` have what goes out."""
@@ -102,6 +109,8 @@ class Conversation:
         self._from_client, self._from_service = bytearray(), bytearray()  # what was not passed on
         self._ahead = 0  # bytes that were passed on and not read
         self._current: Union[Exchange, Own, None] = None  # whose request comes
+        self._refusal: Optional[Response] = None  # the answer that comes, if it is one
+        self._reason = bytearray()
 
     # ---- requests ----------------------------------------------------------------------------------------------------
 
@@ -146,7 +155,10 @@ class Conversation:
         before = len(reader.buffer)
         try:
             return reader.next_event(), before - len(reader.buffer)
-        except Malformed:
+        except Malformed as fault:
+            if reader is self.requests:
+                head = self._current.head if self._current else None
+                self.ears.unreadable(fault, head, bytes(self._from_client[:LONGEST_REASON]))
             self._is_unreadable()
             return None, 0
 
@@ -239,10 +251,14 @@ class Conversation:
     def _take_response(self, exchange: Exchange, event: object, read: int) -> None:
         if isinstance(event, Response) and event.status >= 200:
             exchange.answered(event)
+            self._refusal, self._reason = event if 400 <= event.status < 500 else None, bytearray()
         elif isinstance(event, Data):
             exchange.came(event.data)
+            self._reason += event.data[:LONGEST_REASON - len(self._reason)] if self._refusal else b""
         elif isinstance(event, EndOfMessage):
             exchange.all_came()
+            if self._refusal:
+                self.ears.refused(exchange.head, self._refusal, bytes(self._reason))
         if exchange.waits is not None:
             self.waits.append(exchange.waits)
             exchange.waits = None

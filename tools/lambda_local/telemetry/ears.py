@@ -4,11 +4,12 @@ import re
 import uuid
 from typing import Awaitable, Callable, List, Optional
 
-from ..http1 import Headers, Request, Response, first
+from ..http1 import Headers, Malformed, Request, Response, first
 from ..json_reader import NotJson, read_json
 from ..streaming.streams import Stream, Streams
 from .conversation import Answer, Ears, Exchange
 from .desk import Desk
+from .refusals import Refusals
 from .story import ERROR, SUCCESS, TOO_LARGE
 from .subscription import LOGS, TELEMETRY
 
@@ -220,9 +221,9 @@ class EnvironmentEars(Ears):
     the routes of subscriptions are the service's. `deliver` is done before an invocation is passed on."""
 
     def __init__(self, desk: Desk, refusal: Refusal, streams: OfStreams, has_telemetry: bool = True,
-                 deliver: Deliver = lambda _: None):
+                 deliver: Deliver = lambda _: None, refusals: Optional[Refusals] = None):
         self.desk, self.refusal, self.streams, self.has_telemetry = desk, refusal, streams, has_telemetry
-        self.deliver = deliver
+        self.deliver, self.refusals = deliver, refusals
 
     def exchange(self, head: Request) -> Exchange:
         path, desk = head.parts.path, self.desk
@@ -244,6 +245,14 @@ class EnvironmentEars(Ears):
         states: List[str] = {EXTENSION + "init/error": ["InitError"], EXTENSION + "exit/error": ["ExitError"]}.get(
             path, [])
         return ExtensionReport(head, desk, states[0]) if states else Exchange(head)
+
+    def refused(self, head: Request, answer: Response, body: bytes) -> None:
+        if self.refusals:
+            self.refusals.refused(head, answer, body)
+
+    def unreadable(self, fault: Malformed, head: Optional[Request], begun: bytes) -> None:
+        if self.refusals:
+            self.refusals.unreadable(fault, head, begun)
 
     def is_own(self, head: Request) -> bool:
         return self.has_telemetry and head.method == "PUT" and head.parts.path in (TELEMETRY, LOGS)

@@ -9,6 +9,7 @@ from typing import Dict, Iterator, List, Optional, Sequence, Tuple, Union
 
 from ..configuration import (OF_FUNCTION, OF_SERVICE, Kind, Members, is_list_of, is_text, is_whole, mistakes,
                              mistakes_of, named, shown)
+from ..executables import why_not_found
 from ..front import settings
 from ..json_reader import NotJson, read_json
 from ..outgoing import is_for_the_system, is_name_of_variable, several
@@ -186,9 +187,10 @@ class Function:
                 if not is_for_the_system(word):
                     raise Fault(2, f"{self.where}: {shown(word)}: no word of a command has a NUL, or half a character")
             if words is not self.command or "runtime" not in self.member:
-                if not shutil.which(program_of(words[0], self.directory)):
-                    self._refuse(4, f"{words[0]} is not a program (looked for in "
-                                    f"{self.directory if '/' in words[0] else 'PATH'})")
+                program = program_of(words[0], self.directory)
+                if not shutil.which(program):
+                    looked_for = f"is not a program (looked for in {self.directory if '/' in words[0] else 'PATH'})"
+                    self._refuse(4, f"{words[0]} {why_not_found(program) or looked_for}")
 
     def _scale(self, member: Members) -> None:
         """How many environments are started at once, and after which time without work a further one ends. All others

@@ -7,6 +7,7 @@ import signal
 import time
 from typing import List, Mapping, Tuple
 
+from ..executables import why_not_found, why_not_started
 from ..guard import GUARD
 from .invocation_lines import Printed
 from .output import MarkedSplitter, Reader, Splitter
@@ -33,7 +34,7 @@ class Process:
             splitter = MarkedSplitter(splitter.take, printed.divide, b"\0" + mark.encode())
         program = program_of(words[0], directory)
         if not shutil.which(program):
-            raise FileNotFoundError(f"{words[0]} is not a program (any more)")
+            raise FileNotFoundError(f"{words[0]} {why_not_found(program) or 'is not a program (any more)'}")
         reading, writing = os.pipe()
         # (before it is started: it may have answered an invocation before this thread goes on)
         self.pid = 0
@@ -44,9 +45,9 @@ class Process:
             self.started = GUARD.start([program, *words[1:]], directory, variables, writing, forks)
             self.pid = self.started.pid
             self.handle = self._handle()
-        except OSError:
+        except OSError as fault:
             printed.remove(self)
-            raise
+            raise OSError(f"{words[0]} {why_not_started(shutil.which(program) or program, fault)}") from None
         finally:
             os.close(writing)
 

@@ -1,0 +1,148 @@
+"""What the service refuses of an environment's processes, as lines: the first request of each kind in full, with what
+to do, and later ones as their number. (Lambda Developer Guide, "Using the Lambda runtime API for custom runtimes" and
+"Using the Lambda Extensions API"; docs/formats.md has the service's answers.)"""
+import difflib
+import re
+from typing import Callable, Dict, NamedTuple, Optional
+
+from ..http1 import CutShort, Malformed, Request, Response, first
+from ..json_reader import NotJson, read_json
+from .subscription import LOGS, TELEMETRY
+
+RUNTIME, EXTENSION = "/2018-06-01/runtime/", "/2020-01-01/extension/"
+ROUTES = {  # with the identifier of an invocation left open
+    RUNTIME + "invocation/next": "GET", RUNTIME + "invocation/ID/response": "POST",
+    RUNTIME + "invocation/ID/error": "POST", RUNTIME + "init/error": "POST", EXTENSION + "register": "POST",
+    EXTENSION + "event/next": "GET", EXTENSION + "init/error": "POST", EXTENSION + "exit/error": "POST",
+    TELEMETRY: "PUT", LOGS: "PUT"}
+IDENTIFIED = re.compile(r"(?<=/invocation/)(?!next\b)[^/]+")
+LIKE, MORE_LIKE = 0.6, 0.75  # of a route's letters, that are in one that is meant: of the same method, and of any
+MOST_KINDS = 20  # that are told for an environment
+LONGEST = 160  # letters of a path, or of bytes that are none of HTTP
+SHORT = 4096  # bytes of an answer that is looked at
+Tell = Callable[[str], None]
+
+# What to do, by the service's types of refusals.
+SENTENCES = {
+    "InvalidRequestID": "no invocation that was delivered here has this identifier: write that of "
+                        "Lambda-Runtime-Aws-Request-Id, letter by letter",
+    "InvalidRequestFormat": "its body cannot be read",
+    "InvalidEventType": "\"events\" has INVOKE, SHUTDOWN, or both",
+    "RequestEntityTooLarge": "its body has more than 6,291,456 bytes: send an error in its place",
+    "Extension.UnknownIdentifier": "Lambda-Extension-Identifier is to be the one that its registration was answered "
+                                   "with",
+    "Extension.AlreadyRegistered": "an extension of this name is registered already",
+    "Extension.TooManyExtensions": "ten extensions are registered already",
+    "InvalidHost": "its Host is malformed",
+    "AccessDenied": "a web page, or a foreign host, may not call this port",
+}
+# So, of what comes in another phase, by the request.
+LATE = {
+    "GET " + RUNTIME + "invocation/next": "another Next of this environment waits, or its Init has failed",
+    "POST " + RUNTIME + "invocation/ID/response": "its invocation is over, by an answer or by its timeout",
+    "POST " + RUNTIME + "invocation/ID/error": "its invocation is over, by an answer or by its timeout",
+    "POST " + RUNTIME + "init/error": "the Init is over: from the first Next on, report invocation/ID/error",
+    "POST " + EXTENSION + "register": "extensions register before the Init is over",
+    "POST " + EXTENSION + "init/error": "the Init is over: from the first Next on, report exit/error",
+}
+HEADERS = {EXTENSION + "register": "Lambda-Extension-Name"}
+FUNCTION_ERROR = "Lambda-Extension-Function-Error-Type"
+
+
+class Kind(NamedTuple):
+    """What requests have in common of which only the first is told in full."""
+    status: int
+    request: str
+    reason: str
+
+
+class Refusals:
+    """Those of one environment. `tell` takes lines."""
+
+    def __init__(self, tell: Tell) -> None:
+        self.tell = tell
+        self.counts: Dict[Kind, int] = {}
+        self.told: Dict[Kind, int] = {}
+        self.others = 0  # of further kinds
+
+    def refused(self, head: Request, answer: Response, body: bytes) -> None:
+        """A request was answered with a status of 400 or more, and this body."""
+        path = IDENTIFIED.sub("ID", head.parts.path)
+        reason = type_of(body)
+        kind = Kind(answer.status, f"{head.method} {shortened(path)}", reason)
+        self._count(kind, f"{head.method} {shortened(head.parts.path)}: {answer.status}, "
+                          f"{sentence(head.method, path, answer, reason)}")
+
+    def unreadable(self, fault: Malformed, head: Optional[Request], begun: bytes) -> None:
+        """What came is no request, or the end of its connection came within one."""
+        if head is not None:
+            request = f"{head.method} {shortened(head.parts.path)}"
+            why = ("its body is cut short: the connection ended within it" if isinstance(fault, CutShort)
+                   else f"its body is malformed: {fault.reason}")
+            return self._count(Kind(fault.status, request, why), f"{request}: {why}")
+        if isinstance(fault, CutShort) and not begun.strip():
+            return None
+        shown = shortened(begun.split(b"\n")[0].decode("latin-1").rstrip("\r"))
+        return self._count(Kind(fault.status, "", "unreadable"),
+                           f"what came is no HTTP/1.1 request: {fault.reason}" + (f": {shown}" if shown else ""))
+
+    def _count(self, kind: Kind, words: str) -> None:
+        if kind not in self.counts and len(self.counts) == MOST_KINDS:
+            self.others += 1
+            if self.others == 1:
+                self.tell(f"of the requests that are refused, {MOST_KINDS} kinds are told, and no others")
+            return
+        count = self.counts[kind] = self.counts.get(kind, 0) + 1
+        if count == 1:
+            self.told[kind] = 1
+            self.tell(words)
+        elif count == 10 * self.told[kind]:
+            self._tell_count(kind)
+
+    def _tell_count(self, kind: Kind) -> None:
+        self.told[kind] = self.counts[kind]
+        self.tell(f"{kind.request or 'no HTTP/1.1 request'}: {kind.status}, {self.counts[kind]:,} times so far")
+
+    def end(self) -> None:
+        """The last numbers."""
+        for kind, count in self.counts.items():
+            if count > self.told[kind]:
+                self._tell_count(kind)
+
+
+def type_of(body: bytes) -> str:
+    """The service's type of a refusal; nothing if the body has none."""
+    try:
+        found = read_json(body[:SHORT])
+    except NotJson:
+        return ""
+    value = found.get("errorType") if isinstance(found, dict) else None
+    return value if isinstance(value, str) else ""
+
+
+def sentence(method: str, path: str, answer: Response, reason: str) -> str:
+    """What is wrong with a request that was answered so, and what to do. The path has no identifier."""
+    if answer.status == 404:
+        return missing(method, path)
+    if answer.status == 405:
+        return f"this route has the method {first(answer.headers, 'allow') or ROUTES.get(path, 'another')}"
+    if reason == "MissingHeader":
+        return f"it needs the header {HEADERS.get(path, FUNCTION_ERROR)}"
+    if reason == "InvalidRequestFormat" and path == EXTENSION + "register":
+        return 'its body is to be {"events": [..]}, in JSON'
+    if reason == "InvalidStateTransition":
+        return LATE.get(f"{method} {path}", "it comes too early or too late")
+    return SENTENCES.get(reason) or f"it is refused ({reason or answer.reason})"
+
+
+def missing(method: str, path: str) -> str:
+    """There is no such route, with the one that may be meant."""
+    if path in (TELEMETRY, LOGS):
+        return 'there is no Telemetry API here: write "telemetry": true at the function'
+    of_method = [route for route, its in ROUTES.items() if its == method and its != "PUT"]
+    found = difflib.get_close_matches(path, of_method, 1, LIKE) or difflib.get_close_matches(path, ROUTES, 1, MORE_LIKE)
+    return "there is no such route" + (f": did you mean {ROUTES[found[0]]} {found[0]}?" if found else "")
+
+
+def shortened(text: str) -> str:
+    return text if len(text) <= LONGEST else f"{text[:LONGEST]}.."
