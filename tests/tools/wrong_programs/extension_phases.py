@@ -242,17 +242,31 @@ class SwapsItsReports(Extension):
         super().report({"init/error": "exit/error", "exit/error": "init/error"}[path], fault)
 
 
-# ---- what the documents leave open, or is not there: a NOTE ----------------------------------------------------------
-
 class ReportsNoInitError(Extension):
-    check, outcome = "init_error", "NOTE"
+    """Ends without a word, as one does whose start fails and which has no handler for that."""
+    check = "init_error"
 
     def report(self, path, fault):
-        pass
+        if not path.startswith(self.check.split("_")[0]):
+            super().report(path, fault)
 
 
 class ReportsNoExitError(ReportsNoInitError):
     check = "exit_error"
+
+
+# ---- what the documents leave open, or is not there: a NOTE ----------------------------------------------------------
+
+class DoesNotKnowHowToFailInItsInit(Extension):
+    check, outcome, fails = "init_error", "NOTE", "init"
+
+    def __init__(self):
+        super().__init__()
+        self.fails_at = None if self.fails_at == self.fails else self.fails_at
+
+
+class DoesNotKnowHowToFailLater(DoesNotKnowHowToFailInItsInit):
+    check, fails = "exit_error", "exit"
 
 
 class IsForShutdownAlone(Extension):

@@ -271,6 +271,17 @@ class LeavesSmallFiles(Runtime):
         return super().context(headers)
 
 
+class LeavesFilesThatSayNothing(Runtime):
+    """In a folder that everyone uses: neither their names nor what is in them shows whose they are."""
+    check, outcome, settings = "files", "SHOULD", {"invocations": 100}
+
+    def read(self, payload):
+        if is_scenario("thousands"):
+            with open(os.path.join(everyones(), f"job{os.urandom(6).hex()}.tmp"), "w") as file:
+                file.write("done")
+        return super().read(payload)
+
+
 class AsksAgainAfter500(Runtime):
     """Looks at the status of Next alone."""
     check, outcome = "ends_at_500_response", "SHOULD"

@@ -5,6 +5,7 @@ import json
 import os
 import select
 import signal
+import socket
 import sys
 
 from connection import Connection
@@ -189,6 +190,33 @@ class WaitsOnADeadConnection(Runtime):
         except ConnectionError:
             signal.pause()
             raise
+
+
+class GivesUpAtAReset(Runtime):
+    """Asks again if the connection of its Next ends, and ends itself if that is reset."""
+    check, outcome = "lost_poll", "SHOULD"
+
+    def next(self):
+        self.connection.request("GET", self.next_path)
+        try:
+            self.connection.sock.recv(1, socket.MSG_PEEK)
+        except ConnectionResetError:
+            sys.exit("the connection was reset")
+        return self.connection.answer()
+
+
+class GivesUpAtAnEnd(Runtime):
+    """Ends itself if the connection of its Next ends."""
+    check, outcome = "lost_poll", "SHOULD"
+
+    def next(self):
+        self.connection.request("GET", self.next_path)
+        try:
+            if is_scenario("lost_poll") and not self.connection.sock.recv(1, socket.MSG_PEEK):
+                sys.exit("the connection has ended")
+        except ConnectionResetError:
+            pass
+        return self.connection.answer()
 
 
 class NeverConnectsAgain(Runtime):

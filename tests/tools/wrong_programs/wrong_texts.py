@@ -2,6 +2,8 @@
 that catches it, others that cannot but catch it too, and what becomes of each value of an event, of an output, or of
 the bytes of one of the two."""
 import json
+import signal
+import sys
 import unicodedata
 import urllib.parse
 from typing import Any, Callable, Dict, Iterable, Set, Tuple
@@ -97,6 +99,8 @@ TABLE: Iterable[Tuple[str, str, Set[str], str, Rewrite]] = (
      numbers(lambda value: str(value) if isinstance(value, int) and value > 2 ** 53 else value)),
     ("CutsIntegersTo32Bits", "numbers", set(), EVENT,
      numbers(lambda value: (value + 2 ** 31) % 2 ** 32 - 2 ** 31 if isinstance(value, int) else value)),
+    ("MixesUpWholeNumbers", "numbers", set(), EVENT,
+     numbers(lambda value: value + 2 ** 40 if isinstance(value, int) and value > 2 ** 53 else value)),
     ("RoundsNumbers", "numbers", set(), OUTPUT, numbers(lambda value: round(value, 10))),
     ("WritesTinyNumbersAsZero", "numbers", set(), EVENT,
      numbers(lambda value: 0 if isinstance(value, float) and abs(value) < 1e-300 else value)),
@@ -152,6 +156,56 @@ class Rewriting(Runtime):
         return self.change(body) if self.place == WRITTEN else body
 
 
+class BigIntsAsFloats(Runtime):
+    """Reads each whole number as JavaScript does."""
+    check, outcome = "numbers", "SHOULD"
+
+    def read(self, payload: bytes) -> Any:
+        return json.loads(payload, parse_int=lambda text: int(text) if len(text) < 16 else float(text))
+
+
+class DiesOfHalfACharacter(Runtime):
+    check, outcome = "half_characters", "SHOULD"
+
+    def read(self, payload: bytes) -> Any:
+        event = super().read(payload)
+        try:
+            json.dumps(event, ensure_ascii=False).encode()
+        except UnicodeEncodeError:
+            sys.exit("this is no text")
+        return event
+
+
+class HangsAtHalfACharacter(DiesOfHalfACharacter):
+    outcome = "FAIL"
+
+    def read(self, payload: bytes) -> Any:
+        try:
+            return super().read(payload)
+        except SystemExit:
+            signal.pause()
+
+
+class SendsErrorsForOutputsLikeThem(Runtime):
+    """Looks at what an output has in place of how it came."""
+    check = "output_like_error"
+
+    def respond(self, request: str, output: Any) -> Any:
+        if not isinstance(output, dict) or "errorMessage" not in output:
+            return super().respond(request, output)
+        return self.sent(self.ask("POST", f"invocation/{request}/error", self.dump(output)), request, output)
+
+
+class WrapsOutputsLikeErrors(Runtime):
+    check = "output_like_error"
+
+    def respond(self, request: str, output: Any) -> Any:
+        is_like = isinstance(output, dict) and "errorType" in output
+        return super().respond(request, {"error": output} if is_like else output)
+
+
 MISTAKES: Dict[str, type] = {name: type(name, (Rewriting,), {"check": check, "also": also, "place": place,
                                                              "change": staticmethod(change)})
                              for name, check, also, place, change in TABLE}
+MISTAKES.update({one.__name__: one for one in (BigIntsAsFloats, DiesOfHalfACharacter, HangsAtHalfACharacter,
+                                               SendsErrorsForOutputsLikeThem, WrapsOutputsLikeErrors)})

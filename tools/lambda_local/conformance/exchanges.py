@@ -148,14 +148,20 @@ def as_json(body: Union[bytes, bytearray]) -> Any:
 
 class Rule:
     """What the proxy does to a request of a kind: answers in the service's place by a status and a body (`decide` gives
-    them for the exchange), never answers (`holds`), ends the connection after these seconds without an answer, or
-    closes it after the reply. `manner` is how the reply is written."""
+    them for the exchange), never answers (`holds`), ends the connection after these seconds without an answer, by a
+    reset if it `resets`, or closes it after the reply. `manner` is how the reply is written, and `of` the only
+    invocation that it is for."""
 
     def __init__(self, kind: str, reply: Optional[Tuple[int, bytes]] = None, close: bool = False,
                  headers: Iterable[Tuple[str, str]] = (), decide: Optional[Decide] = None, holds: bool = False,
-                 ends_after: Optional[float] = None, manner: Optional[Manner] = None) -> None:
+                 ends_after: Optional[float] = None, manner: Optional[Manner] = None, resets: bool = False,
+                 of: Optional[str] = None) -> None:
         self.kind, self.reply, self.close, self.headers, self.decide = kind, reply, close, headers, decide
-        self.holds, self.ends_after, self.manner = holds, ends_after, manner or Manner()
+        self.holds, self.ends_after, self.manner, self.resets = holds, ends_after, manner or Manner(), resets
+        self.of = of
+
+    def fits(self, exchange: Exchange) -> bool:
+        return self.kind == exchange.kind and self.of in (None, exchange.request_id)
 
     @property
     def stands_in(self) -> bool:
@@ -172,7 +178,8 @@ class Rule:
         if self.holds:
             return "did not answer it"
         if self.ends_after is not None:
-            return f"ended the connection after {self.ends_after:g} s without an answer"
+            how = "reset" if self.resets else "ended"
+            return f"{how} the connection after {self.ends_after:g} s without an answer"
         if self.reply or self.decide:
             return f"answered it {exchange.status}"
         return "ended the connection after the answer"

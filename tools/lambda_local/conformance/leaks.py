@@ -1,11 +1,10 @@
 """Whether what a process holds stops growing: it is looked at after each part of a long run of the same requests."""
-import os
-import tempfile
 import time
 from math import inf
-from typing import Callable, Dict, Iterator, List, NamedTuple, Optional, Tuple
+from typing import Callable, Dict, List, NamedTuple, Optional, Tuple
 
 from .clock import CLOCK
+from .files import Files
 from .kit import FAIL, NOTE, PASS
 from .process import Holds, Process
 from .stage import Stage
@@ -24,9 +23,6 @@ LONG = 3  # times as many requests as asked for, of which a collector has surely
 MANY = 400  # requests; what memory grows by in fewer says nothing
 CALM = 0.25  # of the requests so far, in which memory has not grown when it has stopped
 STRETCHED = 3  # times as long at most, on a busy machine
-READ = 200_000  # bytes of a file that are searched
-FILE = 1000  # bytes of a file that may be one for each request; a larger one is a payload
-LEFT = 5  # files, from which on they are one for each
 
 
 class Look(NamedTuple):
@@ -143,7 +139,7 @@ class Looks:
         return self.grows(STEADY) or self.grows(CREEPING)
 
 
-def repeat(process: Process, once: Callable[[int], None], course: Course, files: "Optional[Files]" = None) -> Looks:
+def repeat(process: Process, once: Callable[[int], None], course: Course, files: Optional[Files] = None) -> Looks:
     """Calls `once` with the numbers from 0 on. Returns what the process held; `files` looks as often."""
     looks, done, begun = Looks(process), 0, CLOCK.now()
     part = max(1, min(PART, course.wanted // (4 * LEAST_PARTS)))
@@ -199,90 +195,3 @@ def judge_memory(stage: Stage, looks: Looks, little: Optional[Looks], name: str,
     if looks.done < min(wanted, MANY) or done < max(wanted, MANY):
         return stage.note(name, f"no more than {done} invocations in the time there is: {looks.memory()}")
     return stage.check(name, True, "", looks.memory())
-
-
-# ---- files -----------------------------------------------------------------------------------------------------------
-
-class Files:
-    """What a process leaves in the folder for temporary files, which is its own, and in others, in which what is its
-    own has one of these marks in its name or in it: only the tested program knows these. `each` are the bytes for each
-    request by which a single file grows that is not to."""
-
-    def __init__(self, stage: Stage, marks: Callable[[], List[bytes]], each: int = FILE) -> None:
-        self._stage, self._marks, self._each, self._since = stage, marks, each, time.time() - 1
-        self._looks: List[Tuple[int, int, int]] = []  # requests, and entries and bytes of its own folder
-
-    def look(self, done: int) -> None:
-        sizes = [size_of(entry) for entry in below(self._stage.environment.folder)]
-        self._looks.append((done, len(sizes), sum(sizes)))
-
-    def judge(self, name: str) -> None:
-        """A file for each request fills the folder in the end; clients of AWS's own leave small ones."""
-        quarter = len(self._looks) // 4
-        (first, entries, size), (done, more, larger) = self._looks[quarter], self._looks[-1]
-        elsewhere = self._left_elsewhere()
-        count, total = more - entries + len(elsewhere), larger - size + sum(elsewhere)
-        words = f"{count} files with {total:,} bytes, after {done} invocations"
-        has_many = count >= LEFT
-        if total > (FILE * count if has_many else self._each * max(done - first, LEFT)):
-            return self._stage.jury.judge(name, FAIL, words)
-        if has_many:
-            return self._stage.should(name, words)
-        return self._stage.check(name, True, "", f"{max(count, 0)} left")
-
-    def _left_elsewhere(self) -> List[int]:
-        """The sizes of the files of other folders, written since it began."""
-        marks, sizes = self._marks(), []
-        for folder in self._folders():
-            for entry in entries_of(folder):
-                try:
-                    found = entry.stat(follow_symlinks=False)
-                    if found.st_mtime >= self._since and found.st_uid == os.getuid() and has_a_mark(entry, marks):
-                        sizes.append(found.st_size)
-                except OSError:
-                    continue
-        return sizes
-
-    def _folders(self) -> List[str]:
-        own = self._stage.environment.folder
-        named = {tempfile.gettempdir(), "/tmp", "/var/tmp", "/dev/shm", os.getcwd()}
-        return sorted(folder for folder in named if folder != own and os.path.isdir(folder))
-
-
-def has_a_mark(entry: os.DirEntry[str], marks: List[bytes]) -> bool:
-    if any(mark in os.fsencode(entry.name) for mark in marks):
-        return True
-    if not entry.is_file(follow_symlinks=False):
-        return False
-    with open(entry.path, "rb") as file:
-        content = file.read(READ)
-    return any(mark in content for mark in marks)
-
-
-def size_of(entry: os.DirEntry[str]) -> int:
-    try:
-        return entry.stat(follow_symlinks=False).st_size if entry.is_file(follow_symlinks=False) else 0
-    except OSError:
-        return 0
-
-
-def below(folder: str) -> Iterator[os.DirEntry[str]]:
-    """All entries below a folder."""
-    try:
-        for entry in os.scandir(folder):
-            yield entry
-            if entry.is_dir(follow_symlinks=False):
-                yield from below(entry.path)
-    except OSError:
-        return
-
-
-def entries_of(folder: str) -> Iterator[os.DirEntry[str]]:
-    """The entries of a folder, and of those in it."""
-    for entry in os.scandir(folder):
-        yield entry
-        try:
-            if entry.is_dir(follow_symlinks=False):
-                yield from os.scandir(entry.path)
-        except OSError:
-            continue

@@ -107,15 +107,16 @@ class Proxy:
             change()
             self.changed.notify_all()
 
-    def take_rule(self, kind: str) -> Optional[Rule]:
-        """The rule for a request of this kind, if there is one."""
+    def take_rule(self, exchange: Exchange) -> Optional[Rule]:
+        """The rule for this request, if there is one."""
         with self.changed:
-            if self.rule and self.rule.kind == kind:
+            if self.rule and self.rule.fits(exchange):
                 rule, self.rule = self.rule, None
                 if self.then:
                     self.always[self.then.kind] = self.then
                 return rule
-            return self.always.get(kind)
+            found = self.always.get(exchange.kind)
+            return found if found and found.fits(exchange) else None
 
 
 class Link:
@@ -181,8 +182,13 @@ class Link:
         if side is not self.client:
             self.note_reset()
         if other:
-            other.setsockopt(socket.SOL_SOCKET, socket.SO_LINGER, struct.pack("ii", 1, 0))
+            self.reset(other)
         return False
+
+    @staticmethod
+    def reset(side: socket.socket) -> None:
+        """Its end will be a reset."""
+        side.setsockopt(socket.SOL_SOCKET, socket.SO_LINGER, struct.pack("ii", 1, 0))
 
     def note_reset(self) -> None:
         """The service has reset the connection: if that was within a request, the reply may not be seen."""
@@ -253,7 +259,7 @@ class Link:
         if not REQUEST.match(request.start):
             self.note_behind(request.raw_head)
         exchange = Exchange(self.number, self.peer, request)
-        exchange.by_rule = self.proxy.take_rule(exchange.kind)
+        exchange.by_rule = self.proxy.take_rule(exchange)
         self.proxy.note(lambda: self.proxy.add(exchange))
         return exchange
 
@@ -278,6 +284,8 @@ class Link:
             return True
         if rule.ends_after is not None:
             time.sleep(rule.ends_after)
+            if rule.resets:
+                self.reset(self.client)
             return False
         data = rule.bytes(self.exchange)
         reply = self.reply = Message()

@@ -3,6 +3,7 @@ from math import inf
 from typing import List
 
 from .. import leaks, pages
+from ..files import Files
 from ..kit import NOTE, Missing, Scenario, deed, scenarios_of
 from .stage import ExtensionStage
 
@@ -42,7 +43,7 @@ def many_events(stage: ExtensionStage) -> None:
     def marks() -> List[bytes]:
         told = [event["requestId"].encode() for event in map(stage.body_of, stage.events("INVOKE")[-200:])]
         return [stage.identifier.encode(), *told]
-    files, requests = leaks.Files(stage, marks), stage.environment.proxy.exchanges
+    files, requests = Files(stage, marks), stage.environment.proxy.exchanges
     before = len(requests)
     try:
         looks = leaks.repeat(process, once, course, files)

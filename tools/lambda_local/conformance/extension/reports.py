@@ -32,9 +32,10 @@ def reports(stage: ExtensionStage, name: str, kind: str) -> None:
     stray = [one for one in environment.proxy.of(*ROUTES) if one.kind != kind or (one.refused and one is not exchange)]
     if stray:
         return stage.check(name, False, deed(f"it sends its report, or another request, elsewhere: {stray[0]}"))
+    if exchange is None and environment.process.ended and not stage.events("SHUTDOWN"):
+        return stage.check(name, False, f"it fails as CONFORMANCE_FAILS asks, and reports nothing: {stage.ended()}")
     if exchange is None:
-        return stage.note(name, f"it makes no such report, though CONFORMANCE_FAILS asks for one: "
-                                f"{environment.process.how_it_ended()}")
+        return stage.note(name, "it does not fail, though CONFORMANCE_FAILS asks for that")
     header, report = exchange.request.headers.get(FAILURE_TYPE.lower()), exchange.json()
     faults = []
     if not header:
@@ -51,7 +52,7 @@ def reports(stage: ExtensionStage, name: str, kind: str) -> None:
 @scenario(
     ("init_error", pages.EXTENSION_INIT_ERROR,
      "if it fails after its registration (CONFORMANCE_FAILS=init asks for that) it sends init/error, with "
-     f"{FAILURE_TYPE}, \"errorMessage\" and \"errorType\", and exits; one that never does so is a NOTE"),
+     f"{FAILURE_TYPE}, \"errorMessage\" and \"errorType\", and exits; one that does not know the variable is a NOTE"),
     variables={"CONFORMANCE_FAILS": "init"})
 def failing_init(stage: ExtensionStage) -> None:
     stage.start()
@@ -63,7 +64,7 @@ def failing_init(stage: ExtensionStage) -> None:
 @scenario(
     ("exit_error", pages.EXTENSION_EXIT_ERROR,
      "if it fails later (CONFORMANCE_FAILS=exit asks for that at its first event) it sends exit/error in the same way, "
-     "and exits; one that never does so is a NOTE"),
+     "and exits; one that does not know the variable is a NOTE"),
     variables={"CONFORMANCE_FAILS": "exit"})
 def failing_later(stage: ExtensionStage) -> None:
     stage.begin()

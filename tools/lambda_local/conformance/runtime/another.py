@@ -7,6 +7,7 @@ from ..kit import FAIL, PASS, SHOULD, Finding, Missing, Scenario, deed, scenario
 from ..manners import Manner
 from ..exchanges import Exchange, Rule
 from ..stage import Stage, shown
+from .payloads import delivered
 
 SCENARIOS: List[Scenario] = []
 scenario = scenarios_of(SCENARIOS)
@@ -22,10 +23,8 @@ MANY = (("Connection", "keep-alive"), ("Keep-Alive", "timeout=60"), ("Date", "Sa
         ("X-Amzn-Trace-Id", "Root=1-0-0"), ("X-Request-Id", "another"), ("Server", "another"),
         ("X-Long", "x" * 3000), ("X-Empty", ""))
 CUT_BODY = b'{"do":"echo","value":"this event is cut short"}'
-CUT = Rule("next", reply=(200, CUT_BODY), manner=Manner(cut=len(CUT_BODY) - 12), headers=(
-    ("Lambda-Runtime-Aws-Request-Id", "00000000-0000-4000-8000-00000000c001"),
-    ("Lambda-Runtime-Deadline-Ms", "4102444800000"), ("Lambda-Runtime-Trace-Id", TRACE),
-    ("Lambda-Runtime-Invoked-Function-Arn", "arn:aws:lambda:us-east-1:123456789012:function:f")))
+CUT = Rule("next", reply=(200, CUT_BODY), manner=Manner(cut=len(CUT_BODY) - 12),
+           headers=delivered("00000000-0000-4000-8000-00000000c001"))
 TIMEOUT = 6  # seconds
 HALF = 4  # of the ways, which are played beside the others
 WAITS = 0.3  # seconds after which a poll's connection ends
@@ -153,14 +152,20 @@ def goes_on(stage: Stage, name: str, exchange: Exchange, since: str) -> None:
 
 @scenario(
     ("lost_poll", pages.RETRYING,
-     "if the connection ends while Next waits, it asks again, or ends: it waits for no answer that cannot come"))
+     "if the connection ends while Next waits, by its end or by a reset, it asks again, on a new one; one that ends "
+     "itself is a SHOULD, and one that waits for an answer that cannot come is wrong"))
 def lost_poll(stage: Stage) -> None:
-    proxy = stage.environment.proxy
-    stage.idle()
-    proxy.rule = Rule("next", ends_after=WAITS)
-    stage.output({"do": "echo", "value": 1})
-    proxy.wait(lambda: any(one.by_rule for one in proxy.exchanges), ASKS)
-    lost = next((one for one in proxy.of("next") if one.by_rule), None)
-    if lost is None:
-        raise Missing("it did not ask for a second invocation")
-    goes_on(stage, "lost_poll", lost, "the connection of its Next ended")
+    for number, rule in enumerate((Rule("next", ends_after=WAITS), Rule("next", ends_after=WAITS, resets=True)), 1):
+        proxy = stage.environment.proxy
+        stage.idle()
+        proxy.rule = rule
+        stage.output({"do": "echo", "value": number})
+        proxy.wait(lambda: sum(bool(one.by_rule) for one in proxy.exchanges) >= number, ASKS)
+        lost = [one for one in proxy.of("next") if one.by_rule][number - 1:]
+        if not lost:
+            raise Missing("it did not ask for a further invocation")
+        since = f"the connection of its Next {'was reset' if rule.resets else 'ended'}"
+        process = stage.environment.process
+        goes_on(stage, "lost_poll", lost[0], since)
+        if process.ended:
+            stage.should("lost_poll", f"{since}, and {process.how_it_ended()}")

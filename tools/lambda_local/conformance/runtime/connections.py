@@ -86,7 +86,8 @@ def kept_alive(stage: Stage) -> None:
 
 @scenario(
     ("connection_end", pages.RETRYING,
-     "if its peer ends the connection, while the handler works or after a response, it goes on with a new one"))
+     "if its peer ends the connection, while the handler works or after a response, it goes on with a new one; one "
+     "that ends itself as it asks for its next invocation is a SHOULD"))
 def connection_ends(stage: Stage) -> None:
     environment = stage.environment
     stage.idle()
@@ -113,8 +114,8 @@ def ends_after_response(stage: Stage) -> None:
     ended = process.wait(LOOKS_UP)
     fault = fault_after(stage, "after the connection's end")
     if ended and not fault:
-        return stage.note("connection_end", f"{process.how_it_ended()} when the connection ended as it asked for its "
-                                            "next invocation")
+        return stage.should("connection_end", f"{process.how_it_ended()} when the connection ended as it asked for its "
+                                              "next invocation")
     return stage.check("connection_end", not fault, fault)
 
 

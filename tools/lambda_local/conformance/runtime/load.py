@@ -6,6 +6,7 @@ from typing import List, Optional
 from .. import leaks, pages
 from ..again import MESSAGE, TYPE, usable
 from ..clock import CLOCK
+from ..files import Files
 from ..kit import NOTE, Missing, Scenario, deed, scenarios_of
 from ..stage import Stage, compact, shown
 
@@ -50,7 +51,7 @@ def thousands(stage: Stage) -> None:
         if answer.failed != fails or (not fails and answer.value != text):
             raise Missing(f"invocation {number + 1} gave its caller {shown(answer.body)}")
 
-    def asked(filling: str, course: leaks.Course, files: Optional[leaks.Files] = None) -> leaks.Looks:
+    def asked(filling: str, course: leaks.Course, files: Optional[Files] = None) -> leaks.Looks:
         if given:
             course = leaks.Course(given, inf, given, 0, course.suspects)
         return leaks.repeat(stage.environment.process, lambda number: ask(number, filling), course, files)
@@ -58,7 +59,7 @@ def thousands(stage: Stage) -> None:
     def marks() -> List[bytes]:
         delivered = [one.delivered for one in stage.environment.proxy.of("next")[-200:] if one.delivered]
         return [mark.encode(), *map(str.encode, delivered)]
-    files = leaks.Files(stage, marks, PAYLOAD // 5)
+    files = Files(stage, marks, PAYLOAD // 5)
     try:
         looks = asked("x" * PAYLOAD, leaks.Course(INVOCATIONS, SECONDS_WITH, MOST, PATIENCE, leaks.SUSPECT), files)
         left = max(SECONDS - SECONDS_WITH, begun + SECONDS - CLOCK.now())

@@ -1,13 +1,13 @@
 """Payloads: what the handler receives, and what its caller receives."""
 import decimal
 import json
-from typing import Any, Dict, List
+from typing import Any, Dict, List, Tuple
 
 from .. import pages
 from ..again import fault_after
 from ..kit import Missing, Scenario, deed, scenarios_of
 from ..manners import Manner
-from ..exchanges import Exchange, as_json
+from ..exchanges import Exchange, Rule, as_json
 from ..stage import Answer, Event, Stage, compact, shown
 
 SCENARIOS: List[Scenario] = []
@@ -51,6 +51,12 @@ KINDS: Dict[str, Any] = {
     "same": {"same": {"same": [{"same": 1}, {"same": 2}]}}, "equal": [{"a": ["b", {}]}, {"a": ["b", {}]}],
     "mixed": [1, "1", True, "true", None, "null", 1.5, "1.5"],
 }
+LIKE_ERRORS: Tuple[Any, ...] = (
+    {"errorMessage": "no cheese left", "errorType": "OutOfCheese"}, {"errorMessage": "no cheese left"},
+    {"statusCode": 500, "errorMessage": "no cheese left", "errorType": "OutOfCheese", "stackTrace": []})
+HALF_REQUEST = "00000000-0000-4000-8000-00000000a001"
+HALF_EVENT = b'{"do":"echo","value":"half \\ud800 of a pair"}'
+ANSWERS_WITHIN = 6  # seconds
 # Texts that are outputs by themselves, and look like JSON, or like nothing.
 ALONE = ('{"a":[1,null]}', "[1, 2]", "null", "true", "17", '"quoted"', "2024-01-15T10:30:00Z", " both ", "one\ntwo",
          "{")
@@ -153,7 +159,7 @@ def nested(stage: Stage) -> None:
 @scenario(
     ("numbers", pages.JSON_NUMBERS,
      "numbers are returned as they were written, or at least with the same value as binary64, or to 13 digits of it (a "
-     "NOTE)"))
+     "NOTE); whole numbers beyond 2^53 that come rounded, as in JavaScript, are a SHOULD"))
 def numbers(stage: Stage) -> None:
     sent = "[" + ",".join(NUMBERS) + "]"
     answer = stage.invoke(b'{"do":"echo","value":' + sent.encode() + b"}")
@@ -166,6 +172,9 @@ def numbers(stage: Stage) -> None:
     except (ValueError, TypeError):
         return stage.check("numbers", False, answer.came())
     changed = [f"{before} came as {after}" for before, after in pairs if before != after]
+    rounded = [f"{before} came as {after}" for before, after in pairs if is_rounded(before, after)]
+    if rounded and all(is_near(before, after) for before, after in pairs):
+        return stage.should("numbers", f"whole numbers beyond 2^53 are rounded: {', '.join(rounded)}")
     if all(float(before) == float(after) for before, after in pairs):
         return stage.note("numbers", "the same as binary64, written otherwise: " + ", ".join(changed))
     if all(is_near(before, after) for before, after in pairs):
@@ -177,6 +186,11 @@ def is_near(before: str, after: str) -> bool:
     """Whether a number is the same to a few digits. (The greatest one is beyond binary64, if its last digits are.)"""
     wanted = decimal.Decimal(before)
     return float(before) == float(after) or abs(decimal.Decimal(after) - wanted) <= PRECISION * abs(wanted)
+
+
+def is_rounded(before: str, after: str) -> bool:
+    """Whether a whole number came as another one."""
+    return before.lstrip("-").isdigit() and decimal.Decimal(before) != decimal.Decimal(after)
 
 
 class Written(str):
@@ -221,6 +235,54 @@ def events_one_after_the_other(stage: Stage) -> None:
     received(stage, "events_apart", {"do": "echo", "value": 2}, 2)
     received(stage, "events_apart", {"do": "echo"}, None)
     received(stage, "events_apart", {"a": 1}, {"a": 1})
+
+
+@scenario(
+    ("output_like_error", pages.RESPONSE,
+     "an output that has \"errorMessage\" and \"errorType\" is sent to response all the same: the handler returned it"))
+def outputs_like_errors(stage: Stage) -> None:
+    for value in LIKE_ERRORS:
+        before = len(stage.environment.proxy.of("error"))
+        answer = stage.invoke({"do": "echo", "value": value})
+        sent = [one for one in stage.environment.proxy.of("error")[before:] if not one.refused]
+        stage.check("output_like_error", not sent and not answer.failed and is_json(answer.body, value),
+                    deed(f"the output {shown(value)} is sent as an error: {sent[0]}") if sent else answer.came())
+
+
+@scenario(
+    ("half_characters", pages.JSON_CHARACTERS,
+     "an event with half of a surrogate pair (\\ud800), which JSON's grammar has and no character is, gives an output "
+     "or an error, and the next invocations are right; one that ends for it is a SHOULD"))
+def half_of_a_pair(stage: Stage) -> None:
+    """(The service takes no such event from a caller, as `serde_json` does not: the proxy delivers it.)"""
+    proxy = stage.environment.proxy
+    stage.idle()
+    for kind in ("response", "error"):
+        proxy.always[kind] = Rule(kind, reply=(202, b'{"status":"OK"}'), of=HALF_REQUEST)
+    proxy.rule = Rule("next", reply=(200, HALF_EVENT), headers=delivered(HALF_REQUEST))
+    stage.output({"do": "echo", "value": 1})
+    proxy.wait(lambda: answers_to(stage, HALF_REQUEST) or stage.environment.process.ended, ANSWERS_WITHIN)
+    process = stage.environment.process
+    if not answers_to(stage, HALF_REQUEST) and not process.ended:
+        return stage.check("half_characters", False, f"{ANSWERS_WITHIN} s later it has sent neither an output nor an "
+                                                     "error")
+    sent = answers_to(stage, HALF_REQUEST)
+    fault = fault_after(stage, "after half a character")
+    if not fault and process.ended:
+        return stage.should("half_characters", f"{process.how_it_ended()}, "
+                                               f"{'after its answer' if sent else 'without an answer'}")
+    return stage.check("half_characters", not fault, fault, f"it sent {sent[0].kind if sent else 'nothing'}")
+
+
+def answers_to(stage: Stage, request: str) -> List[Exchange]:
+    return [one for one in stage.environment.proxy.of("response", "error") if one.request_id == request and one.ended]
+
+
+def delivered(request: str) -> Tuple[Tuple[str, str], ...]:
+    """The headers with which an invocation of the proxy's own is delivered."""
+    return (("Lambda-Runtime-Aws-Request-Id", request), ("Lambda-Runtime-Deadline-Ms", "4102444800000"),
+            ("Lambda-Runtime-Trace-Id", "Root=1-5759e98d-bd862e3fe1be46a994272793;Parent=53995c3f42cd8ad8;Sampled=1"),
+            ("Lambda-Runtime-Invoked-Function-Arn", "arn:aws:lambda:us-east-1:123456789012:function:f"))
 
 
 @scenario(
