@@ -8,14 +8,16 @@ import re
 import shutil
 import subprocess
 
-from tests.library import edits, refusals
-from tests.library.gate_record import SCRATCH, line_of
+from tests.library import edits, refusals, speeds
+from tests.library.gate_record import MARK, SCRATCH, line_of, with_costs
 from tests.library.page_facts import pages_of, text_of
 from tests.library.refusals import git
 
 MEASURED = re.compile(r"^<!-- measured at ([0-9a-f]{7,40}) -->$", re.M)
 SOURCES = ("src", "specs", "proofs")
-OLDEST = 30  # commits that changed sources of crates, after which what the gate does not run is run again for a release
+# Commits that changed sources of crates, after which for a release the edits are tried again, and figures measured:
+# that takes a machine that does little else.
+OLDEST, OLDEST_FIGURES = 30, 100
 
 
 def edits_of(root):
@@ -104,27 +106,28 @@ def changes_since(root, commit):
 
 
 def ages(root):
-    """What the gate does not renew: its name, the commit at which it was last run, and what runs it again."""
+    """The figures that nothing counts anew: their page and part, and the commit at which they were measured."""
     for page in pages_of(root):
         for part in re.split(r"^(?=## )", text_of(root, page), flags=re.M):
-            for commit in MEASURED.findall(part):
-                yield f"{page}: {part.split(chr(10))[0].strip('# ')}", commit, "bench/"
+            title = part.split("\n")[0].strip("# ")
+            for commit in MEASURED.findall(part) if title != speeds.PART else ():
+                yield f"{page}: {title}", commit
 
 
-def too_old(root, oldest=OLDEST):
+def too_old(root, oldest=OLDEST, oldest_figures=OLDEST_FIGURES):
     """For each of these its name, and the fault if it is too old for a release, else nothing. (A checkout without its
     whole history cannot tell.)"""
     if git(root, "rev-parse", "--is-shallow-repository") != "false":
         return
     yield old_edits(root, oldest)
-    for name, commit, by in ages(root):
+    for name, commit in ages(root):
         if not is_known(root, commit):
             yield f"{name}: its age", f"it was run at {commit or 'no commit'}, which git does not know"
             continue
         changes = changes_since(root, commit)
-        yield f"{name}: its age", "" if changes <= oldest else (
-            f"last run at {commit}: {changes} commits since changed sources of crates, and {oldest} are the most; "
-            f"{by} renews it")
+        yield f"{name}: its age", "" if changes <= oldest_figures else (
+            f"measured at {commit}: {changes} commits since changed sources of crates, and {oldest_figures} are the "
+            f"most; bench/ renews it")
 
 
 def old_edits(root, oldest):
@@ -145,6 +148,14 @@ def misnoted(root):
         return
     names = set(edits.names_of(root))
     yield from (f"{refusals.NOTED} names {it}, which is not there" for it in table if it not in names)
+
+
+def costs(root, text):
+    """The CPU seconds of crates on a page are those of the record of the last gate from scratch."""
+    if with_costs(text, text_of(root, SCRATCH)) != text:
+        yield f"the CPU seconds below {MARK.strip()} are not those of that record: tests/gate --keep writes them"
+    if MARK not in text:
+        yield f"has no line {MARK.strip()}"
 
 
 def age_of_edits(root):

@@ -8,7 +8,7 @@ import unittest
 from typing import Iterator
 from unittest import mock
 
-from tests.library import evidence, lint, source_facts
+from tests.library import evidence, lint, source_facts, speeds
 from tests.library.cases import Case
 from tests.library.trees import write
 
@@ -112,6 +112,21 @@ class PageChecks(Case):
             found = "".join(evidence.broken_release(self.root))
             self.check(f"a gate of sources {sources}: {words or 'all is well'}",
                        bool(found) == bool(words) and words in found, shown=found)
+
+    def test_a_count_of_instructions(self) -> None:
+        page = "".join(f"# Speed\n\n## {part}\n| **all** | {figure} | 9 |\n" for part, figure in
+                       (("A replay", "7"), ("Instructions", "60,000"), ("Scale", "8")))
+        self.check("the page's", speeds.of_page(page), 60000)
+        for counted, words in ((60000, ""), (57001, ""), (62999, ""), (63001, "1.05 of the 60,000"), (50000, "0.83")):
+            found = speeds.fault(60000, counted)
+            self.check(f"{counted} beside 60,000", bool(found) == bool(words) and words in found, shown=found)
+        self.check("none on the page", "tells no instructions" in speeds.fault(speeds.of_page("# Speed\n"), 60000))
+        script = 'while [ "$1" != --json ]; do shift; done; {} >"$2"'
+        for made, wanted in (('echo \'[{"instructions": 7}]\'', 7), ("echo", None), ("exit 3", None)):
+            write(f"{self.root}/bench/serve/instructions", f"#!/bin/sh\n{script.format(made)}\n".encode(), 0o755)
+            with mock.patch.object(speeds, "NEEDS", ()):
+                counted, why = speeds.count(self.root, "/nowhere")
+            self.check(f"a count by {made}", (counted, bool(why)), (wanted, wanted is None))
 
     @contextlib.contextmanager
     def linter(self, name: str, script: str) -> Iterator[None]:
