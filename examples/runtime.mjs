@@ -13,8 +13,8 @@
 // AWS_LAMBDA_LOG_LEVEL the lowest level that is printed.
 import { spawnSync } from "node:child_process";
 import fs from "node:fs";
-import http from "node:http";
 import { createRequire } from "node:module";
+import net from "node:net";
 import path from "node:path";
 import { Writable } from "node:stream";
 import { finished } from "node:stream/promises";
@@ -23,7 +23,9 @@ import util from "node:util";
 
 const RUNTIME = "/2018-06-01/runtime/";
 // In characters: a report of more than 6 MiB is refused, and its caller waits for the timeout.
-const MESSAGE_LIMIT = 100_000;
+const [MESSAGE_LIMIT, TYPE_LIMIT] = [100_000, 1000];
+
+const NO_ROOT = "Root=1-00000000-000000000000000000000000";
 
 const words = process.argv.slice(2);
 const isAddress = (word) => /:\d+$/.test(word);
@@ -44,32 +46,174 @@ class RuntimeFault extends Error {
 
 // --- the Runtime API ---
 
-// (no timeout: a Next waits as long as no one invokes)
-const agent = new http.Agent({ keepAlive: true, maxSockets: 1 });
+const STATUS_LINE = /^HTTP\/1\.([01]) ([1-9][0-9]{2})(?: [\t -~\x80-\xff]*)?$/;
+const FIELD = /^([!#$%&'*+.^_`|~0-9A-Za-z-]+):([\t -~\x80-\xff]*)$/;
+const CHUNK = /^([0-9A-Fa-f]{1,8})(?:[ \t]*;[\t -~\x80-\xff]*)?$/;
+const [MOST_OF_HEAD, MOST_OF_BODY] = [64 << 10, 16 << 20]; // bytes; an event has at most 6 MiB
+const MOST_LINES = 100; // heads before the one that counts, and trailers
+
+// What no Runtime API answers.
+class WrongAnswer extends Error {}
+
+// What came of an answer and was not taken yet. What takes of it waits by `yield` for more.
+class Bytes {
+  constructor() {
+    [this.parts, this.size, this.hasEnded] = [[], 0, false];
+  }
+
+  push(part) {
+    this.parts.push(part);
+    this.size += part.length;
+  }
+
+  // The first bytes, without those that follow them and are left out.
+  take(count, leftOut = 0) {
+    const whole = this.parts.length === 1 ? this.parts[0] : Buffer.concat(this.parts);
+    [this.parts, this.size] = [[whole.subarray(count + leftOut)], whole.length - count - leftOut];
+    return whole.subarray(0, count);
+  }
+
+  // What comes before this mark.
+  *until(mark) {
+    for (;;) {
+      if (this.parts.length > 1) this.parts = [Buffer.concat(this.parts)];
+      const at = this.size ? this.parts[0].indexOf(mark) : -1;
+      if (at >= 0) return this.take(at, mark.length).toString("latin1");
+      if (this.size > MOST_OF_HEAD) throw new WrongAnswer(`it has more than ${MOST_OF_HEAD} bytes without an end`);
+      yield* this.more();
+    }
+  }
+
+  *exactly(count) {
+    if (count > MOST_OF_BODY) throw new WrongAnswer(`it has more than ${MOST_OF_BODY} bytes`);
+    while (this.size < count) yield* this.more();
+    return this.take(count);
+  }
+
+  // All up to the connection's end.
+  *rest() {
+    while (!this.hasEnded && this.size <= MOST_OF_BODY) yield;
+    return yield* this.exactly(this.size);
+  }
+
+  *more() {
+    if (this.hasEnded) throw new Error("the connection has ended before the answer");
+    yield;
+  }
+}
+
+// An answer of HTTP/1.1 (RFC 9112).
+function* answerFrom(bytes) {
+  for (let n = 0; n < MOST_LINES; n += 1) {
+    const { version, status, headers } = headOf(yield* bytes.until("\r\n\r\n"));
+    if (status >= 200) { // (others, such as 100 Continue, come before the answer)
+      const text = (yield* bodyOf(bytes, headers)).toString();
+      const closes = version === "0" || headers.connection?.toLowerCase() === "close" || bytes.hasEnded || bytes.size;
+      return { status, headers, text, isKept: !closes };
+    }
+  }
+  throw new WrongAnswer("it has no end of heads");
+}
+
+function headOf(text) {
+  const [first, ...lines] = text.split("\r\n");
+  const [found, headers] = [STATUS_LINE.exec(first), Object.create(null)];
+  if (!found) throw new WrongAnswer(`it begins with ${JSON.stringify(first.slice(0, 80))}`);
+  for (const line of lines) {
+    const field = FIELD.exec(line);
+    const name = field?.[1].toLowerCase();
+    if (!field || (name in headers && ["content-length", "transfer-encoding"].includes(name))) {
+      throw new WrongAnswer(`its head has the line ${JSON.stringify(line.slice(0, 80))}`);
+    }
+    headers[name] ??= field[2].replace(/^[ \t]+/, "").trimEnd();
+  }
+  return { version: found[1], status: Number(found[2]), headers };
+}
+
+function* bodyOf(bytes, headers) {
+  const [length, coding] = [headers["content-length"], headers["transfer-encoding"]];
+  if (length === undefined && coding === undefined) return yield* bytes.rest();
+  if (coding === undefined && /^[0-9]{1,9}$/.test(length)) return yield* bytes.exactly(Number(length));
+  if (length === undefined && coding.toLowerCase() === "chunked") return yield* chunksOf(bytes);
+  throw new WrongAnswer(`it has the length ${length} and the transfer coding ${coding}`);
+}
+
+function* chunksOf(bytes) {
+  for (let [chunks, size] = [[], 0]; size <= MOST_OF_BODY;) {
+    const count = parseInt(CHUNK.exec(yield* bytes.until("\r\n"))?.[1] ?? "none", 16);
+    if (Number.isNaN(count)) break;
+    if (count === 0) { // (trailers follow, up to an empty line)
+      for (let n = 0; n < MOST_LINES; n += 1) if ((yield* bytes.until("\r\n")) === "") return Buffer.concat(chunks);
+      break;
+    }
+    chunks.push(yield* bytes.exactly(count));
+    size += count;
+    if ((yield* bytes.exactly(2)).toString("latin1") !== "\r\n") break;
+  }
+  throw new WrongAnswer("its chunks are malformed, or too many");
+}
+
+// A connection over a socket of its own: with node:http an exchange takes three times as long. It is kept, and keeps
+// the process only while an answer is awaited, which has no timeout: a Next waits as long as no one invokes.
+class Connection {
+  constructor() {
+    const at = ADDRESS.lastIndexOf(":");
+    this.socket = net.connect({ host: ADDRESS.slice(0, at), port: ADDRESS.slice(at + 1), noDelay: true });
+    this.bytes = new Bytes();
+    this.socket.on("data", (part) => { this.bytes.push(part); this.goOn(); });
+    this.socket.on("end", () => { this.bytes.hasEnded = true; this.goOn(); });
+    this.socket.on("error", (fault) => this.end(fault));
+    this.socket.on("close", () => this.end(new Error("the connection has ended before the answer")));
+  }
+
+  exchange(request) {
+    this.socket.ref();
+    this.answer = answerFrom(this.bytes);
+    return new Promise((resolve, reject) => {
+      [this.resolve, this.reject] = [resolve, reject];
+      this.socket.write(request);
+    });
+  }
+
+  goOn() {
+    if (!this.answer) return this.end(); // it comes without a request, or has ended
+    try {
+      const { done, value } = this.answer.next();
+      if (!done) return undefined;
+      [this.answer, hasAnswered] = [undefined, true];
+      this.resolve(value);
+      if (!value.isKept || this.socket.writableLength) return this.end();
+      return this.socket.unref();
+    } catch (fault) {
+      return this.end(fault);
+    }
+  }
+
+  end(fault) {
+    if (connection === this) connection = undefined;
+    if (this.answer) this.reject(fault);
+    this.answer = undefined;
+    this.socket.destroy();
+  }
+}
+
+let connection;
 let hasAnswered = false;
 
 // A connection is closed if it asks nothing for a while, and a handler may take longer: then a new one asks.
 async function ask(...request) {
-  return askOnce(...request).catch(() => askOnce(...request));
+  return askOnce(...request).catch((fault) => {
+    if (fault instanceof WrongAnswer) throw fault;
+    return askOnce(...request);
+  });
 }
 
-function askOnce(method, route, body = "", headers = {}) {
-  const [host, port] = [ADDRESS.slice(0, ADDRESS.lastIndexOf(":")), ADDRESS.slice(ADDRESS.lastIndexOf(":") + 1)];
-  const length = method === "POST" ? { "Content-Length": Buffer.byteLength(body) } : {};
-  const options = { host, port, method, path: RUNTIME + route, agent, headers: { ...headers, ...length } };
-  return new Promise((resolve, reject) => {
-    const request = http.request(options, (reply) => {
-      const parts = [];
-      reply.on("data", (part) => parts.push(part));
-      reply.on("error", reject);
-      reply.on("end", () => {
-        hasAnswered = true;
-        resolve({ status: reply.statusCode, headers: reply.headers, text: Buffer.concat(parts).toString() });
-      });
-    });
-    request.on("error", reject);
-    request.end(body);
-  });
+async function askOnce(method, route, body = "", headers = {}) {
+  const lines = [`${method} ${RUNTIME}${route} HTTP/1.1`, `Host: ${ADDRESS}`];
+  if (method === "POST") lines.push(`Content-Length: ${Buffer.byteLength(body)}`);
+  for (const [name, value] of Object.entries(headers)) lines.push(`${name}: ${value}`);
+  connection ??= new Connection();
+  return connection.exchange(`${lines.join("\r\n")}\r\n\r\n${body}`);
 }
 
 async function post(kind, id, body, headers) {
@@ -135,30 +279,42 @@ function tell(text) {
 
 // --- what went wrong ---
 
-// As Lambda's Node runtime reports it.
+// As Lambda's Node runtime reports it, whatever was thrown.
 function reportOf(fault) {
-  const cut = (text) => String(text).slice(0, MESSAGE_LIMIT);
-  if (!util.types.isNativeError(fault)) return { errorType: typeof fault, errorMessage: cut(fault), trace: [] };
-  return { errorType: fault.name, errorMessage: cut(fault.message), trace: cut(fault.stack).split("\n") };
+  const cut = (told) => {
+    try {
+      return String(told()).slice(0, MESSAGE_LIMIT);
+    } catch {
+      return "(it cannot be had)";
+    }
+  };
+  if (!util.types.isNativeError(fault)) return { errorType: typeof fault, errorMessage: cut(() => fault), trace: [] };
+  const [errorType, errorMessage] = [cut(() => fault.name), cut(() => fault.message)];
+  return { errorType, errorMessage, trace: cut(() => fault.stack).split("\n") };
 }
 
-// Its type as a header: a category and a reason, such as Runtime.TypeError, in ASCII.
-function typeHeader(report) {
-  const type = String(report.errorType).replace(/[^ -~]/g, "?");
+// Its type as a header: a category and a reason, such as Runtime.TypeError. What no header has, or is very long, is
+// Runtime.Unhandled.
+function typeHeader({ errorType }) {
+  const type = /^[!-~](?:[ -~]*[!-~])?$/.test(errorType) && errorType.length <= TYPE_LIMIT ? errorType : "Unhandled";
   return { "Lambda-Runtime-Function-Error-Type": type.includes(".") ? type : `Runtime.${type}` };
 }
 
-// The trace ends before this program's own frames.
+// The trace ends before this program's own frames. (Whatever is wrong with what was thrown, its report is sent.)
 function printTrace(fault) {
-  let each = fault;
-  for (let depth = 0; util.types.isNativeError(each) && depth < 10; depth += 1) {
-    const lines = String(each.stack).split("\n");
-    const own = lines.findIndex((line) => line.includes(import.meta.url));
-    Reflect.set(each, "stack", (own < 0 ? lines : lines.slice(0, own)).join("\n"));
-    each = each.cause;
+  try {
+    let each = fault;
+    for (let depth = 0; util.types.isNativeError(each) && depth < 10; depth += 1) {
+      const lines = String(each.stack).split("\n");
+      const own = lines.findIndex((line) => line.includes(import.meta.url));
+      Reflect.set(each, "stack", (own < 0 ? lines : lines.slice(0, own)).join("\n"));
+      each = each.cause;
+    }
+    if (LOGS_JSON) console.error(fault);
+    else tell(fault instanceof RuntimeFault ? fault.stack : util.format(fault));
+  } catch {
+    tell("runtime.mjs: what was thrown cannot be printed");
   }
-  if (LOGS_JSON) console.error(fault);
-  else tell(fault instanceof RuntimeFault ? fault.stack : util.format(fault));
 }
 
 // --- the handler ---
@@ -299,6 +455,7 @@ class ResponseStream extends Writable {
       "Transfer-Encoding": "chunked", Trailer: `${ERROR_TYPE}, ${ERROR_BODY}`,
     };
     const route = `${RUNTIME}invocation/${this.id}/response`;
+    const http = require("node:http"); // (which takes a while, and few functions need it)
     this.request = http.request({ host, port, method: "POST", path: route, agent: false, headers });
     this.answered = new Promise((resolve) => {
       this.request.on("error", (fault) => resolve({ status: 0, text: fault.message }));
@@ -400,6 +557,21 @@ async function invoke(handler, text, headers) {
   whenUncaught = (late, status) => { printTrace(late); process.exit(status); };
 }
 
+function idOf(headers) {
+  const id = headers["lambda-runtime-aws-request-id"] ?? "";
+  if (!/^[!-~]+$/.test(id)) throw new WrongAnswer("an invocation has no identifier");
+  return id;
+}
+
+// The trace of an invocation: its caller's; if that gave none (lambda_local then gives a root of zeros), one of its
+// own, made of its identifier. The SDKs of AWS send it with what the handler invokes, which is known by it as the
+// handler's.
+function traceOf(headers) {
+  const [given, digits] = [headers["lambda-runtime-trace-id"], idOf(headers).replaceAll("-", "")];
+  if ((given && !given.startsWith(NO_ROOT)) || !/^[0-9a-f]{32}$/.test(digits)) return given;
+  return `Root=1-${digits.slice(0, 8)}-${digits.slice(8)};Sampled=0`;
+}
+
 async function serve(handler) {
   for (;;) {
     const { status, headers, text } = await ask("GET", "invocation/next");
@@ -409,8 +581,9 @@ async function serve(handler) {
       return;
     } else {
       delete process.env._X_AMZN_TRACE_ID;
-      begin(headers["lambda-runtime-aws-request-id"]);
-      if (headers["lambda-runtime-trace-id"]) process.env._X_AMZN_TRACE_ID = headers["lambda-runtime-trace-id"];
+      begin(idOf(headers));
+      const trace = traceOf(headers);
+      if (trace) process.env._X_AMZN_TRACE_ID = trace;
       await (handler[STREAMS] ? invokeStreaming : invoke)(handler, text, headers);
     }
   }
@@ -424,6 +597,10 @@ async function failInit(fault) {
 }
 
 function tellUnreachable(fault) {
+  if (fault instanceof WrongAnswer) {
+    tell(`runtime.mjs: what ${ADDRESS} answers is not of the Runtime API: ${fault.message}`);
+    return process.exit(1);
+  }
   if (hasAnswered) return process.exit(0); // the service has stopped
   const advice = "start the service first, and name its environment's port";
   tell(`runtime.mjs: no Runtime API at ${ADDRESS}: ${fault.message}: ${advice}`);

@@ -10,21 +10,26 @@ What a handler raises is printed, and reported with its stack. An Init that fail
 with status 1. It ends with 0 once its environment shuts down: start it again then, as Lambda does. What the module
 `logging` gets is printed in Lambda's form: AWS_LAMBDA_LOG_FORMAT is Text or JSON, and AWS_LAMBDA_LOG_LEVEL is the level
 of the root logger."""
+import contextlib
 import decimal
-import http.client
 import inspect
 import json
 import logging
 import os
 import re
 import select
+import socket
 import sys
 import time
 import traceback
 from types import SimpleNamespace
 
 RUNTIME = "/2018-06-01/runtime/"
-MESSAGE_LIMIT = 100_000  # characters: a report of more than 6 MiB is refused, and its caller waits for the timeout
+# Characters, and frames: a report of more than 6 MiB is refused, and its caller waits for the timeout.
+MESSAGE_LIMIT, LINE_LIMIT, MOST_FRAMES = 100_000, 1000, 500
+
+
+NO_ROOT = "Root=1-00000000-000000000000000000000000"
 
 
 class RuntimeFault(Exception):
@@ -35,26 +40,160 @@ class RuntimeFault(Exception):
         self.error_type, self.stack = error_type, list(stack)
 
 
+# ---- the Runtime API -------------------------------------------------------------------------------------------------
+
+STATUS_LINE = re.compile(r"HTTP/1\.([01]) ([1-9][0-9]{2})(?: [\t -~\x80-\xff]*)?")
+FIELD = re.compile(r"([!#$%&'*+.^_`|~0-9A-Za-z-]+):([\t -~\x80-\xff]*)")
+CHUNK = re.compile(rb"([0-9A-Fa-f]{1,8})(?:[ \t]*;[\t -~\x80-\xff]*)?")
+MOST_OF_HEAD, MOST_OF_BODY = 64 << 10, 16 << 20  # bytes; an event has at most 6 MiB
+MOST_LINES = 100  # heads before the one that counts, and trailers
+OF_FRAMING = ("content-length", "transfer-encoding")
+
+
+class WrongAnswer(Exception):
+    """What no Runtime API answers."""
+
+
+class Headers(dict):
+    """By their names, in any case."""
+
+    def __getitem__(self, name):
+        return super().__getitem__(name.lower())
+
+    def __contains__(self, name):
+        return super().__contains__(name.lower())
+
+    def get(self, name, otherwise=None):
+        return super().get(name.lower(), otherwise)
+
+
+class Connection:
+    """An HTTP/1.1 connection (RFC 9112) over a socket of its own: with http.client an exchange takes three times as
+    long, and a start a quarter more."""
+
+    def __init__(self, address):
+        host, _, port = address.rpartition(":")
+        self.address, self.came = address, b""  # (what came and was not taken yet)
+        self.socket = socket.create_connection((host.strip("[]"), int(port)))
+        self.socket.setsockopt(socket.IPPROTO_TCP, socket.TCP_NODELAY, 1)
+
+    def exchange(self, method, path, body, headers):
+        """The status, the headers and the body of the answer to a request, and whether the connection is kept."""
+        lines = [f"{method} {RUNTIME}{path} HTTP/1.1", f"Host: {self.address}"]
+        lines += [f"Content-Length: {len(body)}"] if method == "POST" else []
+        lines += [f"{name}: {value}" for name, value in headers.items()]
+        try:
+            self.socket.sendall("\r\n".join([*lines, "", ""]).encode() + body)
+        except ConnectionError:  # (a response that is too large may be refused before it has come)
+            pass
+        for _ in range(MOST_LINES):
+            version, status, headers = self.head()
+            if status >= 200:  # (others, such as 100 Continue, come before the answer)
+                content = self.body(headers)
+                closes = version == "0" or headers.get("Connection", "").lower() == "close" or self.came
+                return status, headers, content, not closes
+        raise WrongAnswer("it has no end of heads")
+
+    def head(self):
+        first, *lines = self.until(b"\r\n\r\n").decode("latin-1").split("\r\n")
+        found, headers = STATUS_LINE.fullmatch(first), Headers()
+        if not found:
+            raise WrongAnswer(f"it begins with {first[:80]!r}")
+        for line in lines:
+            field = FIELD.fullmatch(line)
+            if not field or field[1].lower() in OF_FRAMING and field[1].lower() in headers:
+                raise WrongAnswer(f"its head has the line {line[:80]!r}")
+            headers.setdefault(field[1].lower(), field[2].strip(" \t"))
+        return found[1], int(found[2]), headers
+
+    def body(self, headers):
+        length, coding = (headers.get(name) for name in OF_FRAMING)
+        if length is None and coding is None:
+            return self.rest()
+        if coding is None and re.fullmatch("[0-9]{1,9}", length):
+            return self.exactly(int(length))
+        if length is None and coding.lower() == "chunked":
+            return b"".join(self.chunks())
+        raise WrongAnswer(f"it has the length {length!r} and the transfer coding {coding!r}")
+
+    def chunks(self):
+        left = MOST_OF_BODY
+        while left >= 0 and (found := CHUNK.fullmatch(self.until(b"\r\n"))):
+            count = int(found[1], 16)
+            if not count:
+                if any(not self.until(b"\r\n") for _ in range(MOST_LINES)):  # (trailers, up to an empty line)
+                    return
+                break
+            yield self.exactly(count)
+            left -= count
+            if self.exactly(2) != b"\r\n":
+                break
+        raise WrongAnswer("its chunks are malformed, or too many")
+
+    def until(self, mark):
+        """What comes before this mark."""
+        while (at := self.came.find(mark)) < 0:
+            if len(self.came) > MOST_OF_HEAD:
+                raise WrongAnswer(f"it has more than {MOST_OF_HEAD} bytes without a line's end")
+            self.came += self.more(MOST_OF_HEAD)
+        found, self.came = self.came[:at], self.came[at + len(mark):]
+        return found
+
+    def exactly(self, count):
+        if count > MOST_OF_BODY:
+            raise WrongAnswer(f"it has more than {MOST_OF_BODY} bytes")
+        parts, size = [self.came], len(self.came)
+        while size < count:
+            parts.append(self.more(count - size))
+            size += len(parts[-1])
+        whole = b"".join(parts)
+        self.came = whole[count:]
+        return whole[:count]
+
+    def rest(self):
+        """All up to the connection's end."""
+        parts, self.came = [self.came, b""], b"closes"
+        while sum(map(len, parts)) <= MOST_OF_BODY:
+            parts.append(self.socket.recv(MOST_OF_HEAD))
+            if not parts[-1]:
+                return b"".join(parts)
+        raise WrongAnswer(f"it has more than {MOST_OF_BODY} bytes")
+
+    def more(self, most):
+        data = self.socket.recv(most)
+        if not data:
+            raise ConnectionError("the connection has ended before the answer")
+        return data
+
+
 class Environment:
     """The Runtime API of one environment, over a connection that is kept; `request` is the identifier of the invocation
     that is being handled."""
 
     def __init__(self, address):
-        self.connection, self.has_answered, self.request = http.client.HTTPConnection(address), False, ""
+        self.address = address if re.fullmatch(r".+:[0-9]+", address) else f"{address}:80"
+        self.connection, self.has_answered, self.request = None, False, ""
 
-    def ask(self, method, path, body=None, headers={}):
+    def ask(self, method, path, body=b"", headers={}):
         for is_last in (False, True):
             try:
-                self.connection.request(method, RUNTIME + path, body, headers)
-                reply = self.connection.getresponse()
-                content = reply.read()
+                self.connection = self.connection or Connection(self.address)
+                status, replied, content, is_kept = self.connection.exchange(
+                    method, path, body.encode() if isinstance(body, str) else body, headers)
                 self.has_answered = True
-                return reply.status, reply.headers, content
-            except (ConnectionError, http.client.HTTPException):
+                if not is_kept:
+                    self.close()
+                return status, replied, content
+            except (OSError, WrongAnswer) as fault:
                 # (a connection that asks nothing is closed after a while, and a handler may take longer)
-                self.connection.close()
-                if is_last:
+                self.close()
+                if is_last or isinstance(fault, WrongAnswer):
                     raise
+
+    def close(self):
+        if self.connection:
+            self.connection.socket.close()
+        self.connection = None
 
 
 class Context:
@@ -236,19 +375,30 @@ def print_trace(fault, report):
     print(*lines, sep="", end="", file=sys.stderr, flush=True)
 
 
-def report_of(fault, request=""):
+def report_of(fault, request):
     """The fault as Lambda's Python runtime reports it."""
     if isinstance(fault, RuntimeFault):
         error_type, stack = fault.error_type, fault.stack
     else:
         error_type, stack = type(fault).__name__, traceback.format_list(traceback.extract_tb(user_stack(fault)))
-    return {"errorMessage": str(fault)[:MESSAGE_LIMIT], "errorType": error_type, "requestId": request,
-            "stackTrace": stack}
+    return {"errorMessage": message_of(fault)[:MESSAGE_LIMIT], "errorType": error_type[:MESSAGE_LIMIT],
+            "requestId": request,
+            "stackTrace": [line[:LINE_LIMIT] for line in stack[-MOST_FRAMES:]]}
+
+
+def message_of(fault):
+    try:
+        return str(fault)
+    except Exception as of_its_own:
+        return f"(its message cannot be had: {type(of_its_own).__name__})"
 
 
 def type_header(report):
-    """The error's type as a header: a category and a reason, such as Runtime.KeyError, in ASCII."""
-    error_type = report["errorType"].encode("ascii", "replace").decode()
+    """The error's type as a header: a category and a reason, such as Runtime.KeyError. What no header has, or is very
+    long, is Runtime.Unhandled."""
+    error_type = report["errorType"]
+    if not re.fullmatch("[!-~](?:[ -~]*[!-~])?", error_type) or len(error_type) > LINE_LIMIT:
+        error_type = "Unhandled"
     return {"Lambda-Runtime-Function-Error-Type": error_type if "." in error_type else f"Runtime.{error_type}"}
 
 
@@ -278,12 +428,27 @@ def outcome(handler, payload, headers):
     try:
         return "response", text_of(handler(read(payload), Context(headers))), {}
     except Exception as fault:
-        report = report_of(fault, headers["Lambda-Runtime-Aws-Request-Id"])
+        return failure(fault, headers["Lambda-Runtime-Aws-Request-Id"])
+
+
+def failure(fault, request):
+    report = report_of(fault, request)
+    with contextlib.suppress(Exception):  # (whatever the handler has done to the streams)
         print_trace(fault, report)
-        return "error", json.dumps(report), type_header(report)
+    return "error", json.dumps(report), type_header(report)
 
 
-def serve(environment, handler, begin):
+def trace_of(request, headers):
+    """The trace of an invocation: its caller's; if that gave none (lambda_local then gives a root of zeros), one of its
+    own, made of its identifier. The SDKs of AWS send it with what the handler invokes, which is known by it as the
+    handler's."""
+    given, digits = headers.get("Lambda-Runtime-Trace-Id"), request.replace("-", "")
+    if given and not given.startswith(NO_ROOT) or not re.fullmatch("[0-9a-f]{32}", digits):
+        return given
+    return f"Root=1-{digits[:8]}-{digits[8:]};Sampled=0"
+
+
+def serve(environment, handler, begin, outcome=outcome, sets_trace=True):
     """Handles invocations until the environment shuts down. `begin` is called before each."""
     while True:
         status, headers, payload = environment.ask("GET", "invocation/next")
@@ -292,9 +457,13 @@ def serve(environment, handler, begin):
             continue
         if status != 200:  # 500, the container error: the runtime should exit promptly
             return
-        request, trace = headers["Lambda-Runtime-Aws-Request-Id"], headers.get("Lambda-Runtime-Trace-Id")
-        os.environ.pop("_X_AMZN_TRACE_ID", None)
-        if trace:
+        request = headers.get("Lambda-Runtime-Aws-Request-Id", "")
+        if not re.fullmatch("[!-~]+", request):
+            raise WrongAnswer("an invocation has no identifier")
+        trace = trace_of(request, headers)
+        if sets_trace:
+            os.environ.pop("_X_AMZN_TRACE_ID", None)
+        if trace and sets_trace:
             os.environ["_X_AMZN_TRACE_ID"] = trace
         environment.request = request
         begin(request)
@@ -315,9 +484,8 @@ def init(environment, name):
     try:
         return with_context(load(name) if name else greet)
     except Exception as fault:
-        report = report_of(fault)
-        print_trace(fault, report)
-        environment.ask("POST", "init/error", json.dumps(report), type_header(report))
+        _, report, headers = failure(fault, "")
+        environment.ask("POST", "init/error", report, headers)
         return None
 
 
@@ -336,7 +504,10 @@ def main():
         if handler is None:
             return 1
         serve(environment, handler, begin)
-    except (OSError, http.client.HTTPException) as fault:
+    except WrongAnswer as fault:
+        print(f"runtime.py: what {address} answers is not of the Runtime API: {fault}", file=sys.stderr)
+        return 1
+    except OSError as fault:
         if not environment.has_answered:
             print(f"runtime.py: no Runtime API at {address}: {fault}: start the service first, and name its "
                   f"environment's port",

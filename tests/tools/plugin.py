@@ -1,6 +1,7 @@
 """Checks the pytest plugin, by itself and, if a Python on this machine has pytest, under it. The program is
 LAMBDA_LOCAL_PROGRAM, else ./lambda_local."""
 import contextlib
+import decimal
 import io
 import os
 import re
@@ -92,6 +93,12 @@ def test_whose_service_dies(lambda_local):
 def fails(event):
     if event == "exit":
         sys.exit(3)
+    if event == "decimal":
+        return decimal.Decimal("1.5")
+    if event == "trace":
+        return os.environ["_X_AMZN_TRACE_ID"].startswith("Root=1-")
+    if event == "long":
+        raise ValueError("x" * 7_000_000)
     return {1, 2} if event == "set" else event["missing"]
 
 
@@ -172,7 +179,7 @@ class Plugin(Case):
                            ("'missing'", "KeyError", 36))
                 # (newer Pythons mark the place)
                 stack = [re.sub(r"\n\s+[\^~]+\n", "\n", line) for line in told.pop("stackTrace")]
-                line = fails.__code__.co_firstlineno + 3
+                line = fails.__code__.co_firstlineno + 9
                 self.check("its stack, as traceback.format_list gives it", stack,
                            [f'  File "{__file__}", line {line}, in fails\n    return {{1, 2}} if event == "set" else '
                             f'event["missing"]\n'])
@@ -189,6 +196,11 @@ class Plugin(Case):
                 self.check("an output that is no JSON", (str(fault), type(fault.__cause__)),
                            ("Runtime.MarshalError: Unable to marshal response: Object of type set is not JSON "
                             "serializable", TypeError))
+            for event, wanted in (("decimal", 1.5), ("trace", True)):
+                self.check(f"as a runtime of its own: {event}", service.invoke("fails", event), wanted)
+            told = fault_of(service.invoke, "fails", "long")
+            self.check("a message that is too long is cut, and told at once", (told[:27], len(told) < 200_000),
+                       ("FunctionError: ValueError: ", True), shown=told[:100])
             try:
                 service.invoke("fails", "exit")
             except FunctionError as fault:
@@ -202,8 +214,8 @@ class Plugin(Case):
                          context: seen.append(context)) as service:
             service.invoke("f")
             context = dict(vars(seen[0]))
-            left, request, _ = context.pop("get_remaining_time_in_millis")(), context.pop("aws_request_id"), \
-                context.pop("log")
+            left, request = seen[0].get_remaining_time_in_millis(), context.pop("aws_request_id")
+            del context["deadline"]
             self.check("the time that is left, the request and the trace", (0 < left <= 60000, len(request),
                     "Lambda-Runtime-Trace-Id" in context.pop("headers")), (True, 36, True))
             self.check("the identity", vars(context.pop("identity")),

@@ -7,23 +7,21 @@ A function has one environment, or as many as its member `environments` says: it
 A handler takes the event, or the event and its context, as Lambda calls it; `context.headers` are those of the
 invocation. Until the end, the process has the variables of a function, dummy credentials and the service's address: a
 client of Lambda calls the service, and no client of boto3 reaches AWS. `keep_credentials=True` lets them."""
+import contextlib
 import http.client
-import inspect
 import json
 import os
 import sys
 import threading
 import time
-import traceback
-import types
 import urllib.error
 import urllib.request
-from email.message import Message
 from typing import TYPE_CHECKING, Any, Callable, Dict, List, Mapping, Optional, Tuple, Union
 
 from .configuration import OF_FUNCTION, Kind, Members, is_whole, mistakes_of, shown
+from .paths import bundled_module
 from .sandbox import Changes, Sandbox
-from .service import RUNTIME, Service
+from .service import Service
 from .variables import OF_FUNCTION as VARIABLES
 from .variables import of_function, text_of
 
@@ -92,92 +90,52 @@ def variables_of(members: Mapping[str, Members]) -> Dict[str, str]:
     return found
 
 
-def context_of(headers: Message, memory: str) -> types.SimpleNamespace:
-    """What a handler may ask of its invocation (Developer Guide, "Using the Lambda context object to retrieve Python
-    function information"), and the headers."""
-    arn, deadline = headers["Lambda-Runtime-Invoked-Function-Arn"], int(headers["Lambda-Runtime-Deadline-Ms"])
-    name = arn.split(":")[6]
-    return types.SimpleNamespace(
-        headers=headers, aws_request_id=headers["Lambda-Runtime-Aws-Request-Id"], invoked_function_arn=arn,
-        function_name=name, function_version="$LATEST", memory_limit_in_mb=memory,
-        log_group_name=f"/aws/lambda/{name}", log_stream_name="local/[$LATEST]1",
-        identity=types.SimpleNamespace(cognito_identity_id=None, cognito_identity_pool_id=None), client_context=None,
-        get_remaining_time_in_millis=lambda: max(0, deadline - int(1000 * time.time())),
-        log=lambda text: sys.stdout.write(str(text)))
-
-
-def takes_context(handler: Handler) -> bool:
-    try:
-        inspect.signature(handler).bind(None, None)
-    except TypeError:
-        return False
-    except ValueError:  # a callable without a signature
-        pass
-    return True
-
-
-def report_of(fault: BaseException, request: str) -> Dict[str, object]:
-    """The fault as Lambda's Python runtime reports it; its trace is printed, without this module's own frames."""
-    frame = fault.__traceback__
-    while frame and frame.tb_frame.f_code.co_filename == __file__:
-        frame = frame.tb_next
-    print(*traceback.format_exception(type(fault), fault, frame), sep="", end="", file=sys.stderr)
-    return {"errorMessage": str(fault), "errorType": type(fault).__name__, "requestId": request,
-            "stackTrace": traceback.format_list(traceback.extract_tb(frame))}
-
-
 class Runtime(threading.Thread):
-    """The runtime of one environment."""
+    """The runtime of one environment: examples/runtime.py, but for what handlers need that share their test's
+    process."""
 
     def __init__(self, owner: "LambdaLocal", port: int, handler: Handler, memory: str) -> None:
         super().__init__(name=f"lambda_local {port}", daemon=True)
-        self.owner, self.handler, self.memory, self.has_context = owner, handler, memory, takes_context(handler)
-        self.connection = http.client.HTTPConnection("127.0.0.1", port)
-
-    def ask(self, method: str, path: str, body: Optional[str] = None) -> Tuple[int, Message, bytes]:
-        self.connection.request(method, RUNTIME + path, body)
-        reply = self.connection.getresponse()
-        return reply.status, reply.headers, reply.read()
+        self.owner, self.memory, self.code = owner, memory, bundled_module("runtime.py")
+        self.handler = self.code.with_context(handler)
+        self.environment = self.code.Environment(f"127.0.0.1:{port}")
 
     def run(self) -> None:
+        """Handles invocations until the environment closes; it then begins anew."""
         try:
             while not self.owner.has_ended():
-                try:
-                    self.serve()
-                except (OSError, http.client.HTTPException):
-                    self.connection.close()
+                with contextlib.suppress(OSError):
+                    self.code.serve(self.environment, self.handler, self.begin, self.outcome,
+                                    sets_trace=len(self.owner.runtimes) == 1)
                 if not self.owner.has_ended():
                     time.sleep(PAUSE)
         finally:
-            self.connection.close()
+            self.environment.close()
 
-    def serve(self) -> None:
-        """Handles invocations until the environment closes; it then begins anew."""
-        while True:
-            status, headers, payload = self.ask("GET", "invocation/next")
-            if status != 200:
-                return
-            kind, body = self.outcome(payload, headers)
-            self.ask("POST", f"invocation/{headers['Lambda-Runtime-Aws-Request-Id']}/{kind}", body)
-
-    def outcome(self, payload: bytes, headers: Message) -> Tuple[str, str]:
-        """What an invocation comes to: "response" or "error", and the body to post."""
-        request = headers["Lambda-Runtime-Aws-Request-Id"]
+    def begin(self, request: str) -> None:
         if self.owner.sandbox:
             self.owner.sandbox.begin(request)
+
+    def context_of(self, headers: Mapping[str, str]) -> Any:
+        """Lambda's context, of this function alone, and the headers."""
+        context = self.code.Context(headers)
+        context.function_name, context.memory_limit_in_mb = context.invoked_function_arn.split(":")[6], self.memory
+        context.log_group_name, context.headers = f"/aws/lambda/{context.function_name}", headers
+        return context
+
+    def outcome(self, handler: Handler, payload: bytes, headers: Mapping[str, str]) -> Tuple[str, str, Dict[str, str]]:
+        """What an invocation comes to: "response" or "error", and the body and headers to post."""
         try:
-            event = json.loads(payload)
-            output = self.handler(event, context_of(headers, self.memory)) if self.has_context else self.handler(event)
+            return "response", self.code.text_of(handler(self.code.read(payload), self.context_of(headers))), {}
         except BaseException as fault:  # also pytest.fail and sys.exit: who invoked it is to see them
-            self.owner.keep(request, fault)
-            return "error", json.dumps(report_of(fault, request))
-        try:
-            return "response", json.dumps(output)
-        except Exception as fault:
-            self.owner.keep(request, fault)
-            report: Dict[str, object] = {**report_of(fault, request), "errorType": "Runtime.MarshalError",
-                                         "errorMessage": f"Unable to marshal response: {fault}"}
-            return "error", json.dumps(report)
+            frame = fault.__traceback__
+            while frame and frame.tb_frame.f_code.co_filename == __file__:
+                frame = frame.tb_next
+            request = headers["Lambda-Runtime-Aws-Request-Id"]
+            is_of_runtime = isinstance(fault, self.code.RuntimeFault) and fault.__context__ is not None
+            self.owner.keep(request, fault.__context__ if is_of_runtime and fault.__context__ else fault)
+            failure: Tuple[str, str, Dict[str, str]] = self.code.failure(fault.with_traceback(frame), request)
+            return failure
 
 
 def front_of(asynchronous: Union[None, bool, Members], members: Mapping[str, Members]) -> "Optional[Front]":

@@ -11,6 +11,7 @@ from .paths import bundled_module
 from .variables import DUMMIES, LEFT_OUT, Serving, leading_to
 
 LONGEST_SECONDS = 1000  # of an invocation
+TRACE = "_X_AMZN_TRACE_ID"
 HOSTS = ("amazonaws.com", "amazonaws.com.cn", "amazonaws.eu", "api.aws", "api.amazonwebservices.com.cn")
 
 
@@ -110,7 +111,7 @@ class Sandbox:
             led.update(DUMMIES, AWS_SESSION_TOKEN="local")
             for name in LEFT_OUT:
                 self.patches.delenv(name, raising=False)
-        for name, value in {**led, **variables}.items():
+        for name, value in {TRACE: "", **led, **variables}.items():  # (a runtime sets the trace anew)
             self.patches.setenv(name, value)
         self._begin_log()
 
