@@ -12,7 +12,7 @@ from tests.library.template_kit import HAS_YAML, SAM, TemplateCase, function_of,
 
 
 def made_function(**members):
-    return {"F": {"name": "F", "environments": 1, "command": ["./bootstrap"], **members}}
+    return {"F": {"name": "F", "command": ["./bootstrap"], **members}}
 
 
 LESS = """service: shop
@@ -35,19 +35,19 @@ class FromTemplate(TemplateCase):
     def test_sam(self):
         if not HAS_YAML:
             self.skipTest("PyYAML is not here")
-        common = {"environments": 1, "variables": {"A": "1", "LIVE": "true"}}
+        common = {"variables": {"A": "1", "LIVE": "true"}}
         self.case("SAM", SAM, {
             "One": {"name": "One", "handler": "app.run", "timeout": 5, **common,
                     "variables": {"A": "1", "LIVE": "true", "B": "Table"}, "directory": "src", **python("app.run")},
-            "given": {"name": "given", "handler": "i.h", "reserved": 3, "environments": 3, "command": ["./bootstrap"]},
+            "given": {"name": "given", "handler": "i.h", "reserved": 3, "command": ["./bootstrap"]},
             "orders-dev-us-east-1": {"name": "orders-dev-us-east-1", "handler": "a.b", "timeout": 7, **common,
                                      **python("a.b")},
-            "Four": {"name": "Four", "handler": "a.b", "timeout": 5, "environments": 1, **python("a.b"), "variables": {
+            "Four": {"name": "Four", "handler": "a.b", "timeout": 5, **python("a.b"), "variables": {
                 "A": "1", "LIVE": "true", "OTHER": "orders-dev-us-east-1",
                 "ARN": "arn:aws:lambda:us-east-1:123456789012:function:orders-dev-us-east-1",
                 "QUEUE": "Queue.Arn", "MODE": "Open", "WHO": "123456789012/${Raw}"}},
         }, "leaves out Table, AWS::DynamoDB::Table", "One: leaves out the layer x, whose content is not here",
-        "One: the variable B is Table, a placeholder for the resource Table",
+        "leaves out Table, AWS::DynamoDB::Table, which another service must have (docs/services.md): B of One names it",
             "Four: it is called Four, since its FunctionName is not known here: it needs the parameter Open, which has "
             "no Default",
             "Four: the variable MODE is Open, a placeholder for the parameter Open",
@@ -60,14 +60,14 @@ class FromTemplate(TemplateCase):
             "F1": asset, "F2": {**asset, "Metadata": {}, "Properties": {**asset["Properties"],
                     "FunctionName": {"Fn::Join": ["", ["orders-", {"Ref": "AWS::StackName"}]]}}}}}
         self.case("CDK", template, {
-            "F1": {"name": "F1", "handler": "bootstrap", "environments": 1, "command": ["./bootstrap"],
+            "F1": {"name": "F1", "handler": "bootstrap", "command": ["./bootstrap"],
                    "directory": "asset.1"},
-            "orders-Shop": {"name": "orders-Shop", "handler": "bootstrap", "environments": 1},
+            "orders-Shop": {"name": "orders-Shop", "handler": "bootstrap"},
         }, "F1: there is no ", "orders-Shop: has no command, since its code is not here",
             "asset.1/bootstrap yet: build it", "orders-Shop: leaves out Code, which is not a folder here",
         name="Shop.template.json", folders=["asset.1"])
         self.case("CDK, a folder that is not there yet", {"Resources": {"F1": asset}}, {"F1": {
-            "name": "F1", "handler": "bootstrap", "environments": 1, "command": ["./bootstrap"],
+            "name": "F1", "handler": "bootstrap", "command": ["./bootstrap"],
             "directory": "asset.1"}},
             "asset.1 is not a folder (yet)", name="Shop.template.json", folders=[])
 
@@ -75,7 +75,7 @@ class FromTemplate(TemplateCase):
         if not HAS_YAML:
             self.skipTest("PyYAML is not here")
         # (a timeout of 6 s and 1024 MB are Serverless' own defaults)
-        common = {"timeout": 6, "memory": 1024, "environments": 1, "command": ["./bootstrap"]}
+        common = {"timeout": 6, "memory": 1024, "command": ["./bootstrap"]}
         self.case("Serverless", LESS, {
             "shop-dev-pay": {"name": "shop-dev-pay", "handler": "app.pay", **common, "variables": {
                 "STAGE": "dev", "TABLE": "orders-dev", "SECRET": "/shop/key", "SIZE": "3", "EMPTY": "",
@@ -84,7 +84,7 @@ class FromTemplate(TemplateCase):
                 "OTHER": "shop-dev-back", "BOTH": "a b, c d"}},
             "shop-dev-back": {"name": "shop-dev-back", "handler": "app.refund", **common, "timeout": 9,
                               "variables": {"STAGE": "dev"}},
-            "ship": {"name": "ship", "handler": "app.ship", "timeout": 6, "memory": 1024, "environments": 1,
+            "ship": {"name": "ship", "handler": "app.ship", "timeout": 6, "memory": 1024,
                      "variables": {"STAGE": "dev"}},
         }, "leaves out plugins", "leaves out events", "SECRET is /shop/key, a placeholder for ${ssm:/shop/key}",
         "leaves out the variable NOTHING, which has no value",
@@ -157,32 +157,31 @@ class FromTemplate(TemplateCase):
                   "F: leaves out the variable A: there is not a condition Wanted")
 
     def test_code(self):
-        self.case("an image", function_of(PackageType="Image", Runtime=None), {"F": {"name": "F", "environments": 1}},
+        self.case("an image", function_of(PackageType="Image", Runtime=None), {"F": {"name": "F"}},
                   "F: has no command, since its code is an image: write one, such as docker run")
-        self.case("an image by its URI", function_of(Code={"ImageUri": "x"}), {"F": {"name": "F", "environments": 1}},
+        self.case("an image by its URI", function_of(Code={"ImageUri": "x"}), {"F": {"name": "F"}},
                   "its code is an image")
         self.case("an image, and a runtime for all",
                   {"Globals": {"Function": {"Runtime": "python3.12", "Handler": "x.y"}},
                    "Resources": {"F": {"Type": "AWS::Serverless::Function", "Properties": {"PackageType": "Image"}}}},
-                  {"F": {"name": "F", "environments": 1}},
+                  {"F": {"name": "F"}},
                   "its code is an image")
         self.case("code in the template",
                   function_of(Code={"ZipFile": "exports.x = 1"}, Handler="index.x", Runtime="nodejs20.x"),
-                  {"F": {"name": "F", "handler": "index.x", "environments": 1}},
-                  "F: has no command, since its code is in the template")
+                  {"F": {"name": "F", "handler": "index.x", "inline": "exports.x = 1", "runtime": "node"}})
         sam_inline = {"Resources": {"F": {
             "Type": "AWS::Serverless::Function",
             "Properties": {"InlineCode": "x", "Runtime": "python3.12", "Handler": "index.x"}}}}
-        self.case("InlineCode", sam_inline, {"F": {"name": "F", "handler": "index.x", "environments": 1}},
-                  "its code is in the template")
+        self.case("InlineCode", sam_inline,
+                  {"F": {"name": "F", "handler": "index.x", "inline": "x", **python("index.x")}})
         far = {name: value for name, value in made_function()["F"].items() if name not in ("runtime", "command")}
         self.case("code far away", function_of(CodeUri="s3://far/away"), {"F": far},
                   "leaves out CodeUri, which is not a folder here", "F: has no command, since its code is not here")
         self.case("code of CloudFormation's package", function_of(Code="src"), made_function(directory="src"))
         self.case("Node without its client", function_of(Runtime="nodejs20.x", Handler="a.b"),
-                  {"F": {"name": "F", "environments": 1, "handler": "a.b", "runtime": "node"}})
+                  {"F": {"name": "F", "handler": "a.b", "runtime": "node"}})
         self.case("a runtime that is not known", function_of(Runtime="dotnet8"),
-                  {"F": {"name": "F", "environments": 1}},
+                  {"F": {"name": "F"}},
                   "F: has no command, since none is known for the runtime dotnet8")
         with tempfile.TemporaryDirectory() as folder:
             os.makedirs(os.path.join(folder, "node_modules", ".bin"))
@@ -199,12 +198,11 @@ class FromTemplate(TemplateCase):
             with contextlib.redirect_stderr(io.StringIO()) as said:
                 made = up_of(path)["functions"]
             self.check("Node with its client", made[0]["command"], ["npx", "aws-lambda-ric", "a.b"])
-            self.check("an archive", (made[1].get("directory"),
-                                      "G: CodeUri is the file code.zip: unpack it" in said.getvalue()), (".", True))
+            self.check("an archive", (made[1].get("directory"), "CodeUri" in said.getvalue()), ("code.zip", False))
 
     def test_numbers(self):
         self.case("a huge reservation", function_of(ReservedConcurrentExecutions=300),
-                  made_function(reserved=10, environments=10), "its reservation is 300")
+                  made_function(reserved=300))
         self.case("a reservation of none", function_of(ReservedConcurrentExecutions=0), made_function(reserved=0))
         self.case("numbers as texts", function_of(Timeout="30", MemorySize="512"), made_function(timeout=30,
                                                                                                  memory=512))
@@ -215,13 +213,8 @@ class FromTemplate(TemplateCase):
         many = {"Resources": {f"F{number}": function_of(ReservedConcurrentExecutions=20)["Resources"]["F"]
                               for number in range(70)}}
         made, said = made_of(many)
-        self.check("seventy functions of twenty",
-                   (len(made), sum(function["environments"] for function in made.values()),
-                    all(function["reserved"] <= function["environments"] for function in made.values())),
-                   (64, 256, True))
-        self.check("and what is said",
-                   ("leaves out the function F69: 64 are the most" in said, "256 are the most in all" in said),
-                   (True, True))
+        self.check("seventy functions of twenty", len(made), 64)
+        self.check("and what is said", "leaves out the function F69: 64 are the most" in said)
 
     def test_names(self):
         self.case("a name that is none", function_of(FunctionName="a b"), made_function(),
@@ -229,7 +222,7 @@ class FromTemplate(TemplateCase):
                   "letters, digits, - and _")
         self.case("a name that is too long", function_of(FunctionName="x" * 65), made_function(), "it is called F")
         self.case("a name that is a number", function_of(FunctionName=5),
-                  {"5": {"name": "5", "environments": 1, "command": ["./bootstrap"]}})
+                  {"5": {"name": "5", "command": ["./bootstrap"]}})
         twice = {"Resources": {key: function_of(FunctionName="same")["Resources"]["F"] for key in ("A", "B", "same")}}
         made, said = made_of(twice)
         self.check("a name that appears twice", sorted(made), ["B", "same", "same-2"])

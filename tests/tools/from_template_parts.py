@@ -203,10 +203,10 @@ class FromTemplateParts(TemplateCase):
                    "G": [{"Ref": "Built"}, {"Ref": "Far"}, {"Ref": "Gone"},
                          "arn:aws:lambda:us-east-1:1:layer:x:1"]}.items()}}}
         self.case("the layers of a SAM template", template, {
-            "F": {"name": "F", "directory": "src", "environments": 1, "handler": "app.run",
+            "F": {"name": "F", "directory": "src", "handler": "app.run",
                   "layers": ["layer", "layer"],
                   **python("app.run")},
-            "G": {"name": "G", "directory": "src", "environments": 1, "handler": "app.run", "layers": ["src"],
+            "G": {"name": "G", "directory": "src", "handler": "app.run", "layers": ["src"],
                   **python("app.run")}},
             "G: the layer Built is built from src: build it", "G: leaves out the layer Far, whose content is not here",
             "G: leaves out the layer Gone: not/here is not a folder or .zip file (yet)",
@@ -216,7 +216,7 @@ class FromTemplateParts(TemplateCase):
             self.case("the layers of a serverless.yml", "service: s\nprovider: {name: aws, runtime: python3.12}\n"
                       "layers:\n  common-code: {path: layer}\nfunctions:\n  f:\n    handler: app.run\n"
                       "    layers: [{Ref: CommonDashcodeLambdaLayer}]\n", {
-                          "s-dev-f": {"name": "s-dev-f", "environments": 1, "handler": "app.run", "timeout": 6,
+                          "s-dev-f": {"name": "s-dev-f", "handler": "app.run", "timeout": 6,
                                       "memory": 1024,
                                       "layers": ["layer"], **python("app.run")}}, folders=("layer",),
                       name="serverless.yml")
@@ -227,7 +227,7 @@ class FromTemplateParts(TemplateCase):
                 "Runtime": "python3.12", "Handler": "app.run", "CodeUri": "src", "Events": events}}}}
 
         def made(schedule):
-            return {"F": {"name": "F", "directory": "src", "environments": 1, "handler": "app.run",
+            return {"F": {"name": "F", "directory": "src", "handler": "app.run",
                           **({"schedule": schedule} if schedule else {}), **python("app.run")}}
         self.case("a schedule of SAM",
                   sam(Tick={"Type": "Schedule", "Properties": {"Schedule": "rate(5 minutes)"}}),
@@ -248,7 +248,7 @@ class FromTemplateParts(TemplateCase):
                 "Targets": [{"Arn": {"Fn::GetAtt": ["Fn1", "Arn"]}, "Id": "Target0", "Input": '{"from":"rule"}'}]}},
             "Rule2": {"Type": "AWS::Events::Rule", "Properties": {
                 "EventPattern": {"source": ["aws.s3"]}, "Targets": [{"Arn": {"Fn::GetAtt": ["Fn1", "Arn"]}}]}}}}
-        self.case("a rule of CDK", cdk, {"Fn1": {"name": "Fn1", "directory": "src", "environments": 1,
+        self.case("a rule of CDK", cdk, {"Fn1": {"name": "Fn1", "directory": "src",
                                                  "handler": "app.run",
                                                  "schedule": {"expression": "rate(1 day)", "input": {"from": "rule"}},
                                                  **python("app.run")}},
@@ -259,7 +259,7 @@ class FromTemplateParts(TemplateCase):
                       "  f:\n    handler: app.run\n    events:\n      - schedule: rate(10 minutes)\n"
                       "      - schedule: {rate: ['cron(0 12 * * ? *)'], input: {a: 1}}\n"
                       "      - schedule: {rate: rate(1 hour), enabled: false}\n", {
-                          "s-dev-f": {"name": "s-dev-f", "environments": 1, "handler": "app.run", "timeout": 6,
+                          "s-dev-f": {"name": "s-dev-f", "handler": "app.run", "timeout": 6,
                                       "memory": 1024,
                                       "schedule": ["rate(10 minutes)",
                                                    {"expression": "cron(0 12 * * ? *)", "input": {"a": 1}}],
@@ -272,6 +272,12 @@ class FromTemplateParts(TemplateCase):
             "Runtime": "python3.12", "Handler": "app.run", "CodeUri": "src",
             "Environment": {"Variables": {"TABLE": {"Ref": "Table"}}}}}
         _, said = made_of({"Resources": {"F": of, "G": of, "H": of, "Table": {"Type": "AWS::DynamoDB::Table"}}})
+        lines = [line for line in said.splitlines() if "Table" in line]
+        self.check("a table that three functions name is one line", lines, [
+            "from_template: leaves out Table, AWS::DynamoDB::Table, which another service must have "
+            "(docs/services.md): TABLE of F, G, H names it"])
+        of["Properties"]["Environment"]["Variables"]["TABLE"] = {"Ref": "Other"}
+        _, said = made_of({"Resources": {"F": of, "G": of, "H": of}})
         lines = [line for line in said.splitlines() if "placeholder" in line]
         self.check("a placeholder that three functions have is one line", (len(lines), lines[0].startswith(
             "from_template: F, G, H: the variable TABLE is ") if lines else None), (1, True))

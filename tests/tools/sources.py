@@ -16,7 +16,7 @@ from typing import Tuple
 
 from lambda_local.configuration import Members
 from lambda_local.up import sources
-from lambda_local.up.expressions import WrongExpression, cron_of, expression_of, rate_of
+from lambda_local.expressions import WrongExpression, cron_of, expression_of, rate_of
 from lambda_local.up.queues import failures_in, is_message, record_of
 from tests.library.cases import Case
 from tests.library.events_kit import READY, READY_SECONDS, json_lines

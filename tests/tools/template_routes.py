@@ -83,7 +83,7 @@ class TemplateRoutes(Case):
                     "POST /d": {"function": "s-dev-f", "payload": "1.0", "stage": "dev"}})
         self.check("Serverless: URLs", [function["url"] for function in made["functions"]],
                    [True, {"cors": {"allowOrigins": ["*"]}}])
-        self.check("Serverless: what is left out", "s-dev-f: leaves out events: sqs" in said)
+        self.check("Serverless: what is left out", "s-dev-f: its event sqs, SQS, is not polled: set" in said)
 
     def test_url_resources(self):
         """AWS::Lambda::Url, as CDK writes it beside its function."""
@@ -109,7 +109,6 @@ class TemplateRoutes(Case):
             "H": {"cors": {"allowOrigins": ["Site"]}}, "I": None})
         for words in ("F: leaves out Colour of its URL",
                       "shop-g: its URL takes requests without a signature here",
-                      "shop-g: its URL is of live, and here of $LATEST",
                       "H: HUrl has a placeholder for the resource Site",
                       "leaves out Second, AWS::Lambda::Url: H has a URL already",
                       "leaves out Far, AWS::Lambda::Url: there is no function far",

@@ -6,15 +6,27 @@ from ..configuration import Members
 from ..front.routes import WrongRoute
 from . import schedules
 from .cors import Tell, cors_of, rest_cors_of
+from .messages import VALUES, excerpt
+from .objects import Object, members_by_key
 from .routes import IMPLICIT, IMPLICIT_REST, OF_SERVERLESS, REST_OF_SERVERLESS, FunctionRoute, Of, key_of
-from .messages import excerpt
-from .values import NO_VALUE, Scope, members_of
+from .values import NO_VALUE, Scope
 
 READ = {"FunctionUrlConfig", "Events", "url", "events"}
+READ_ELSEWHERE = {*schedules.OF_SAM, "SQS"}  # of SAM's types of events
+READ_OF_SERVERLESS = {"schedule", "sqs"}
+SAMPLES = {"S3": "s3", "SNS": "sns", "EventBridgeRule": "eventbridge", "CloudWatchEvent": "eventbridge", "s3": "s3",
+           "sns": "sns", "eventBridge": "eventbridge", "cloudwatchEvent": "eventbridge"}
 
 
-def url_with(cors: Optional[Members]) -> Union[bool, Members]:
-    return {"cors": cors} if cors else True
+def url_with(cors: Optional[Members], streams: bool = False) -> Union[bool, Members]:
+    made: Members = {**({"cors": cors} if cors else {}), **({"invoke": "RESPONSE_STREAM"} if streams else {})}
+    return made or True
+
+
+def sample(kind: object) -> str:
+    """How to invoke a function with what this type of event sends."""
+    name = SAMPLES.get(str(kind))
+    return f": lambda_local invoke --sample {name} sends one like it" if name else ""
 
 
 class Addresses:
@@ -29,7 +41,8 @@ class Addresses:
         value, placeholders = self.scope.evaluate_or_reason(self.properties[name])
         if placeholders:
             what = f"leaves out {name}: it needs" if value is None else f"{name} has a placeholder for"
-            self.tell(f"{what} {' and '.join(placeholders)}{'' if value is None else ': write its value into UP.json'}")
+            self.tell(f"{what} {' and '.join(placeholders)}" + (
+                "" if value is None else f": set \"url\" in {VALUES}"))
         return None if value is NO_VALUE else value
 
     # --- its URL ---
@@ -41,17 +54,29 @@ class Addresses:
             return self.url_of(given)
         given = self.value("url")
         if isinstance(given, dict):
-            return url_with(cors_of(given.get("cors"), "its URL", self.scope, self.tell))
+            return self.url_of_serverless(Object(given, "its URL", self.scope, self.tell))
         return given is True or None
 
-    def url_of(self, given: Members) -> Union[bool, Members]:
+    def url_of(self, members: Members) -> Union[bool, Members]:
         """By the members that FunctionUrlConfig and AWS::Lambda::Url have in common."""
-        if given.get("AuthType") == "AWS_IAM":
-            self.tell("its URL takes requests without a signature here")
-        url = url_with(cors_of(given.get("Cors"), "its URL", self.scope, self.tell))
-        if given.get("InvokeMode") == "RESPONSE_STREAM":
-            return {**(url if isinstance(url, dict) else {}), "invoke": "RESPONSE_STREAM"}
+        given = Object(members, "its URL", self.scope, self.tell)
+        given.without_meaning(["Qualifier"])
+        self.tell_signature(given.raw("AuthType") == "AWS_IAM")
+        url = url_with(cors_of(given.raw("Cors"), "its URL", self.scope, self.tell),
+                       given.raw("InvokeMode") == "RESPONSE_STREAM")
+        given.close()
         return url
+
+    def url_of_serverless(self, given: Object) -> Union[bool, Members]:
+        self.tell_signature(given.raw("authorizer") == "aws_iam")
+        url = url_with(cors_of(given.raw("cors"), "its URL", self.scope, self.tell),
+                       given.raw("invokeMode") == "RESPONSE_STREAM")
+        given.close()
+        return url
+
+    def tell_signature(self, is_signed: bool) -> None:
+        if is_signed:
+            self.tell("its URL takes requests without a signature here")
 
     # --- its routes ---
 
@@ -60,47 +85,57 @@ class Addresses:
         return [*self.of_sam(), *self.of_serverless()]
 
     def of_sam(self) -> Iterator[FunctionRoute]:
-        events = self.properties.get("Events")
-        for name, event in events.items() if isinstance(events, dict) else ():
-            kind = event.get("Type") if isinstance(event, dict) else None
-            if kind in schedules.OF_SAM:
+        for name, event in members_by_key(self.properties.get("Events"), self.scope).items():
+            kind = event.get("Type")
+            if kind in READ_ELSEWHERE:
                 continue
+            where = f"its event {name}"
             if kind not in ("HttpApi", "Api"):
-                self.tell(f"leaves out its event {name}, {excerpt(kind)}: examples/events has samples to invoke it "
-                          "with")
+                self.tell(f"leaves out {where}, {excerpt(kind)}{sample(kind)}")
                 continue
-            given = members_of(event, "Properties")
+            given = Object(event.get("Properties"), where, self.scope, self.tell)
             if kind == "Api":
-                of = Of(self.api(given.get("RestApiId"), IMPLICIT_REST), True)
+                of = Of(self.api(given.raw("RestApiId"), IMPLICIT_REST), True)
             else:
-                payload = given.get("PayloadFormatVersion")
-                of = Of(self.api(given.get("ApiId"), IMPLICIT), payload="1.0" if str(payload) == "1.0" else "2.0")
-            yield from self.route(f"event {name}", given.get("Method"), given.get("Path"), of)
+                payload = given.raw("PayloadFormatVersion")
+                of = Of(self.api(given.raw("ApiId"), IMPLICIT), payload="1.0" if str(payload) == "1.0" else "2.0")
+            yield from self.route(f"event {name}", given.raw("Method"), given.raw("Path"), of)
+            given.close()
 
-    @staticmethod
-    def api(named: object, otherwise: str) -> str:
-        """The logical id of the API that an event of SAM is of."""
+    def api(self, named: object, otherwise: str) -> str:
+        """The logical id of the API that an event of SAM is of, which no other stack has."""
         named = named.get("Ref") if isinstance(named, dict) else named
-        return named if isinstance(named, str) else otherwise
+        return self.scope.prefix + (named if isinstance(named, str) else otherwise)
 
     def of_serverless(self) -> Iterator[FunctionRoute]:
-        events = self.properties.get("events")
-        for event in events if isinstance(events, list) else ():
-            (kind, given), = event.items() if isinstance(event, dict) and len(event) == 1 else [(event, None)]
-            if kind == "schedule":
+        chosen = self.scope.chosen(self.properties.get("events"))
+        for event in chosen if isinstance(chosen, list) else ():
+            (kind, given), = event.items() if isinstance(event, dict) and len(event) == 1 else [(excerpt(event), None)]
+            if kind in READ_OF_SERVERLESS:
                 continue
             if kind not in ("httpApi", "http"):
-                self.tell(f"leaves out events: {excerpt(kind)}")
+                self.tell(f"leaves out events: {excerpt(kind)}{sample(kind)}")
                 continue
-            if isinstance(given, str):
-                method, _, path = given.strip().partition(" ")
-                given = {} if given.strip() == "*" else {"method": method, "path": path.strip()}
-            given = given if isinstance(given, dict) else {}
-            of, cors = Of(OF_SERVERLESS, payload=self.scope.payload), None
-            if kind == "http":
-                of = Of(REST_OF_SERVERLESS, True)
-                cors = rest_cors_of(given.get("cors"), f"its event {kind}", self.scope, self.tell)
-            yield from self.route(f"events: {kind}", given.get("method"), given.get("path"), of, cors)
+            yield from self.route_of_serverless(kind, given)
+
+    def route_of_serverless(self, kind: str, given: object) -> List[FunctionRoute]:
+        if isinstance(given, str) and "${" not in given:
+            method, _, path = given.strip().partition(" ")
+            given = {} if given.strip() == "*" else {"method": method, "path": path.strip()}
+        elif isinstance(given, str):
+            self.tell(f"leaves out events: {kind}: write it as an object with method and path")
+            return []
+        event = Object(given, f"its event {kind}", self.scope, self.tell)
+        of, cors = Of(OF_SERVERLESS, payload=self.scope.payload), None
+        if kind == "http":
+            of = Of(REST_OF_SERVERLESS, True)
+            cors = rest_cors_of(event.raw("cors"), f"its event {kind}", self.scope, self.tell)
+            integration = event.raw("integration")
+            if str(integration or "proxy").lower().replace("_", "-") not in ("proxy", "lambda-proxy", "aws-proxy"):
+                self.tell(f"its event {kind} is a proxy integration here, and not {excerpt(integration)}")
+        made = self.route(f"events: {kind}", event.raw("method"), event.raw("path"), of, cors)
+        event.close()
+        return made
 
     def route(self, where: str, method: object, path: object, of: Of,
               cors: Optional[Members] = None) -> List[FunctionRoute]:

@@ -1,83 +1,66 @@
-"""Reads the functions of a template and writes an UP.json for lambda_local up. On standard error it names what it
-leaves out.
+"""Prints, or writes with -o, the UP.json that lambda_local up makes of a template, so that it can be changed by hand
+("eject"). On standard error it names what it leaves out. lambda_local up needs no such file: it reads templates itself.
 
-  lambda_local from_template template.yaml -o up.json                  SAM, or CloudFormation
-  lambda_local from_template cdk.out/Stack.template.json -o up.json    what `cdk synth` writes
-  lambda_local from_template serverless.yml -o up.json
+  lambda_local from_template -o up.json                  of what is found in this folder, as up finds it
+  lambda_local from_template template.yaml               SAM, or CloudFormation, in YAML or JSON
+  lambda_local from_template serverless.yml --stage prod
+  lambda_local from_template cdk.out                     what `cdk synth` writes, with all its stacks
 
-Each function has one environment, or as many as it reserves, up to ten. What runs it is the client of its Runtime if
-that is installed, else for Python and Node the runtime that comes with lambda_local up. Parameters count by their
-defaults; a reference to a resource is a placeholder, which is told: so functions run, and you write into UP.json what
-they need. `directory` is the function's code, or the template's own folder if there is none, as it is seen from
-UP.json: so UP.json may stand anywhere, and lambda_local up be started from anywhere, as long as both stay where they
-are. Without -o it goes to standard output; if that is not a file, folders are written from the root.
-YAML needs a reader: pip install pyyaml.
-Exit statuses: 0; 2 for a template that cannot be read, or has no function; 4 without the reader, or if UP.json cannot
-be written."""
+What runs a function is the client of its Runtime if that is installed, else for Python and Node the runtime that comes
+with lambda_local up. Folders are as seen from UP.json, or from the root if it goes to a pipe. A file that differs from
+what from_template wrote there itself is not overwritten without --force. Values of your own belong into
+lambda_local.json beside the template, which is merged over it. YAML needs a reader: pip install pyyaml.
+Exit statuses: 0; 2 for a template that cannot be read, or has no function, and for a file that would be overwritten; 4
+without the reader, or if UP.json cannot be written."""
+import argparse
+import hashlib
 import json
 import os
-import re
 import stat
 import sys
 from typing import List, Optional
 
 from ..configuration import Members
-from ..outgoing import written
+from ..outgoing import is_written_in_place, written
 from ..usage import parser_of
-from . import cloudformation, serverless
-from .functions import functions_of
-from .gateway_resources import add_routes
-from .reader import read
-from .resources import add_urls, apis_of
-from .routes import Apis
-from .rules import add_schedules
+from .find import Source, source_of
+from .given import Given, given_by
 from .messages import Fault, tell
-from .values import REGION
+from .project import up_of, up_of_source
+
+__all__ = ["add_options", "given_of", "main", "place", "up_of"]
+
+MARK = "fromTemplate"  # the member with the sum of what from_template wrote
 
 
-def stack_of(path: str) -> str:
-    """What a stack of this template would be called: by its file, or by its folder if the file is just called
-    template."""
-    stem = os.path.basename(path).split(".")[0]
-    if stem in ("template", "serverless", ""):
-        stem = os.path.basename(os.path.dirname(os.path.abspath(path)))
-    return re.sub(r"[^A-Za-z0-9-]", "-", stem).strip("-") or "stack"
+def add_options(parser: argparse.ArgumentParser) -> None:
+    """The options by which users give values for a template."""
+    group = parser.add_argument_group("for templates")
+    group.add_argument("--parameter", "--parameter-overrides", metavar="NAME=VALUE", action="append", default=[],
+                       help="a parameter of the template; of a serverless.yml, ${param:NAME} and ${opt:NAME}")
+    group.add_argument("--parameters", metavar="FILE", action="append", default=[],
+                       help="parameters in JSON, or the samconfig.toml of sam deploy")
+    group.add_argument("--stage", metavar="S", help="the stage of a serverless.yml, or of an app of CDK")
+    group.add_argument("--env-file", metavar="FILE", action="append", default=[],
+                       help="lines NAME=VALUE: variables of all functions")
+    group.add_argument("--env-vars", metavar="FILE", help="variables by function, in JSON as sam local has them")
+    group.add_argument("--values", metavar="FILE",
+                       help="members of UP.json that are merged over the template (lambda_local.json beside it)")
 
 
-def up_of(path: str) -> Members:
-    """UP.json's object; its folders are as seen from the template's."""
-    whole, base = read(path), os.path.dirname(os.path.abspath(path))
-    is_of_resources = isinstance(whole.get("Resources"), dict)
-    if is_of_resources:
-        functions_in, scope = cloudformation.functions_in(whole, stack_of(path))
-    elif isinstance(whole.get("functions"), (dict, list)):
-        functions_in, scope = serverless.functions_in(whole, stack_of(path))
-    else:
-        raise Fault(f"{path} is not a template: it must have Resources, or functions")
-    functions = functions_of(functions_in, scope, base)
-    if not functions:
-        raise Fault(f"{path} has no function")
-    if is_of_resources:
-        add_urls(functions, scope)
-        add_schedules(functions, scope)
-        apis = {**apis_of(whole, scope), **add_routes(functions, scope)}
-    else:
-        assert isinstance(scope, serverless.ServerlessScope)
-        apis = serverless.apis_of(scope)
-    region = str(scope.pseudo["AWS::Region"])
-    is_other = region != REGION and re.fullmatch(r"[a-z0-9-]{1,32}", region)
-    return {**({"region": region} if is_other else {}), **Apis(apis, scope).members(functions), "functions": functions}
+def given_of(options: argparse.Namespace) -> Given:
+    return given_by(options.parameter, options.parameters, options.stage, options.env_file, options.env_vars)
 
 
-def place(functions: List[Members], template: str, folder: Optional[str]) -> None:
+def place(functions: List[Members], source: Source, folder: Optional[str]) -> None:
     """Writes each function's folder, which a template has from its own, as it is seen from the folder of UP.json."""
-    base = os.path.dirname(os.path.abspath(template))
+    base = source.folder
     for made in functions:
         code = os.path.join(base, made.pop("directory", ""))
-        if not os.path.isdir(code):
+        if not os.path.exists(code):
             tell(f"{made['name']}: {code} is not a folder (yet): lambda_local up needs it")
         code = seen_from(folder, code)
-        if code != ".":
+        if code != "." and "inline" not in made:
             made["directory"] = code
         if "layers" in made:
             made["layers"] = [seen_from(folder, os.path.join(base, path)) for path in made["layers"]]
@@ -100,29 +83,59 @@ def folder_of_output() -> Optional[str]:
         return None
 
 
-def write(text: str, output: Optional[str]) -> None:
-    if output:
-        with written(output, has_payloads=False) as file:
-            file.write(text)
-    else:
-        sys.stdout.write(text)
+def text_of(up: Members) -> str:
+    return json.dumps(up, indent=2) + "\n"
+
+
+def sum_of(up: Members) -> str:
+    return hashlib.sha256(text_of(up).encode()).hexdigest()[:16]
+
+
+def is_own(path: str) -> bool:
+    """Whether a file is as from_template wrote it, or there is none."""
+    try:
+        with open(path, encoding="utf-8") as file:
+            whole = json.load(file)
+    except FileNotFoundError:
+        return True
+    except (OSError, ValueError, RecursionError):
+        return False
+    return isinstance(whole, dict) and whole.pop(MARK, None) == sum_of(whole)
+
+
+def write(up: Members, output: Optional[str]) -> None:
+    if output is None:
+        sys.stdout.write(text_of(up))
         sys.stdout.flush()
+        return
+    mark = {} if is_written_in_place(output) else {MARK: sum_of(up)}
+    with written(output, has_payloads=False) as file:
+        file.write(text_of({**mark, **up}))
 
 
 def main() -> int:
     parser = parser_of("from_template", __doc__)
-    parser.add_argument("template", metavar="TEMPLATE")
+    parser.add_argument("template", metavar="FILE|FOLDER", nargs="?", help="what is found in this folder")
     parser.add_argument("-o", metavar="UP.json", dest="output", help="write there (standard output)")
+    parser.add_argument("--force", action="store_true", help="overwrite UP.json though it was changed")
+    add_options(parser)
     options = parser.parse_args()
     try:
-        up = up_of(options.template)
+        source = source_of(options.template) if options.template is None or os.path.isdir(
+            options.template) else Source(options.template, True)
+        if not source.is_template:
+            raise Fault(f"{source.path} is an UP.json already: name a template")
+        if options.output and not options.force and not is_own(options.output):
+            raise Fault(f"{options.output} is not as from_template wrote it: --force overwrites it; values of your own "
+                        "are kept in lambda_local.json beside the template")
+        up = up_of_source(source, given_of(options), options.values)
     except Fault as fault:
         tell(fault)
         return 2
-    place(up["functions"], options.template,
+    place(up["functions"], source,
           os.path.dirname(os.path.abspath(options.output)) if options.output else folder_of_output())
     try:
-        write(json.dumps(up, indent=2) + "\n", options.output)
+        write(up, options.output)
     except OSError as fault:
         tell(f"{options.output or 'standard output'}: {fault.strerror}")
         return 4

@@ -4,21 +4,44 @@ import importlib.util
 import os
 import re
 import shutil
-from typing import Dict, List, Optional, Sequence, Tuple
+from typing import Dict, List, NamedTuple, Optional, Sequence
 
 from ..configuration import Members
-from . import addresses, schedules
+from . import addresses, asynchronous, queues, schedules
+from .cloudformation import aliases_of
 from .layers import layers_of
-from .messages import LineGroups, excerpt, tell
-from .values import NO_VALUE, Scope, Unknown, is_scalar, text_of
+from .messages import VALUES, LineGroups, excerpt, tell
+from .objects import Object
+from .services import PAGE, ids_in
+from .values import NO_VALUE, Scope, Unknown, is_scalar, members_of, text_of
 
 READ = {"FunctionName", "Handler", "Timeout", "ReservedConcurrentExecutions", "Environment", "Runtime", "CodeUri",
-        "Code", "InlineCode", "MemorySize", "PackageType", "ImageUri", "ImageConfig", "Layers", *addresses.READ}
-MOST_ENVIRONMENTS = 10  # of a function that reserves more: each is a process
-MOST_IN_ALL, MOST_FUNCTIONS = 256, 64  # of a service
+        "Code", "InlineCode", "MemorySize", "PackageType", "ImageUri", "ImageConfig", "Layers", "AutoPublishAlias",
+        "LoggingConfig", *addresses.READ, *asynchronous.READ}
+# What a deployment alone has, or nobody notices here
+WITHOUT_MEANING = {"Role", "Policies", "PermissionsBoundary", "AssumeRolePolicyDocument", "Tags", "Description",
+                   "Architectures", "VersionDescription", "DeploymentPreference", "AutoPublishCodeSha256",
+                   "AutoPublishAliasAllProperties", "CodeSigningConfigArn", "PropagateTags", "RolePath",
+                   "SourceKMSKeyArn", "KmsKeyArn", "RuntimeManagementConfig", "PackageType",
+                   # and Serverless' own
+                   "description", "tags", "role", "iamRoleStatements", "iamRoleStatementsName",
+                   "iamRoleStatementsInherit", "architecture", "versionFunction", "logRetentionInDays", "condition",
+                   "dependsOn", "disableLogs", "logDataProtectionPolicy", "runtimeManagement"}
+LOGGING = {"LogFormat": "AWS_LAMBDA_LOG_FORMAT", "ApplicationLogLevel": "AWS_LAMBDA_LOG_LEVEL",
+           "LogGroup": "AWS_LAMBDA_LOG_GROUP_NAME"}
+MOST_FUNCTIONS = 64  # of a service
 NAME = re.compile(r"[A-Za-z0-9_-]{1,64}")
 VARIABLE = re.compile(r"\w+")
 HANDLER = re.compile(r"[ -~]{1,128}")
+MOST_INLINE = 4 << 20  # characters of code in a template (CloudFormation takes 4 MB)
+
+
+class Listed(NamedTuple):
+    """A function of a template. Its paths are as seen from `base`."""
+    key: str
+    properties: Members
+    scope: Scope
+    base: str
 
 
 def safe_name(key: object) -> str:
@@ -43,15 +66,18 @@ def name_of(key: str, properties: Members, scope: Scope) -> str:
     return safe_name(key)
 
 
-def names_of(listed: Sequence[Tuple[str, Members]], scope: Scope) -> Dict[str, str]:
-    """The name of each function, which no other has. `listed` has pairs of a logical id and properties."""
-    names: Dict[str, str] = {}
-    for key, properties in listed:
+def names_of(listed: Sequence[Listed]) -> List[str]:
+    """The name of each function, which no other has; the scopes know it from then on."""
+    names: List[str] = []
+    for key, properties, scope, _ in listed:
         wanted, own = name_of(key, properties, scope), safe_name(key)
-        others = (own, *(f"{own[:60]}-{number}" for number in range(2, MOST_FUNCTIONS + 2)))
-        names[key] = next(name for name in (wanted, *others) if name not in names.values())
-        if names[key] != wanted:
-            tell(f"{key}: it is called {names[key]}, since another function is called {wanted}")
+        nested = safe_name(scope.prefix.replace("/", "-") + own)
+        others = (own, nested, *(f"{own[:60]}-{number}" for number in range(2, MOST_FUNCTIONS + 2)))
+        name = next(name for name in (wanted, *others) if name not in names)
+        if name != wanted:
+            tell(f"{scope.prefix}{key}: it is called {name}, since another function is called {wanted}")
+        names.append(name)
+        scope.functions[key] = name
     return names
 
 
@@ -60,8 +86,9 @@ class Maker:
 
     is_elsewhere = False  # its code is not among the files here
 
-    def __init__(self, name: str, properties: Members, scope: Scope, base: str, group: LineGroups) -> None:
-        self.name, self.properties, self.scope, self.base, self.group = name, properties, scope, base, group
+    def __init__(self, name: str, listed: Listed, group: LineGroups) -> None:
+        self.name, self.group = name, group
+        self.key, self.properties, self.scope, self.base = listed
         self.made: Members = {"name": name}
 
     def tell(self, line: str) -> None:
@@ -100,40 +127,52 @@ class Maker:
         self.put("handler", handler)
         self.put("timeout", self.whole("Timeout", 1, 900))
         self.put("memory", self.whole("MemorySize", 1, 1_000_000))
-        self.reserve(self.whole("ReservedConcurrentExecutions", 0, 1_000_000))
+        self.put("reserved", self.whole("ReservedConcurrentExecutions", 0, 1_000_000))
         self.variables()
+        self.logging()
         self.code()
         self.command()
         addressed = addresses.Addresses(self.properties, self.scope, self.tell)
         self.put("url", addressed.url())
         self.put("routes", addressed.routes() or None)
         self.put("layers", layers_of(self.properties.get("Layers"), self.scope, self.base, self.tell) or None)
+        self.put("aliases", list(aliases_of(self.key, self.scope)) or None)
+        self.put("asynchronous", asynchronous.of_function(self.properties, self.scope, self.tell))
         schedules.put(self.made, schedules.of_events(self.properties, self.scope, self.tell))
-        if left := sorted(str(name) for name in set(self.properties) - READ):
+        queues.put(self.made, queues.of_events(self.properties, self.scope, self.tell), self.tell)
+        if left := sorted(str(name) for name in set(self.properties) - READ - WITHOUT_MEANING):
             self.tell(f"leaves out {', '.join(left)}")
         return self.made
 
-    def reserve(self, reserved: Optional[int]) -> None:
-        self.put("reserved", reserved)
-        self.made["environments"] = max(1, reserved or 0)
-        if self.made["environments"] > MOST_ENVIRONMENTS:
-            self.tell(f"has {MOST_ENVIRONMENTS} environments, each a process, and reserves as many: its reservation is "
-                      f"{reserved} (write more \"environments\" if your tests need them)")
-            self.made["environments"] = self.made["reserved"] = MOST_ENVIRONMENTS
+    def logging(self) -> None:
+        """The variables that Lambda makes of it, as the bundled runtimes read them."""
+        given = Object(self.properties.get("LoggingConfig"), "LoggingConfig", self.scope, self.tell)
+        given.without_meaning(["SystemLogLevel"])
+        for member, name in LOGGING.items():
+            value = given.text(member)
+            if value is not None:
+                self.made.setdefault("variables", {}).setdefault(name, value)
+        given.close()
 
     def variables(self) -> None:
+        given = self.scope.given.of_function(self.key, self.name)
         environment = self.properties.get("Environment")
         variables = environment.get("Variables") if isinstance(environment, dict) else environment
-        if variables is None:
-            return
+        variables = self.scope.chosen(variables)
+        if variables is None or variables is NO_VALUE:
+            variables = {}
         if not isinstance(variables, dict):
             self.tell(f"leaves out its variables: they must be an object, not {excerpt(variables)}")
-            return
+            variables = {}
         found: Dict[str, str] = {}
         for name, expression in variables.items():
             if not VARIABLE.fullmatch(str(name)):
                 self.tell(f"leaves out the variable {excerpt(name)}: its name must have letters, digits and _ alone")
                 continue
+            if name in given:
+                continue
+            for key in ids_in(expression):
+                self.scope.used.setdefault(key, {}).setdefault(str(name), []).append(self.name)
             try:
                 value, placeholders = self.scope.evaluate(expression)
                 if value is not None and value is not NO_VALUE:
@@ -143,11 +182,12 @@ class Maker:
             except Unknown as reason:
                 self.tell(f"leaves out the variable {name}: {reason}")
                 continue
-            if placeholders:
+            if placeholders and not set(placeholders) <= self.scope.of_services:
                 self.tell(f"the variable {name} is {excerpt(found[str(name)])}, a placeholder for "
-                          f"{' and '.join(placeholders)}: write its value into UP.json if the handler needs it")
-        if found:
-            self.made["variables"] = found
+                          f"{' and '.join(placeholders)}: set it under \"variables\" in {VALUES} if the handler "
+                          f"needs another value")
+        if found or given:
+            self.made["variables"] = {**found, **given}
 
     # --- its code, and what runs it ---
 
@@ -162,8 +202,10 @@ class Maker:
 
     def code(self) -> None:
         """Its folder, as seen from the template's."""
-        if self.is_image() or self.is_inline():
+        if self.is_image():
             return
+        if self.is_inline():
+            return self.inline()
         name = next((name for name in ("CodeUri", "Code") if name in self.properties), None)
         if name is None:
             return
@@ -177,10 +219,21 @@ class Maker:
             self.tell(f"leaves out {name}, which is not a folder here")
             return
         at = os.path.join(self.base, code)
-        if os.path.isfile(at):
-            self.tell(f"{name} is the file {code}: unpack it, and write its folder as \"directory\"")
+        if os.path.isfile(at) and not at.endswith((".zip", ".jar")):
             code = os.path.dirname(code) or "."
         self.made["directory"] = code
+
+    def inline(self) -> None:
+        """Code in the template, which is the module index."""
+        given = self.properties.get("InlineCode", members_of(self.properties, "Code").get("ZipFile"))
+        code, placeholders = self.scope.evaluate_or_reason(given)
+        if not isinstance(code, str) or len(code) > MOST_INLINE:
+            self.tell(f"leaves out its code, which must be a string{': ' * bool(placeholders)}"
+                      f"{' and '.join(placeholders)}")
+            return
+        if placeholders:
+            self.tell(f"its code has a placeholder for {' and '.join(placeholders)}")
+        self.made["inline"] = code
 
     def command(self) -> None:
         """What starts its runtime; none if that cannot be known, and then the user starts it."""
@@ -188,13 +241,9 @@ class Maker:
             self.tell("has no command, since its code is an image: write one, such as docker run "
                       "(docs/your_function.md has it)")
             return
-        if self.is_inline():
-            self.tell("has no command, since its code is in the template: write it into a file of its "
-                      "folder, and give it a \"command\" or a \"runtime\"")
-            return
         if self.is_elsewhere:
-            self.tell("has no command, since its code is not here: write its folder as \"directory\", and a "
-                      "\"command\" or a \"runtime\"")
+            self.tell("has no command, since its code is not here: set its folder as \"directory\", and a "
+                      f"\"command\" or a \"runtime\", in {VALUES}")
             return
         known, handler = self.value_of("Runtime"), self.made.get("handler", "index.handler")
         runtime = known if isinstance(known, str) else ""
@@ -215,8 +264,8 @@ class Maker:
                 self.tell(f"there is no {os.path.normpath(os.path.join(at, 'bootstrap'))} yet: build it before "
                           f"lambda_local up is started")
         else:
-            self.tell(f"has no command, since none is known for the runtime {runtime or '(none)'}: write one, or start "
-                      f"it yourself")
+            self.tell(f"has no command, since none is known for the runtime {runtime or '(none)'}: set \"command\" in "
+                      f"{VALUES}, or start the runtime yourself")
 
     def has_client(self, name: str) -> bool:
         """Whether a package of npm is on the path, or installed for the function or above it."""
@@ -228,20 +277,20 @@ class Maker:
         return bool(shutil.which(name)) or any(map(os.path.exists, installed))
 
 
-def functions_of(listed: List[Tuple[str, Members]], scope: Scope, base: str) -> List[Members]:
-    """The functions of UP.json, as many as a service may have. `base` is the template's folder."""
-    for key, _ in listed[MOST_FUNCTIONS:]:
-        tell(f"leaves out the function {key}: {MOST_FUNCTIONS} are the most")
-    listed = listed[:MOST_FUNCTIONS]
-    scope.functions = names_of(listed, scope)
-    group = LineGroups()
-    made = [Maker(scope.functions[key], properties, scope, base, group).make() for key, properties in listed]
+def functions_of(listed: List[Listed]) -> List[Members]:
+    """The functions of UP.json, as many as a service may have."""
+    for one in listed[MOST_FUNCTIONS:]:
+        tell(f"leaves out the function {one.key}: {MOST_FUNCTIONS} are the most")
+    listed, group = listed[:MOST_FUNCTIONS], LineGroups()
+    names = names_of(listed)
+    made = [Maker(name, one, group).make() for name, one in zip(names, listed)]
     group.say()
-    left = MOST_IN_ALL - len(made)
-    for function in made:
-        given = min(function["environments"], 1 + left)
-        if given < function["environments"]:
-            tell(f"{function['name']}: has {given} environments: {MOST_IN_ALL} are the most in all")
-            function["environments"] = function["reserved"] = given
-        left -= given - 1
     return made
+
+
+def tell_services(scope: Scope) -> None:
+    """One line for each resource that another service must serve, with the variables by which functions find it."""
+    for key in scope.services:
+        names = [f"{variable} of {', '.join(functions)}" for variable, functions in scope.used.get(key, {}).items()]
+        tell(f"leaves out {scope.prefix}{key}, {members_of(scope.resources, key)['Type']}, which another service must "
+             f"have ({PAGE})" + (f": {'; '.join(names)} names it" if names else ""))

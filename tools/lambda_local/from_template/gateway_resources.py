@@ -2,10 +2,12 @@
 (AWS::ApiGateway) and the routes of an HTTP API (AWS::ApiGatewayV2)."""
 import functools
 import re
-from typing import Callable, Dict, List, Optional
+from typing import Callable, Dict, List, Optional, Set
 
 from ..configuration import Members
 from ..front.routes import DEFAULT, WrongRoute
+from .cloudformation import referenced
+from .objects import Object
 from .resources import function_of, resources_of
 from .routes import FunctionRoute, Of, check_key, key_of
 from .messages import excerpt, tell
@@ -13,19 +15,13 @@ from .values import Scope, Unknown, members_of
 
 REST, HTTP = "AWS::ApiGateway::", "AWS::ApiGatewayV2::"
 INVOKED = re.compile(r"functions/(.+)/invocations")  # the function in the URI of an integration
+# What a method or a route has that has no meaning here, or is read elsewhere
+OF_METHOD = {"RestApiId", "ResourceId", "HttpMethod", "Integration", "MethodResponses", "OperationName"}
+OF_INTEGRATION = {"Type", "Uri", "IntegrationHttpMethod", "Credentials", "PassthroughBehavior", "TimeoutInMillis",
+                  "IntegrationResponses", "ContentHandling", "ConnectionType"}
+OF_ROUTE = {"ApiId", "RouteKey", "Target", "OperationName"}
 HEADER = "method.response.header.Access-Control-"
 MOST_PARTS = 100  # of a path, beyond which its resources go round in a circle
-
-
-def referenced_id(value: object) -> Optional[str]:
-    """The logical id that a reference to a resource or to an attribute of it names; None if it is neither."""
-    if not isinstance(value, dict) or len(value) != 1:
-        return None
-    (function, argument), = value.items()
-    if function == "Fn::GetAtt" and argument:
-        argument = argument.split(".")[0] if isinstance(argument, str) else (
-            argument[0] if isinstance(argument, list) else None)
-    return argument if function in ("Ref", "Fn::GetAtt") and isinstance(argument, str) else None
 
 
 def text_of(properties: Members, name: str, scope: Scope) -> Optional[str]:
@@ -42,6 +38,19 @@ def function_invoked_by(uri: object, functions: List[Members], scope: Scope) -> 
         return None
     match = INVOKED.search(text) if isinstance(text, str) else None
     return function_of(match[1] if match else text, functions, scope)
+
+
+def tell_unread(where: str, members: Members, read: Set[str], scope: Scope) -> None:
+    """Says which members of a method, a route or an integration nobody reads."""
+    given = Object(members, where, scope, tell)
+    given.without_meaning(read)
+    if given.raw("AuthorizationType") not in ("NONE", None):
+        given.asked.discard("AuthorizationType")
+    if given.raw("ApiKeyRequired") in (False, None):
+        given.without_meaning(["ApiKeyRequired"])
+    else:
+        given.asked.discard("ApiKeyRequired")
+    given.close()
 
 
 def put(made: Members, where: str, of: Of, key: Callable[[], str]) -> None:
@@ -64,7 +73,7 @@ class RestApis:
     def path(self, resource: object) -> Optional[str]:
         """The path of a resource; None if it is not known."""
         parts: List[str] = []
-        while (key := referenced_id(resource)) is not None and key in self.parts and len(parts) < MOST_PARTS:
+        while (key := referenced(resource)) is not None and key in self.parts and len(parts) < MOST_PARTS:
             part = text_of(self.parts[key], "PathPart", self.scope)
             if part is None:
                 return None
@@ -75,7 +84,7 @@ class RestApis:
 
     def add_routes(self, functions: List[Members]) -> None:
         for key, properties in resources_of(REST + "Method", self.scope):
-            api, path = referenced_id(properties.get("RestApiId")), self.path(properties.get("ResourceId"))
+            api, path = referenced(properties.get("RestApiId")), self.path(properties.get("ResourceId"))
             method = text_of(properties, "HttpMethod", self.scope)
             integration = members_of(properties, "Integration")
             kind = integration.get("Type")
@@ -89,7 +98,10 @@ class RestApis:
                 continue
             if kind == "AWS":
                 tell(f"{made['name']}: {method} {path} is a proxy integration here, without mapping templates")
-            put(made, f"method {key}", Of(api, True), functools.partial(key_of, method, path))
+                integration = {name: value for name, value in integration.items() if not name.startswith("Request")}
+            tell_unread(f"{method} {path}", properties, OF_METHOD, self.scope)
+            tell_unread(f"the integration of {method} {path}", integration, OF_INTEGRATION, self.scope)
+            put(made, f"method {key}", Of(self.scope.prefix + api, True), functools.partial(key_of, method, path))
 
     @staticmethod
     def why_not(kind: object, made: Optional[Members], api: Optional[str], path: Optional[str]) -> str:
@@ -116,10 +128,10 @@ class RestApis:
             if key in self.cors:
                 by_api[key]["Cors"] = self.cors[key]
         for _, given in resources_of(REST + "Stage", self.scope):
-            api = by_api.get(referenced_id(given.get("RestApiId")) or "")
+            api = by_api.get(referenced(given.get("RestApiId")) or "")
             if api is not None:
                 api.update({name: given[name] for name in ("StageName", "Variables") if name in given})
-        return by_api
+        return {self.scope.prefix + key: members for key, members in by_api.items()}
 
 
 class HttpApis:
@@ -140,7 +152,7 @@ class HttpApis:
 
     def add_routes(self, functions: List[Members]) -> None:
         for key, properties in resources_of(HTTP + "Route", self.scope):
-            api, route = referenced_id(properties.get("ApiId")), text_of(properties, "RouteKey", self.scope)
+            api, route = referenced(properties.get("ApiId")), text_of(properties, "RouteKey", self.scope)
             integration = self.integration_of(properties.get("Target")) or {}
             made = function_invoked_by(integration.get("IntegrationUri"), functions, self.scope)
             if self.is_web_socket(api) or api is None or api not in self.apis or route is None or made is None:
@@ -149,19 +161,22 @@ class HttpApis:
                     "its function is not here" if made is None else "its API or key is not known here"))
                 continue
             payload = "2.0" if str(integration.get("PayloadFormatVersion")) == "2.0" else "1.0"
-            put(made, f"route {key}", Of(api, payload=payload), functools.partial(check_key, route))
+            tell_unread(f"the route {route}", properties, OF_ROUTE, self.scope)
+            of = Of(self.scope.prefix + api, payload=payload)
+            put(made, f"route {key}", of, functools.partial(check_key, route))
         for key, properties in self.apis.items():  # (one whose only route is part of it)
             made = (function_invoked_by(properties.get("Target"), functions, self.scope)
                     if "Target" in properties else None)
             if made:
                 route = text_of(properties, "RouteKey", self.scope) or DEFAULT
-                put(made, f"route {key}", Of(key), functools.partial(check_key, route))
+                put(made, f"route {key}", Of(self.scope.prefix + key), functools.partial(check_key, route))
 
     def is_web_socket(self, api: Optional[str]) -> bool:
         return text_of(self.apis.get(api or "", {}), "ProtocolType", self.scope) == "WEBSOCKET"
 
     def properties(self) -> Dict[str, Members]:
-        return {key: {"CorsConfiguration": given["CorsConfiguration"]} if "CorsConfiguration" in given else {}
+        return {self.scope.prefix + key: {"CorsConfiguration": given["CorsConfiguration"]}
+                if "CorsConfiguration" in given else {}
                 for key, given in self.apis.items() if not self.is_web_socket(key)}
 
 

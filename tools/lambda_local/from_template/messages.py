@@ -1,15 +1,35 @@
-"""What the tool says on standard error."""
-from typing import Dict, List
+"""What is said of a template: by from_template on standard error, by `up` in its log."""
+import contextlib
+from typing import Callable, Dict, Iterator, List
 
 from .. import outgoing
+
+VALUES = "lambda_local.json"  # where users write what a template does not say
 
 
 class Fault(Exception):
     """A message that says what to do; the status is 2."""
 
 
-def tell(line: object) -> None:
+def tell_plainly(line: str) -> None:
     outgoing.tell(f"from_template: {line}")
+
+
+TAKERS: List[Callable[[str], None]] = [tell_plainly]  # the last of them gets the lines
+
+
+@contextlib.contextmanager
+def told_to(take: Callable[[str], None]) -> Iterator[None]:
+    """Lines go there meanwhile."""
+    TAKERS.append(take)
+    try:
+        yield
+    finally:
+        TAKERS.pop()
+
+
+def tell(line: object) -> None:
+    TAKERS[-1](str(line))
 
 
 class LineGroups:

@@ -10,6 +10,7 @@ LONGEST = 16 << 20  # bytes of a template (CloudFormation takes 1 MB)
 DEEPEST = 100  # levels of one (an expression has 50: `values`)
 MERGE = "tag:yaml.org,2002:merge"
 MOST_MERGED = 100_000  # members that merge keys bring: `<<: [*a, *a]` doubles them at each level
+MOST_VALUES = 1_000_000  # of a template, each alias written out
 WITHOUT_PREFIX = ("Ref", "Condition")  # of the short forms, such as !Ref; the others are Fn::
 
 
@@ -59,6 +60,16 @@ def count_merges(flatten: Callable[[Any, Any], object], yaml: Any) -> Callable[[
     return flatten_counted
 
 
+def size_of(whole: object, known: Dict[int, int]) -> int:
+    """How many values there are if each alias is written out. One that stands in itself has as many as may be."""
+    if not isinstance(whole, (list, dict)):
+        return 1
+    if id(whole) not in known:
+        known[id(whole)] = MOST_VALUES
+        known[id(whole)] = 1 + sum(size_of(one, known) for one in (whole.values() if isinstance(whole, dict) else whole))
+    return known[id(whole)]
+
+
 def parse(path: str, text: str) -> object:
     try:
         return read_json(text, DEEPEST)
@@ -73,6 +84,8 @@ def parse(path: str, text: str) -> object:
         whole: object = yaml.load(text, yaml_loader(yaml))
         if is_deeper(whole, DEEPEST):
             raise Fault("it is nested too deep")
+        if size_of(whole, {}) > MOST_VALUES:
+            raise Fault(f"its aliases make more than {MOST_VALUES:,} values")
         return whole
     except Fault as fault:
         raise Fault(f"{path}: {fault}") from None

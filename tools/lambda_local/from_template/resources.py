@@ -5,13 +5,12 @@ from typing import Dict, Iterator, List, Optional, Tuple, Union
 from ..configuration import Members
 from ..front.events import NAMED
 from .addresses import Addresses
-from .cloudformation import is_wanted
+from .cloudformation import is_wanted, merged
 from .routes import IMPLICIT, IMPLICIT_REST
 from .messages import excerpt, tell
 from .values import Scope, Unknown, members_of
 
 URL, HTTP_API, REST_API = "AWS::Lambda::Url", "AWS::Serverless::HttpApi", "AWS::Serverless::Api"
-READ_OF_URL = {"TargetFunctionArn", "AuthType", "Cors", "InvokeMode", "Qualifier"}
 
 
 def resources_of(kind: str, scope: Scope) -> Iterator[Tuple[str, Members]]:
@@ -50,18 +49,16 @@ def url_of(name: str, key: str, properties: Members, scope: Scope) -> Union[bool
     own = {member: value for member, value in properties.items() if member != "TargetFunctionArn"}
     given = Addresses({key: own}, scope, of_function)
     known = given.value(key)
-    known = known if isinstance(known, dict) else {}
-    if "Qualifier" in known:
-        of_function(f"its URL is of {excerpt(known['Qualifier'])}, and here of $LATEST")
-    if left := sorted(str(member) for member in set(known) - READ_OF_URL):
-        of_function(f"leaves out {', '.join(left)} of its URL")
-    return given.url_of(known)
+    return given.url_of(known if isinstance(known, dict) else {})
 
 
 def apis_of(template: Members, scope: Scope) -> Dict[str, Members]:
     """The properties of each API by its logical id, with what Globals says of all, in SAM's names."""
-    common = members_of(template, "Globals")
+    common, prefix = members_of(template, "Globals"), scope.prefix
     http, rest = members_of(common, "HttpApi"), {"StageName": "Prod", **members_of(common, "Api")}
-    return {IMPLICIT: http, IMPLICIT_REST: rest,
-            **{key: {**http, **properties} for key, properties in resources_of(HTTP_API, scope)},
-            **{key: {**rest, **properties} for key, properties in resources_of(REST_API, scope)}}
+    apis: Dict[str, Members] = {prefix + IMPLICIT: http, prefix + IMPLICIT_REST: rest}
+    for kind, shared in ((HTTP_API, http), (REST_API, rest)):
+        for key, properties in resources_of(kind, scope):
+            whole = merged(shared, properties)
+            apis[prefix + key] = whole if isinstance(whole, dict) else {}
+    return apis

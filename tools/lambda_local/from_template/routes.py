@@ -1,6 +1,6 @@
 """Routes that a template has, the APIs that they are of, and what UP.json says of both."""
 import re
-from typing import Any, Dict, List, NamedTuple, Optional, Sequence, Tuple
+from typing import Any, Dict, List, NamedTuple, Optional, Sequence, Set, Tuple
 
 from ..configuration import Members
 from ..front import settings
@@ -14,7 +14,9 @@ IMPLICIT, IMPLICIT_REST = "ServerlessHttpApi", "ServerlessRestApi"
 OF_SERVERLESS, REST_OF_SERVERLESS = "provider.httpApi", "provider.apiGateway"
 UNNAMED = {IMPLICIT, IMPLICIT_REST, OF_SERVERLESS, REST_OF_SERVERLESS}
 # What is taken of an API's properties, or has no meaning here
-READ_OF_HTTP, READ_OF_REST = {"CorsConfiguration"}, {"StageName", "Variables", "BinaryMediaTypes", "Cors", "Name"}
+READ_OF_HTTP = {"CorsConfiguration", "Name", "DefinitionBody", "DefinitionUri", "Description", "Tags"}
+READ_OF_REST = {"StageName", "Variables", "BinaryMediaTypes", "Cors", "Name", "DefinitionBody", "DefinitionUri",
+                "Description", "Tags", "EndpointConfiguration", "OpenApiVersion", "AlwaysDeploy", "PropagateTags"}
 
 
 class Of(NamedTuple):
@@ -38,7 +40,7 @@ class FunctionRoute(NamedTuple):
 def key_of(method: object, path: object) -> str:
     """The key of a route; WrongRoute if it is none. One without a method and a path takes everything else."""
     key = DEFAULT
-    if method is not None or path is not None:
+    if (method is not None or path is not None) and str(path or "").strip("/") != DEFAULT:
         method = str(method or "ANY").upper().replace("*", "ANY").replace("X-AMAZON-APIGATEWAY-ANY-METHOD", "ANY")
         key = f"{method} /{str(path or '').lstrip('/')}"
     return check_key(key)
@@ -53,20 +55,34 @@ def check_key(key: str) -> str:
     return key
 
 
-def take_routes(functions: List[Members]) -> Dict[str, Tuple[str, FunctionRoute]]:
-    """Takes the routes out of the functions: each by its key, with its function's name. Of two that take the same
-    requests the first counts."""
-    routes: Dict[str, Tuple[str, FunctionRoute]] = {}
+Found = Dict[str, Tuple[str, FunctionRoute]]  # each route by its key, with its function's name
+
+
+def take_routes(functions: List[Members]) -> Found:
+    """Takes the routes out of the functions. Of two of one API that take the same requests the first counts, and so
+    does one of two that is written in both ways: an API whose routes are another's too has a port of its own."""
+    found: List[Tuple[str, FunctionRoute]] = [(made["name"], mapped) for made in functions
+                                              for mapped in made.pop("routes", ())]
+    routes: Found = {}
     shapes: Dict[object, str] = {}
-    for made in functions:
-        for mapped in made.pop("routes", ()):
-            shape = Route(mapped.key).shape
-            if shape in shapes:
-                tell(f"{made['name']}: leaves out the route {mapped.key}, since {routes[shapes[shape]][0]} has "
-                     f"{shapes[shape]}")
-            else:
-                routes[mapped.key], shapes[shape] = (made["name"], mapped), mapped.key
+    for name, mapped in found:
+        shape = Route(mapped.key).shape
+        if shape in shapes:
+            tell(f"{name}: leaves out the route {mapped.key}, since {routes[shapes[shape]][0]} has {shapes[shape]}")
+        else:
+            routes[mapped.key], shapes[shape] = (name, mapped), mapped.key
     return routes
+
+
+def apart(functions: List[Members]) -> List[str]:
+    """The APIs that have a route which one before them has too: they cannot share its port."""
+    seen: Dict[object, str] = {}
+    found: Dict[str, None] = {}
+    for mapped in (mapped for made in functions for mapped in made.get("routes", ())):
+        other = seen.setdefault(Route(mapped.key).shape, mapped.of.key)
+        if other != mapped.of.key and other not in found:
+            found[mapped.of.key] = None
+    return list(found)
 
 
 class Apis:
@@ -75,15 +91,31 @@ class Apis:
 
     def __init__(self, properties: Dict[str, Members], scope: Scope) -> None:
         self.properties, self.scope = properties, scope
+        self.is_told: Set[str] = set()
 
     def members(self, functions: List[Members]) -> Members:
-        """The members `routes` and `api` of UP.json, without those that are empty; takes routes out of the
+        """The members `routes`, `api` and `apis` of UP.json, without those that are empty; takes routes out of the
         functions."""
+        others = {}
+        for key in apart(functions):
+            own = [{"name": made["name"], "routes": [mapped for mapped in made["routes"] if mapped.of.key == key]}
+                   for made in functions if "routes" in made]
+            for made in functions:
+                made["routes"] = [mapped for mapped in made.get("routes", ()) if mapped.of.key != key]
+            of_api = self.of_port(own)
+            others[re.sub(r"[^A-Za-z0-9_-]", "-", key)] = {"routes": of_api["routes"], **of_api.get("api", {})}
+        made = self.of_port(functions)
+        for key in set(self.properties) - self.is_told - UNNAMED:
+            if key.rpartition("/")[2] not in UNNAMED:
+                tell(f"leaves out {key}: none of the routes is of this API")
+        return {**made, **({"apis": others} if others else {})}
+
+    def of_port(self, functions: List[Members]) -> Members:
+        """The members `routes` and `api` of what has one port."""
         found = take_routes(functions)
         used = list(dict.fromkeys(mapped.of for _, mapped in found.values()))
         integrations = {of: self.integration(of) for of in used}
-        for key in set(self.properties) - {of.key for of in used} - UNNAMED:
-            tell(f"leaves out {key}: none of the routes is of this API")
+        self.is_told.update(of.key for of in used)
         alike = len({repr(each) for each in integrations.values()}) == 1
         api = {**(integrations[used[0]] if alike else {}), **self.cors(found, used)}
         routes: Members = {}

@@ -3,12 +3,14 @@ resources)."""
 import json
 from typing import Any, Callable, Dict, Iterator, List, Optional
 
-from ..up.expressions import WrongExpression, expression_of
+from ..expressions import WrongExpression, expression_of
 from .messages import excerpt
-from .values import NO_VALUE, Scope, members_of
+from .objects import Object, members_by_key
+from .values import NO_VALUE, Scope
 
 OF_SAM = ("Schedule", "ScheduleV2")
-OFF = ("DISABLED", False, "false")
+# A schedule's own name and role; and retries, which `asynchronous` has
+WITHOUT_MEANING = ("Name", "Description", "GroupName", "RoleArn", "PermissionsBoundary", "OmitName")
 Tell = Callable[[str], object]
 
 
@@ -22,25 +24,27 @@ def input_of(given: Any) -> Any:
         return given
 
 
-def schedule_of(where: str, expression: Any, given: Any, scope: Scope, tell: Tell) -> Optional[object]:
+def schedule_of(where: str, expression: Any, given: Any, scope: Scope, tell: Tell,
+                zone: Optional[str] = None) -> Optional[object]:
     """A schedule of UP.json; none, and a message, if it is unknown here."""
     both, placeholders = scope.evaluate_or_reason([expression, given if given is not None else {"Ref": "AWS::NoValue"}])
     if placeholders:
-        tell(f"leaves out its {where}: it needs {' and '.join(placeholders)}")
+        tell(f"leaves out {where}: it needs {' and '.join(placeholders)}")
         return None
     both = both if isinstance(both, list) else []
     text = both[0] if both else None
     if not isinstance(text, str):
-        tell(f"leaves out its {where}: its expression must be a string, not {excerpt(text)}")
+        tell(f"leaves out {where}: its expression must be a string, not {excerpt(text)}")
         return None
     try:
-        expression_of(text)
+        expression_of(text, zone)
     except WrongExpression as fault:
-        tell(f"leaves out its {where}, {excerpt(text)}: {fault}")
+        tell(f"leaves out {where}, {excerpt(text)}: {fault}")
         return None
-    if len(both) == 1 or both[1] is NO_VALUE:
-        return text
-    return {"expression": text, "input": input_of(both[1])}
+    made: Dict[str, object] = {"expression": text}
+    made.update({} if len(both) == 1 or both[1] is NO_VALUE else {"input": input_of(both[1])})
+    made.update({} if zone is None else {"timezone": zone})
+    return made if len(made) > 1 else text
 
 
 def of_events(properties: Dict[str, Any], scope: Scope, tell: Tell) -> List[object]:
@@ -49,31 +53,38 @@ def of_events(properties: Dict[str, Any], scope: Scope, tell: Tell) -> List[obje
     return [schedule for schedule in schedules if schedule is not None]
 
 
-def is_off(given: Dict[str, Any], where: str, tell: Tell) -> bool:
-    if given.get("State") in OFF or given.get("Enabled") in OFF or given.get("enabled") in OFF:
-        tell(f"leaves out its {where}, which is not enabled")
+def is_off(given: Object, tell: Tell) -> bool:
+    if any(state is False or state == "DISABLED" or state == "false"
+           for state in map(given.raw, ("State", "Enabled", "enabled"))):
+        tell(f"leaves out {given.where}, which is not enabled")
         return True
     return False
 
 
 def of_sam(events: Any, scope: Scope, tell: Tell) -> Iterator[Optional[object]]:
-    for name, event in events.items() if isinstance(events, dict) else ():
-        if isinstance(event, dict) and event.get("Type") in OF_SAM:
-            given, where = members_of(event, "Properties"), f"event {name}"
-            if not is_off(given, where, tell):
-                expression = given.get("Schedule", given.get("ScheduleExpression"))
-                yield schedule_of(where, expression, given.get("Input"), scope, tell)
+    for name, event in members_by_key(events, scope).items():
+        if event.get("Type") in OF_SAM:
+            given = Object(event.get("Properties"), f"its event {name}", scope, tell)
+            given.without_meaning(WITHOUT_MEANING)
+            if not is_off(given, tell):
+                expression = given.raw("Schedule") or given.raw("ScheduleExpression")
+                yield schedule_of(given.where, expression, given.raw("Input"), scope, tell,
+                                  given.text("ScheduleExpressionTimezone"))
+                given.close()
 
 
 def of_serverless(events: Any, scope: Scope, tell: Tell) -> Iterator[Optional[object]]:
-    for event in events if isinstance(events, list) else ():
+    chosen = scope.chosen(events)
+    for event in chosen if isinstance(chosen, list) else ():
         if isinstance(event, dict) and list(event) == ["schedule"]:
-            given = event["schedule"]
-            given = given if isinstance(given, dict) else {"rate": given}
-            if not is_off(given, "schedule", tell):
-                rates = given.get("rate")
+            whole = event["schedule"]
+            given = Object(whole if isinstance(whole, dict) else {"rate": whole}, "its schedule", scope, tell)
+            given.without_meaning(["name", "description", "method"])
+            if not is_off(given, tell):
+                rates, zone = given.raw("rate"), given.text("timezone")
                 for rate in rates if isinstance(rates, list) else [rates]:
-                    yield schedule_of("schedule", rate, given.get("input"), scope, tell)
+                    yield schedule_of("its schedule", rate, given.raw("input"), scope, tell, zone)
+                given.close()
 
 
 def put(made: Dict[str, Any], schedules: List[object]) -> None:

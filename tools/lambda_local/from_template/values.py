@@ -1,20 +1,24 @@
-"""The values of a template's expressions here: parameters have their defaults, pseudo parameters the service's account
-and region, functions their names. A reference to anything else is a placeholder, which is reported."""
+"""The values of a template's expressions here: parameters have what is given for them or their defaults, pseudo
+parameters the service's account and region, functions their names. A reference to anything else is a placeholder, which
+is reported; `services` has the names and ARNs of resources that other services serve."""
+import base64
 import datetime
+import json
 import re
-from typing import Any, Callable, Dict, List, Match, NamedTuple, Tuple
+from typing import Any, Callable, Dict, List, Match, NamedTuple, Optional, Set, Tuple
 
 from ..configuration import Members
+from . import services
+from .given import NOTHING, Given
 
 ACCOUNT, REGION = "123456789012", "us-east-1"  # those of lambda_local up
 NO_VALUE = object()  # what AWS::NoValue stands for: the property is not there
 IN_TEXT = re.compile(r"\$\{(!?)([^${}]*)\}")  # of Fn::Sub
-NAMED_BY = {"AWS::DynamoDB::Table": "TableName", "AWS::Serverless::SimpleTable": "TableName",
-            "AWS::S3::Bucket": "BucketName"}
+# The methods that work out a function
 FUNCTIONS = {"Ref": "ref", "Fn::GetAtt": "get_att", "Fn::Join": "join", "Fn::Sub": "sub", "Fn::Select": "select",
-             "Fn::Split": "split",
-             # and the methods that work them out
-             "Fn::FindInMap": "find_in_map", "Fn::ImportValue": "import_value", "Fn::If": "choose"}
+             "Fn::Split": "split", "Fn::FindInMap": "find_in_map", "Fn::ImportValue": "import_value",
+             "Fn::If": "choose", "Fn::Base64": "in_base64", "Fn::ToJsonString": "in_json", "Fn::Length": "length",
+             "Fn::GetAZs": "zones"}
 DEEPEST, MOST_STEPS = 50, 10_000  # of one expression
 
 
@@ -42,22 +46,45 @@ def text_of(value: object) -> str:
     return str(value)
 
 
+def type_of(resource: object) -> str:
+    """The type of a resource or an event; nothing if it has none."""
+    kind = resource.get("Type") if isinstance(resource, dict) else None
+    return kind if isinstance(kind, str) else ""
+
+
 def members_of(template: object, name: object) -> Members:
     """A part of a template that should be an object; an empty one if it isn't."""
     part = template.get(name) if isinstance(template, dict) else None
     return part if isinstance(part, dict) else {}
 
 
-class Scope:
-    """The names that a template's expressions may use. `functions` has the name of each function by its logical id."""
+class Shared:
+    """What the stacks of a project have in common: the exports of all, and how far an expression has been worked
+    out, which may lead from one stack to another."""
 
-    def __init__(self, template: object, stack: str, region: str = REGION) -> None:
-        self.parameters, self.conditions = members_of(template, "Parameters"), members_of(template, "Conditions")
-        self.mappings, self.resources = members_of(template, "Mappings"), members_of(template, "Resources")
-        self.functions: Dict[str, str] = {}
-        self.layers: Dict[str, str] = {}  # the path of each that is not among the resources, by its logical id
+    def __init__(self) -> None:
+        self.exports: "Dict[str, Tuple[Scope, object]]" = {}
         self.placeholders: List[str] = []
         self.depth = self.steps = 0
+
+
+class Scope:
+    """The names that a template's expressions may use. `functions` has the name of each function by its logical id,
+    `aliases` the function and the name of each alias by its own, and `nested` the scopes of nested stacks."""
+
+    def __init__(self, template: object, stack: str, region: str = REGION, given: Given = NOTHING,
+                 shared: Optional[Shared] = None, prefix: str = "") -> None:
+        self.parameters, self.conditions = members_of(template, "Parameters"), members_of(template, "Conditions")
+        self.mappings, self.resources = members_of(template, "Mappings"), members_of(template, "Resources")
+        self.outputs, self.given, self.prefix = members_of(template, "Outputs"), given, prefix
+        self.shared = shared or Shared()
+        self.passed: "Dict[str, Tuple[Scope, object]]" = {}  # to a nested stack, as parameters
+        self.nested: Dict[str, Scope] = {}
+        self.functions: Dict[str, str] = {}
+        self.aliases: Dict[str, Tuple[str, Optional[str]]] = {}
+        self.layers: Dict[str, str] = {}  # the path of each that is not among the resources, by its logical id
+        self.assets: Dict[str, str] = {}  # the path of each that CDK has staged, by its key in the bucket
+        self.used: Dict[str, Dict[str, List[str]]] = {}  # by which variables of which functions resources are named
         self.pseudo: Dict[str, object] = {
             "AWS::AccountId": ACCOUNT, "AWS::Region": region, "AWS::Partition": "aws",
             "AWS::URLSuffix": "amazonaws.com", "AWS::StackName": stack, "AWS::NotificationARNs": [],
@@ -66,15 +93,27 @@ class Scope:
                             "00000000-0000-0000-0000-000000000000"}
 
     @property
+    def services(self) -> List[str]:
+        """The resources that other services serve."""
+        return [str(key) for key, resource in self.resources.items()
+                if type_of(resource) in services.KINDS]
+
+    @property
+    def of_services(self) -> Set[str]:
+        """The placeholders for such resources."""
+        forms = ("the resource {}", "the address of the queue {}")
+        return {form.format(key) for key in self.services for form in forms}
+
+    @property
     def payload(self) -> str:
         """The format of the events of an HTTP API whose routes name none."""
         return "2.0"
 
     def evaluate(self, expression: object) -> Value:
         """Its value with its placeholders; Unknown if it has none."""
-        self.placeholders, self.steps = [], 0
+        self.shared.placeholders, self.shared.steps = [], 0
         value = self.value(expression)
-        return Value(value, tuple(dict.fromkeys(self.placeholders)))
+        return Value(value, tuple(dict.fromkeys(self.shared.placeholders)))
 
     def evaluate_or_reason(self, expression: object) -> Value:
         """The same; None, with the reason in the place of placeholders, if it has none."""
@@ -86,14 +125,14 @@ class Scope:
     def text(self, text: str) -> object:
         """A text outside of Fn::Sub."""
         if text.startswith("{{resolve:"):
-            self.placeholders.append(f"the dynamic reference {text}")
+            self.shared.placeholders.append(f"the dynamic reference {text}")
         return text
 
     def value(self, expression: object) -> object:
-        self.depth += 1
-        self.steps += 1
+        self.shared.depth += 1
+        self.shared.steps += 1
         try:
-            if self.depth > DEEPEST or self.steps > MOST_STEPS:
+            if self.shared.depth > DEEPEST or self.shared.steps > MOST_STEPS:
                 raise Unknown("its expressions are nested too deep, or go round in a circle")
             if isinstance(expression, str):
                 return self.text(expression)
@@ -103,7 +142,25 @@ class Scope:
                 return self.of_object(expression)
             return expression
         finally:
-            self.depth -= 1
+            self.shared.depth -= 1
+
+    def chosen(self, expression: object) -> object:
+        """An expression by the conditions around it, and otherwise as it is; NO_VALUE if it is not there."""
+        for _ in range(DEEPEST):
+            if not isinstance(expression, dict) or len(expression) != 1:
+                break
+            (name, argument), = expression.items()
+            if name == "Ref" and argument == "AWS::NoValue":
+                return NO_VALUE
+            if name != "Fn::If" or not (isinstance(argument, list) and len(argument) == 3):
+                break
+            try:
+                expression = argument[1] if self.holds(argument[0]) else argument[2]
+            except Unknown:
+                break
+        if isinstance(expression, list):
+            return [member for member in map(self.chosen, expression) if member is not NO_VALUE]
+        return expression
 
     def of_object(self, expression: Members) -> object:
         if len(expression) == 1:
@@ -119,7 +176,7 @@ class Scope:
     # --- the functions ---
 
     def placeholder(self, text: object, what: str) -> object:
-        self.placeholders.append(what)
+        self.shared.placeholders.append(what)
         return text
 
     def ref(self, name: object) -> object:
@@ -131,21 +188,42 @@ class Scope:
             return self.parameter(name)
         if name in self.functions:
             return self.functions[name]
-        resource = self.resources.get(name)
-        kind = str(members_of(self.resources, name).get("Type"))
-        given = members_of(resource, "Properties").get(NAMED_BY.get(kind, ""))
-        return self.value(given) if given is not None else self.placeholder(name, f"the resource {name}")
+        if name in self.aliases:
+            return self.arn_of_alias(name)
+        known = services.ref(name, members_of(self.resources, name), self)
+        return self.placeholder(name, f"the resource {name}") if known is None else known
+
+    def arn_of(self, function: str, qualifier: Optional[str] = None) -> str:
+        arn = f"arn:aws:lambda:{self.pseudo['AWS::Region']}:{ACCOUNT}:function:{function}"
+        return f"{arn}:{qualifier}" if qualifier else arn
+
+    def arn_of_alias(self, name: str) -> object:
+        """By which a function is invoked; that of a version is the function's own, since it has no other version."""
+        key, alias = self.aliases[name]
+        return self.arn_of(self.functions[key], alias) if key in self.functions else self.placeholder(
+            name, f"the resource {name}")
 
     def parameter(self, name: str) -> object:
         parameter = self.parameters[name]
+        if name in self.passed:
+            scope, expression = self.passed[name]
+            return scope.value(expression)
+        if name in self.given.parameters:
+            return self.typed(parameter, self.given.parameters[name])
         default = parameter.get("Default") if isinstance(parameter, dict) else None
         if not is_scalar(default):
             return self.placeholder(name, f"the parameter {name}, which has no Default")
         if str(parameter.get("Type", "")).startswith("AWS::SSM::"):
             return self.placeholder(default, f"the parameter {name}, whose value is in the Parameter Store")
-        if str(parameter.get("Type", "")).startswith("List<") or parameter.get("Type") == "CommaDelimitedList":
-            return [part.strip() for part in text_of(default).split(",")]
-        return default
+        return self.typed(parameter, default)
+
+    @staticmethod
+    def typed(parameter: object, value: object) -> object:
+        """A parameter's value; of one that is a list, its parts."""
+        kind = str(parameter.get("Type", "")) if isinstance(parameter, dict) else ""
+        if kind.startswith("List<") or kind == "CommaDelimitedList":
+            return [part.strip() for part in text_of(value).split(",")]
+        return value
 
     def get_att(self, argument: object) -> object:
         words = argument.split(".", 1) if isinstance(argument, str) else argument
@@ -153,8 +231,20 @@ class Scope:
             raise Unknown(f"Fn::GetAtt needs a resource and its attribute, not {argument!r}")
         name, attribute = words
         if name in self.functions and attribute == "Arn":
-            return f"arn:aws:lambda:{self.pseudo['AWS::Region']}:{ACCOUNT}:function:{self.functions[name]}"
-        return self.placeholder(f"{name}.{attribute}", f"the attribute {attribute} of {name}")
+            return self.arn_of(self.functions[name])
+        if attribute in ("Alias", "Version", "Arn") and (f"{name}.{attribute}" in self.aliases or name in self.aliases):
+            return self.arn_of_alias(name if name in self.aliases else f"{name}.{attribute}")
+        if name in self.nested and attribute.startswith("Outputs."):
+            return self.nested[name].output(attribute[len("Outputs."):], f"{name}.{attribute}")
+        known = services.attribute(name, attribute, members_of(self.resources, name), self)
+        return known if known is not None else self.placeholder(
+            f"{name}.{attribute}", f"the attribute {attribute} of {name}")
+
+    def output(self, name: str, otherwise: str) -> object:
+        """What an output of this stack has."""
+        if "Value" not in members_of(self.outputs, name):
+            return self.placeholder(otherwise, f"the output {name}, which its stack does not have")
+        return self.value(self.outputs[name]["Value"])
 
     def join(self, argument: object) -> str:
         if not (isinstance(argument, list) and len(argument) == 2):
@@ -190,7 +280,10 @@ class Scope:
             values = self.value(given)
             if not isinstance(values, list):
                 raise TypeError
-            return values[int(text_of(self.value(index)))]
+            number = int(text_of(self.value(index)))
+            if number < 0:
+                raise IndexError
+            return values[number]
         except (TypeError, ValueError, IndexError):
             raise Unknown(f"Fn::Select needs an index and a list that has it, not {argument!r}") from None
 
@@ -212,11 +305,36 @@ class Scope:
                 entry = entry[self.value(name)]
             return self.value(entry)
         except (KeyError, TypeError, IndexError):
+            last = argument[3] if isinstance(argument, list) and len(argument) == 4 else None
+            if isinstance(last, dict) and "DefaultValue" in last:
+                return self.value(last["DefaultValue"])
             raise Unknown(f"Mappings has no {argument!r}") from None
 
     def import_value(self, argument: object) -> object:
         name = text_of(self.value(argument))
+        if name in self.shared.exports:
+            scope, expression = self.shared.exports[name]
+            return scope.value(expression)
         return self.placeholder(name, f"the export {name}")
+
+    def in_base64(self, argument: object) -> str:
+        return base64.b64encode(text_of(self.value(argument)).encode(errors="replace")).decode()
+
+    def in_json(self, argument: object) -> str:
+        try:
+            return json.dumps(self.value(argument), separators=(",", ":"), default=text_of)
+        except (TypeError, ValueError) as fault:
+            raise Unknown(f"Fn::ToJsonString: {fault}") from None
+
+    def length(self, argument: object) -> int:
+        values = self.value(argument)
+        if not isinstance(values, list):
+            raise Unknown(f"Fn::Length needs a list, not {argument!r}")
+        return len(values)
+
+    def zones(self, argument: object) -> List[str]:
+        region = text_of(self.value(argument)) or str(self.pseudo["AWS::Region"])
+        return [region + letter for letter in "abc"]
 
     def choose(self, argument: object) -> object:
         if not (isinstance(argument, list) and len(argument) == 3):
@@ -227,9 +345,9 @@ class Scope:
 
     def holds(self, condition: object) -> bool:
         """Whether a condition, by its name or itself, is met."""
-        self.depth += 1
+        self.shared.depth += 1
         try:
-            if self.depth > DEEPEST:
+            if self.shared.depth > DEEPEST:
                 raise Unknown("its conditions go round in a circle")
             if isinstance(condition, str):
                 if condition not in self.conditions:
@@ -237,7 +355,7 @@ class Scope:
                 return self.holds(self.conditions[condition])
             return self.of_condition(condition)
         finally:
-            self.depth -= 1
+            self.shared.depth -= 1
 
     def of_condition(self, condition: object) -> bool:
         if not (isinstance(condition, dict) and len(condition) == 1):

@@ -1,6 +1,7 @@
 """Everything in front of the functions of one run: its ports, and the thread that serves them."""
 import asyncio
 import contextlib
+import re
 import socket
 import threading
 import time
@@ -42,6 +43,17 @@ def listener_at(port: int, owner: str, path: str) -> socket.socket:
     raise AssertionError("the last try returns or raises")
 
 
+def variable_of(first: str, name: str) -> str:
+    """A variable's name, which ends with that of an API or a function in capital letters."""
+    return f"{first}_{re.sub('[^A-Z0-9]', '_', name.upper())}" if name else first
+
+
+def as_link(key: str, url: str) -> str:
+    """A route as people can open it."""
+    method, _, path = key.partition(" ")
+    return f"{method} {url}{path}" if path else f"{key} {url}"
+
+
 def url_of(listener: socket.socket) -> str:
     return f"http://127.0.0.1:{listener.getsockname()[1]}"
 
@@ -71,7 +83,8 @@ class Front(threading.Thread):
         self.invoke_listener = listener_at(settings.invoke_port, "invokePort", path)
         self.urls = {function: listener_at(address.port, f"url of function {function}", path)
                      for function, address in settings.urls.items()}
-        self.api_listener = listener_at(settings.api.port, "api", path) if settings.routes else None
+        self.api_listeners = {name: listener_at(api.address.port, f"apis {name}" if name else "api", path)
+                              for name, api in settings.apis.items()}
         self.loop = asyncio.new_event_loop()
         self.last_told: Dict[str, float] = {}
 
@@ -79,8 +92,18 @@ class Front(threading.Thread):
         """Each address, whose it is and in which words."""
         for function, listener in self.urls.items():
             yield function, f"{function}: its URL is {url_of(listener)}/", url_of(listener)
-        if self.api_listener:
-            yield None, f"routes: {url_of(self.api_listener)}", url_of(self.api_listener)
+        for name, listener in self.api_listeners.items():
+            yield None, f"routes{' of ' * bool(name)}{name}: {url_of(listener)}", url_of(listener)
+            for key, target in self.settings.apis[name].routes.items():
+                yield target.function, f"  {as_link(key, url_of(listener))} -> {target.function}", url_of(listener)
+
+    def variables(self) -> Dict[str, str]:
+        """By which a command and functions find the routes, and the URLs."""
+        found = {variable_of("LAMBDA_LOCAL_ROUTES", name): url_of(listener)
+                 for name, listener in self.api_listeners.items()}
+        found.update({variable_of("LAMBDA_LOCAL_URL", function): f"{url_of(listener)}/"
+                      for function, listener in self.urls.items()})
+        return found
 
     def serve(self, service: Service, tails: Optional[Tails] = None, others: Sequence[Other] = (),
               streams: Optional[Streams] = None) -> None:
@@ -90,8 +113,7 @@ class Front(threading.Thread):
         self.client = Client(service.port)
         self.places = Places(places_for(sum(len(one["ports"]) for one in configuration["functions"]),
                                         sum(other.descriptors for other in others)))
-        port = InvokePort(self.client, self.settings.asynchronous, configuration, self.drain_seconds, self.log,
-                          tails)
+        port = InvokePort(self.client, self.settings, configuration, self.drain_seconds, self.log, tails)
         self.queue, identifiers = port.queue, port.identifiers
         urls = {function: url_of(listener) for function, listener in self.urls.items()}
         streams = streams or Streams()
@@ -102,9 +124,10 @@ class Front(threading.Thread):
             url = Url(self.client, self.settings.urls[function], identifiers, self.log, function, configuration,
                       streams)
             self.servers.append(Server(listener, url, self.places, self.log))
-        if self.api_listener:
-            api = Api(self.client, self.settings.api, identifiers, self.log, self.settings.routes, configuration)
-            self.servers.append(Server(self.api_listener, api, self.places, self.log))
+        for name, listener in self.api_listeners.items():
+            given = self.settings.apis[name]
+            api = Api(self.client, given.address, identifiers, self.log, given.routes, configuration)
+            self.servers.append(Server(listener, api, self.places, self.log))
         self.servers += others
         self.start()
 

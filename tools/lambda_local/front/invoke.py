@@ -12,7 +12,7 @@ from .http import Malformed, Reply, Request, TooLong, first
 from .origins import BROKEN_BODY, FOREIGN_CODING, Refusal, further_hosts, refusal_of
 from .queue import Full, Queue
 from .relay import headers_to_send, relay, unknown
-from .settings import Asynchronous
+from .settings import Settings
 from .tail import LOG_TYPE, Tails, with_tail
 
 MOST_PAYLOAD = 1 << 20  # bytes of an event (Developer Guide, "Lambda quotas")
@@ -24,13 +24,14 @@ CLOSES = ("connection", "close")
 class InvokePort:
     """Without settings of asynchronous invocations, the service refuses those."""
 
-    def __init__(self, client: Client, settings: Optional[Asynchronous], configuration: Members, drain_seconds: float,
-                 log: Log, tails: Optional[Tails] = None) -> None:
+    def __init__(self, client: Client, settings: Settings, configuration: Members, drain_seconds: float, log: Log,
+                 tails: Optional[Tails] = None) -> None:
         self.tails = tails
         self.client, self.drain_seconds = client, drain_seconds
         self.identifiers, self.hosts = Identifiers(configuration), further_hosts()
         self.known: Set[str] = set()
-        self.queue = Queue(client, settings, configuration, self.identifiers, log) if settings else None
+        self.queue = Queue(client, settings.asynchronous, configuration, self.identifiers, log,
+                           settings.of_functions) if settings.asynchronous else None
         self.budget = Budget()
 
     async def handle(self, request: Request) -> Reply:

@@ -13,6 +13,7 @@ from urllib.parse import parse_qs, quote
 from ..streaming.streams import Streams
 from ..variables import text_of
 from . import response_stream
+from .aliases import Aliases
 from .budget import Full as NoRoom
 from .client import Client
 from .errors import of_service, of_user, refusal
@@ -40,8 +41,10 @@ class Management:
         self.port, self.malformed_reply, self.refusal = port, port.malformed_reply, port.refusal
         self.hosts, self.since = further_hosts(), datetime.now(timezone.utc)
         self.members = {member["name"]: member for member in settings.functions}
+        self.aliases = Aliases(settings.aliases)
 
     async def handle(self, request: Request) -> Reply:
+        request = self.aliases.without(request)
         operation = operation_of(request.method, request.path)
         is_other = operation.name in BY_SERVICE if operation else not self.is_of_api(request)
         # (a request that may not be taken is refused there, by the service's own rule)

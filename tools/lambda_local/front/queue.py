@@ -3,7 +3,7 @@ retries with asynchronous invocation")."""
 import asyncio
 import contextlib
 from collections import deque
-from typing import Deque, Dict, Optional, Set
+from typing import Deque, Dict, Mapping, Optional, Set
 
 from ..configuration import Members
 from ..outgoing import Log
@@ -49,8 +49,9 @@ class Lane:
 
 class Queue:
     def __init__(self, client: Client, settings: Asynchronous, configuration: Members, identifiers: Identifiers,
-                 log: Log) -> None:
+                 log: Log, of_functions: Mapping[str, Asynchronous] = {}) -> None:
         self.client, self.settings, self.identifiers, self.log = client, settings, identifiers, log
+        self.of_functions = of_functions  # those with settings of their own
         self.arn = f"arn:aws:lambda:{configuration['region']}:{configuration['account']}:function:"
         self.lanes = {function["name"]: Lane(len(function["ports"])) for function in configuration["functions"]}
         self.events: Dict[str, Event] = {}
@@ -61,6 +62,9 @@ class Queue:
     @property
     def count(self) -> int:
         return len(self.events)
+
+    def settings_of(self, event: Event) -> Asynchronous:
+        return self.of_functions.get(event.function, self.settings)
 
     def put(self, event: Event) -> None:
         """Raises Full if there is no room."""
@@ -88,7 +92,8 @@ class Queue:
 
     def goes_on(self, event: Event) -> bool:
         """Whether its record has a destination. (A destination that fails has none.)"""
-        return bool(self.settings.on_failure) and event.function != self.settings.on_failure
+        destination = self.settings_of(event).on_failure
+        return bool(destination) and event.function != destination
 
     def enqueue(self, event: Event, at_the_front: bool = False) -> None:
         lane = self.lanes[event.function]
@@ -118,9 +123,9 @@ class Queue:
     # ---- an attempt --------------------------------------------------------------------------------------------------
 
     async def attempt(self, lane: Lane, event: Event) -> None:
-        if event.age > self.settings.oldest:
+        if event.age > (oldest := self.settings_of(event).oldest):
             lane.running -= 1
-            self.give_up(event, "EventAgeExceeded", f"is older than {self.settings.oldest:g} s")
+            self.give_up(event, "EventAgeExceeded", f"is older than {oldest:g} s")
             return self.go_on(lane)
         event.is_running = True
         try:
@@ -173,11 +178,12 @@ class Queue:
             self.retry(event, "failed", invocation)
 
     def retry(self, event: Event, what: str, invocation: Optional[str] = None) -> None:
-        if event.attempts > self.settings.retries:
+        settings = self.settings_of(event)
+        if event.attempts > settings.retries:
             return self.give_up(event, "RetriesExhausted", f"{what}, attempt {event.attempts} of {event.attempts}",
                                 invocation)
-        delay = self.settings.delay(event.attempts)
-        self.say(event, f"{what}, attempt {event.attempts} of {self.settings.retries + 1}: again after {delay:g} s",
+        delay = settings.delay(event.attempts)
+        self.say(event, f"{what}, attempt {event.attempts} of {settings.retries + 1}: again after {delay:g} s",
                  "warning", "retry", invocation)
         asyncio.get_running_loop().call_later(delay, self.enqueue, event)
 
@@ -185,14 +191,14 @@ class Queue:
         """The destination gets its record, which takes the place of the event; a destination's own failure ends
         here."""
         goes_on = self.goes_on(event)
-        self.say(event, f"{why}: " + (f"its record goes to {self.settings.on_failure}" if goes_on else "it is dropped"),
-                 "error", condition, invocation)
+        self.say(event, f"{why}: " + (f"its record goes to {self.settings_of(event).on_failure}" if goes_on
+                                      else "it is dropped"), "error", condition, invocation)
         self.forget(event)
         if goes_on:
             self.put_record(event, condition)
 
     def put_record(self, event: Event, condition: str) -> None:
-        arn, destination = f"{self.arn}{event.function}:$LATEST", self.settings.on_failure
+        arn, destination = f"{self.arn}{event.function}:$LATEST", self.settings_of(event).on_failure
         assert destination is not None
         try:
             for result in (event.result, None):

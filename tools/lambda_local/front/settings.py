@@ -55,8 +55,16 @@ AT_THE_TOP = {
                    'an object: for each route, such as "GET /orders/{id}", the name of a function, or an object with '
                    '"function"'),
     "api": OBJECT,
+    "apis": Kind(lambda value: isinstance(value, dict) and all(isinstance(of, dict) for of in value.values()),
+                 'an object: for each further API its "routes", and what "api" may have'),
 }
-OF_FUNCTION = {"url": SWITCH}
+ALIAS = re.compile("(?![0-9]+$)[A-Za-z0-9_-]{1,128}")
+OF_FUNCTION = {
+    "url": SWITCH,
+    "aliases": Kind(is_list_of(lambda value: isinstance(value, str) and ALIAS.fullmatch(value) is not None),
+                    "a list of names, each of 1 to 128 letters, digits, - and _, such as \"live\""),
+    "asynchronous": OBJECT,
+}
 
 
 class Asynchronous(NamedTuple):
@@ -101,14 +109,25 @@ class Target(NamedTuple):
     integration: Integration
 
 
+class RoutedApi(NamedTuple):
+    """An API: a port with its routes."""
+    address: Address
+    routes: Dict[str, Target]
+
+
 class Settings(NamedTuple):
     invoke_port: int
     asynchronous: Optional[Asynchronous]
     urls: Dict[str, Address]  # by function
-    routes: Dict[str, Target]
-    api: Address
+    apis: Dict[str, RoutedApi]  # by name; that of `routes` and `api` has none
     functions: Tuple[Dict[str, Any], ...] = ()  # as UP.json has them
     folder: str = ""  # of UP.json, from which their folders are seen
+    of_functions: Dict[str, Asynchronous] = {}  # those with settings of their own for asynchronous invocations
+
+    @property
+    def aliases(self) -> Dict[str, Tuple[str, ...]]:
+        """The aliases of each function that has any."""
+        return {member["name"]: tuple(member["aliases"]) for member in self.functions if member.get("aliases")}
 
 
 def mistakes(whole: Members) -> Iterator[str]:
@@ -120,8 +139,27 @@ def mistakes(whole: Members) -> Iterator[str]:
         if is_text(given.get("onFailure")) and given["onFailure"] not in names:
             yield f"asynchronous: onFailure: there is no function {shown(given['onFailure'])}"
     for member in whole["functions"]:
+        where = f"function {member['name']}: "
         if isinstance(member.get("url"), dict):
-            yield from mistakes_of_address(member["url"], f"function {member['name']}: url: ", OF_URL)
+            yield from mistakes_of_address(member["url"], f"{where}url: ", OF_URL)
+        own = member.get("asynchronous", {})
+        yield from mistakes_of(own, OF_ASYNCHRONOUS, f"{where}asynchronous: ")
+        if is_text(own.get("onFailure")) and own["onFailure"] not in names:
+            yield f"{where}asynchronous: onFailure: there is no function {shown(own['onFailure'])}"
+        if "asynchronous" in member and whole.get("asynchronous") is False:
+            yield f'{where}asynchronous: "asynchronous": false refuses all: leave one of the two out'
+    yield from mistakes_of_api(whole, names)
+    for name, given in whole.get("apis", {}).items():
+        where = f"apis: {shown(name)}: "
+        api = {member: value for member, value in given.items() if member != "routes"}
+        if not isinstance(given.get("routes"), dict) or not AT_THE_TOP["routes"].accepts(given["routes"]):
+            yield f"{where}routes must be {AT_THE_TOP['routes'].expected}, not {shown(given.get('routes'))}"
+            continue
+        yield from (f"{where}{mistake}" for mistake in mistakes_of_api({"routes": given["routes"], "api": api}, names))
+
+
+def mistakes_of_api(whole: Members, names: List[str]) -> Iterator[str]:
+    """What is wrong with the members `routes` and `api`."""
     api = whole.get("api", {})
     yield from mistakes_of_address(api, "api: ", OF_API)
     yield from mistakes_of_integration(api, api, "api: ")
@@ -205,12 +243,19 @@ def asynchronous_of(given: object) -> Optional[Asynchronous]:
 
 def settings_of(whole: Members, folder: str = "") -> Settings:
     """Returns the settings in a valid UP.json, which is in this folder."""
-    # (a schedule sends events)
-    sends = any("schedule" in member for member in whole["functions"])
-    asynchronous = asynchronous_of(whole.get("asynchronous", sends))
+    asynchronous = asynchronous_of(whole.get("asynchronous", True))
     urls = {member["name"]: address_of(member["url"]) for member in whole["functions"]
             if member.get("url") or member.get("url") == {}}
-    api = whole.get("api", {})
-    routes = {key: target_of(given, api) for key, given in whole.get("routes", {}).items()}
-    return Settings(whole.get("invokePort", 0), asynchronous, urls, routes, address_of(api), tuple(whole["functions"]),
-                    folder)
+    apis = {name: api_of({"routes": given["routes"], "api": given})
+            for name, given in (("", whole.get("routes") and {"routes": whole["routes"], **whole.get("api", {})}),
+                                *whole.get("apis", {}).items()) if given and given["routes"]}
+    common = whole.get("asynchronous")
+    own = {member["name"]: asynchronous_of({**(common if isinstance(common, dict) else {}), **member["asynchronous"]})
+           for member in whole["functions"] if "asynchronous" in member}
+    return Settings(whole.get("invokePort", 0), asynchronous, urls, apis, tuple(whole["functions"]), folder,
+                    {name: given for name, given in own.items() if given is not None})
+
+
+def api_of(whole: Members) -> RoutedApi:
+    return RoutedApi(address_of(whole["api"]), {key: target_of(given, whole["api"])
+                                                for key, given in whole["routes"].items()})

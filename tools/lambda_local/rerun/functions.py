@@ -6,7 +6,7 @@ from typing import Callable, List, Optional, Tuple, TypeVar
 from ..service import Fault
 from ..up.environments import Environment
 from ..up.log import Log
-from ..up.members import load
+from ..up.project import project_of
 from ..up.session import Session
 from .record import Recording
 
@@ -33,7 +33,7 @@ class Functions(Session):
         options = argparse.Namespace(up=path, debug=None, salt=recording.salt, program=program, reload=False,
                                      keep_credentials=False, ready=ready, command=["rerun"], history=None, only=None,
                                      allow_unready=False, drain=5, report=False)
-        names = {function.name for function in load(path)[1]}
+        names = {member["name"] for member in project_of(path).whole["functions"]}
         for invocation in recording.invocations:
             if invocation.was_served and invocation.function not in names:
                 raise Fault(2, f"{path}: there is no function {invocation.function}, which the history invokes")

@@ -1,31 +1,38 @@
 """Starts lambda_local with a runtime for each environment, and keeps the runtimes alive.
 
-  lambda_local up UP.json                   until Ctrl-C or SIGTERM, which stop the service in order
-  lambda_local up UP.json -- pytest         waits until all is ready, runs the command against it, saves the history
+  lambda_local up                           serves the project in this folder until Ctrl-C or SIGTERM, which stop it in
+                                            order: up.json, .aws-sam/build, template.yaml (SAM, CloudFormation),
+                                            serverless.yml or cdk.out, whichever is there first
+  lambda_local up FILE                      an UP.json or a template; or a folder, such as cdk.out
+  lambda_local up -- pytest                 waits until all is ready, runs the command against it, saves the history
                                             if it fails, stops, and ends with the command's status
-  lambda_local up --reload UP.json          begins a function's idle environments anew when its files change
-  lambda_local up --debug greet UP.json     a debugger may hold `greet` in its Init until it is invoked; a
+  lambda_local up --reload                  restarts a function's idle environments when its files change
+  lambda_local up --debug greet             a debugger may hold `greet` in its Init until it is invoked; a
                                             command after -- is run once it has left it
 
-UP.json is a service's configuration (docs/formats.md) in which each function has more members:
+What a template does not say is written into lambda_local.json beside it, which has the members of UP.json and is merged
+over it. UP.json is a service's configuration (docs/formats.md) in which each function has more members:
   runtime        "python" or "node" (or Lambda's names, such as "python3.12"): the bundled runtime serves `handler`,
                  such as "app.handler"
   python         the interpreter of "runtime": "python" (default: the one that runs this tool)
   command        in its place, what starts another runtime: a list of words, or a string that is split as a shell would
-  environments   how many it has, if no `ports` are given (default: 1); or {"min": 1, "max": 10}: those beyond min are
-                 started when invocations wait for them, and end after {"idle": 60} seconds without work
+  environments   how many it has, exactly, if no `ports` are given; or {"min": 1, "max": 10} (default): those beyond min
+                 are started when invocations wait for them, and end after {"idle": 60} seconds without work
   init           how many seconds its Init may take (default: Lambda's 10)
   layers         folders and .zip files, as layers have them
   variables      an object: environment variables of its processes
-  directory      where they run (default: the folder of UP.json)
+  directory      where they run (default: the folder of UP.json), or a .zip file with their code
+  inline         in its place, the code itself, as the module index of "python" or "node"
+  aliases        names by which it can be invoked too, such as "live"
+  asynchronous   an object: retries, maximumAge, onFailure of its own events
   memory         what AWS_LAMBDA_FUNCTION_MEMORY_SIZE says (default: 128)
   extensions     an object: the name by which an extension registers, and its command; or null: you start it yourself
   watch          files and folders for --reload (default: its directory)
   url            true: a port that turns HTTP requests into events of a Function URL
   queue          an object: the "url" of an SQS queue whose messages invoke it
   schedule       when it is invoked by itself, such as "rate(5 minutes)"
-At the top, "asynchronous": true takes invocations of the type Event, and "routes" is an HTTP or REST API
-(docs/events.md).
+At the top, "asynchronous": false refuses invocations of the types Event and DryRun, and "routes" is an HTTP or REST
+API (docs/events.md).
 `account` and `region` may be absent; so may ports and `invokePort`: then free ones are used. A function without a
 runtime or command is yours to start, at the address that is printed. docs/up.md tells what happens when.
 
@@ -36,13 +43,14 @@ import argparse
 import sys
 from typing import List
 
+from ..from_template.command import add_options
 from ..outgoing import tell
 from ..service import Fault
 from ..usage import parser_of
 from .log import Log
 from .session import Session
 
-USAGE = "[OPTION..] UP.json [-- COMMAND ..]"
+USAGE = "[OPTION..] [FILE|FOLDER] [-- COMMAND ..]"
 
 
 def salt_of(text: str) -> int:
@@ -77,7 +85,7 @@ names_of.__name__ = "list of names of functions, separated by commas"
 
 def parser() -> argparse.ArgumentParser:
     made = parser_of("up", __doc__, USAGE)
-    made.add_argument("up", metavar="UP.json")
+    made.add_argument("up", metavar="FILE|FOLDER", nargs="?", help="what to serve (what is found in this folder)")
     made.add_argument("--reload", action="store_true", help="spin idle environments down when files change")
     made.add_argument("--debug", metavar="F", help="let a debugger hold the function F in its Init")
     made.add_argument("--history", metavar="FILE",
@@ -100,6 +108,7 @@ def parser() -> argparse.ArgumentParser:
     made.add_argument("--log", choices=("text", "json"), default="text", help="the form of each line (text)")
     made.add_argument("--program", metavar="P",
                       help="the program (default: LAMBDA_LOCAL_PROGRAM, else the repository's ./lambda_local)")
+    add_options(made)
     return made
 
 

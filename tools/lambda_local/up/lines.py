@@ -97,6 +97,12 @@ class Lines:
             late.append("its runtime, which must ask for its next invocation")
         return "which waited for " + (" and ".join(late) or "lambda_local up")
 
+    def more(self, name: str) -> str:
+        """What to write so that a function has more environments."""
+        count = len(self.functions[name].part["ports"])
+        most = max(10, 2 * count)
+        return f' ("environments": {{"min": 1, "max": {most}}} allows {most})' if most < 257 else ""
+
     def tell_throttled(self, at_the_end: bool = False) -> None:
         """One line for each function that was throttled, a second after the first time that it sums."""
         for name, (since, reasons) in list(self.throttled.items()):
@@ -106,5 +112,6 @@ class Lines:
                 why = ", ".join(REASONS[reason] + (f" {often}" if len(reasons) > 1 else "")
                                 for reason, often in reasons.most_common())
                 times = "" if count == 1 else f" {count} times"
-                self.log(name, f"throttled{times}: {why}", level="warning", kind="throttled", function=name,
+                hint = self.more(name) if "LocalEnvironmentLimitExceeded" in reasons else ""
+                self.log(name, f"throttled{times}: {why}{hint}", level="warning", kind="throttled", function=name,
                          count=count, reasons=dict(reasons))

@@ -7,7 +7,7 @@ import shutil
 import sys
 from typing import Dict, Iterator, List, Optional, Sequence, Tuple, Union
 
-from ..configuration import (OF_FUNCTION, OF_SERVICE, Kind, Members, is_list_of, is_text, is_whole, mistakes,
+from ..configuration import (OF_FUNCTION, OF_SERVICE, TEXT, Kind, Members, is_list_of, is_text, is_whole, mistakes,
                              mistakes_of, named, shown)
 from ..executables import why_not_found
 from ..front import settings
@@ -17,7 +17,7 @@ from ..paths import bundled
 from ..service import Fault
 from ..variables import OF_FUNCTION as VARIABLES
 from ..variables import text_of
-from . import layers, programs, sources
+from . import code, layers, programs, room, sources
 from .processes import program_of
 
 NAME = "lambda_local.up"  # under which lambda_local up registers
@@ -42,6 +42,11 @@ def is_count(value: object) -> bool:
     return is_whole(value, 257) and value != 0
 
 
+def is_unicode(text: str) -> bool:
+    """Whether a file can have it: no half of a character."""
+    return not any("\ud800" <= letter <= "\udfff" for letter in text)
+
+
 OF_ENVIRONMENTS = {
     "min": Kind(lambda value: is_whole(value, 257), "a whole number from 0 to 256"),
     "max": Kind(is_count, "a whole number from 1 to 256"),
@@ -57,7 +62,8 @@ OWN = {
                  "a whole number of seconds, from 1 to 900"),
     "layers": Kind(is_list_of(is_text), "a list of folders and .zip files"),
     "variables": VARIABLES,
-    "directory": Kind(is_text, "a string: a folder"),
+    "directory": Kind(is_text, "a string: a folder, or a .zip file"),
+    "inline": Kind(lambda value: is_text(value) and is_unicode(value), "a string: code"),
     "memory": Kind(lambda value: is_whole(value, 1 << 32), "a whole number of MB"),
     "watch": Kind(is_list_of(is_text), "a list of files and folders"),
     "extensions": Kind(is_extensions,
@@ -65,7 +71,7 @@ OWN = {
     "telemetry": Kind(lambda value: isinstance(value, bool), "true or false"),
 }
 MEMBERS = {**OF_FUNCTION, **OWN, **settings.OF_FUNCTION, **sources.OF_FUNCTION}
-AT_THE_TOP = {**OF_SERVICE, **settings.AT_THE_TOP}
+AT_THE_TOP = {**OF_SERVICE, **settings.AT_THE_TOP, "fromTemplate": TEXT}
 
 
 def words_of(command: Union[str, List[str]], where: str) -> List[str]:
@@ -83,8 +89,9 @@ class Function:
         self.name: str = member["name"]
         self.debug, self.may_be_unready = debug, may_be_unready
         self.notes: List[str] = []
+        self.notes_of_all: List[str] = []  # what is to be said of all functions
         self.where, base = f"{path}: function {self.name}", os.path.dirname(os.path.abspath(path))
-        self.directory = os.path.join(base, member.get("directory", ""))
+        self.directory = code.folder_of(member, base, self.where)
         if not os.path.isdir(self.directory):
             self._refuse(2, f"directory: there is no folder {self.directory}")
         for name in ("watch", "layers"):
@@ -95,7 +102,10 @@ class Function:
         self.layers = layers.folders_of(member.get("layers", []), base, self.where)
         self.variables = self._variables(member.get("variables", {}))
         self.memory: int = member.get("memory", 128)
-        self.watch = [os.path.join(self.directory, name) for name in member.get("watch", ["."])]
+        # (a layer that is a .zip file is unpacked once)
+        own = [os.path.join(base, name) for name in member.get("layers", [])]
+        self.watch = [*(os.path.join(self.directory, name) for name in member.get("watch", ["."])),
+                      *filter(os.path.isdir, own)]
         # Whether its runtime is the bundled one of Python. (A debugger may look at the interpreter from its start.)
         self.forks = programs.is_of_python(member.get("runtime")) and not debug
         self.is_bundled = "runtime" in member
@@ -234,6 +244,11 @@ def read(path: str) -> Members:
         raise Fault(2, f"{path}: {fault.strerror}: name a file as `{usage}` describes it") from None
     except NotJson as fault:
         raise Fault(2, f"{path}: this is not JSON: {fault}") from None
+    return looked_at(whole, path)
+
+
+def looked_at(whole: object, path: str) -> Members:
+    """The members of UP.json, or a Fault."""
     for mistake in mistakes(whole, AT_THE_TOP, MEMBERS, ["functions"], ["name"]):
         raise Fault(2, f"{path}: {mistake}")
     assert isinstance(whole, dict)
@@ -270,13 +285,17 @@ def limited(whole: Members, names: Sequence[str], path: str) -> Members:
 
 
 def load(path: str, debug: Optional[str] = None, salt: Optional[int] = None, only: Optional[Sequence[str]] = None,
-         may_be_unready: bool = False) -> Tuple[Members, List[Function], settings.Settings]:
+         may_be_unready: bool = False,
+         whole: Optional[Members] = None) -> Tuple[Members, List[Function], settings.Settings]:
     """Returns the service's configuration, the functions of UP.json, one of which may be for a debugger, and what is in
-    front of them."""
-    whole = read(path)
+    front of them. `whole` is what it says, if that is known."""
+    whole = read(path) if whole is None else whole
     if only is not None:
         whole = limited(whole, only, path)
+    placed, notes = room.with_environments(whole["functions"])
+    whole = {**whole, "functions": placed}
     functions = [Function(member, path, member["name"] == debug, may_be_unready) for member in whole["functions"]]
+    functions[0].notes_of_all = notes
     if debug and not any(function.debug and function.command for function in functions):
         raise Fault(2, f"--debug {debug}: {path} has no such function with a command")
     own = {name: value for name, value in whole.items() if name in OF_SERVICE}

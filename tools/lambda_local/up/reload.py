@@ -159,27 +159,29 @@ class Reload(threading.Thread):
     same files are looked at once."""
 
     def __init__(self, environments: List[Environment], service: Service, stopping: threading.Event, log: Log,
-                 path: str) -> None:
+                 paths: Sequence[str]) -> None:
         super().__init__(name="reload")
         self.environments, self.service, self.stopping, self.log = environments, service, stopping, log
-        self.path = path  # of UP.json
+        self.paths = list(paths)  # of UP.json, or of a template and the values for it
         # The environments to be spun down, with their generation when the file changed
         self.due: Dict[Environment, int] = {}
 
     def run(self) -> None:
         functions = {environment.function.name: environment.function for environment in self.environments}
         files = {name: Files(function) for name, function in functions.items()}
-        seen, own, took = self.look(files), times([self.path]), 0.0
+        seen, own, took = self.look(files), times(self.paths), 0.0
         while not self.stopping.wait(max(BETWEEN_LOOKS, 4 * took)):
             begun = time.monotonic()
-            now, own_now = self.look(files), times([self.path])
+            now, own_now = self.look(files), times(self.paths)
             took = time.monotonic() - begun
             for name, function in functions.items():
                 if now[name] != seen[name]:
                     self.changed(function, sorted(path for path in now[name].keys() | seen[name].keys()
                                                   if now[name].get(path) != seen[name].get(path)))
             if own_now != own:
-                self.log("up", f"{self.path} has changed: start anew to use it", level="warning", kind="reload")
+                changed = next(path for path in {**own, **own_now} if own.get(path) != own_now.get(path))
+                self.log("up", f"{os.path.relpath(changed)} has changed: restart lambda_local up to apply it",
+                         level="warning", kind="reload")
             seen, own = now, own_now
             try:
                 self.spin_down()
@@ -189,15 +191,15 @@ class Reload(threading.Thread):
     def look(self, files: Dict[str, Files]) -> Dict[str, Times]:
         """The times of each function's files. UP.json is none of them: its changes are told apart."""
         times: Dict[Tuple[Tuple[str, ...], FrozenSet[str]], Times] = {}
-        own = os.path.realpath(self.path)
+        own = set(map(os.path.realpath, self.paths))
         for each in files.values():
             if each.key not in times:
                 times[each.key] = {path: moment for path, moment in each.times().items()
-                                   if os.path.realpath(path) != own}
+                                   if os.path.realpath(path) not in own}
         return {name: times[each.key] for name, each in files.items()}
 
     def changed(self, function: Function, paths: List[str]) -> None:
-        self.log("up", f"{function.name} begins anew: {os.path.relpath(paths[0])} changed")
+        self.log("up", f"restarting {function.name}: {os.path.relpath(paths[0])} changed")
         for environment in self.environments:
             if environment.function is function and environment.is_started:
                 self.due[environment] = environment.generation

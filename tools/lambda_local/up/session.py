@@ -24,6 +24,7 @@ from .lines import Lines
 from .log import OUTPUT, Log
 from .looks import Looks
 from .members import load
+from .project import project_by
 from .queues import Poller, pollers_of
 from .reload import Reload
 from .restarts import Restarts
@@ -54,8 +55,12 @@ class Session:
         GUARD.adopt_orphans(self.guard_lost)
         self.has_guard = True
         salt = options.salt
+        self.project = project_by(options, lambda line: log("up", line, kind="template"))
+        options.up = self.project.path
         configuration, self.functions, front = load(options.up, options.debug, salt, options.only,
-                                                    options.allow_unready)
+                                                    options.allow_unready, self.project.whole)
+        for note in self.functions[0].notes_of_all:
+            self.say(note)
         queues = queues_of(front.functions)
         refuse_aws(options.up, queues, options.keep_credentials)
         self.patience = options.ready or max([READY_SECONDS, *(function.init + READY_SECONDS // 2 for function
@@ -96,7 +101,7 @@ class Session:
             Schedules(list(front.functions), self.service, self.ending, log),
             *pollers_of(queues, self.service, options.keep_credentials, self.ending, log)]
         if options.reload:
-            self.threads.append(Reload(self.environments, self.service, self.stopping, log, options.up))
+            self.threads.append(Reload(self.environments, self.service, self.stopping, log, self.project.watched))
 
     def show(self, line: Line) -> None:
         """A line that a process printed."""
@@ -137,14 +142,16 @@ class Session:
             for port in part["ports"]:
                 number += 1
                 here, beside = self.watch.environment(number), self.sidecars.of(number, port)
-                todo = "" if function.command else ", start its runtime yourself"
-                self.say(f"{here.name}: 127.0.0.1:{beside.port}{todo}", kind="address", function=function.name,
-                         environment=here.place, port=beside.port)
+                if not function.command or self.log.form == "json":
+                    todo = "" if function.command else ", start its runtime yourself"
+                    self.say(f"{here.name}: 127.0.0.1:{beside.port}{todo}", kind="address", function=function.name,
+                             environment=here.place, port=beside.port)
                 if self.report is None:
                     self.printed[number].follow(self.show)
                 if function.command:
                     variables = surroundings.of_environment(self.service, function, number, beside.port,
-                                                            self.options.keep_credentials)
+                                                            self.options.keep_credentials,
+                                                            self.front.variables())
                     restarts = Restarts(self.options.reload)
                     yield Environment(self.service, self.watch, function, number, port, variables, restarts,
                                       self.stopping, self.log, self.printed[number], beside)
@@ -251,7 +258,7 @@ class Session:
     # ---- the command -------------------------------------------------------------------------------------------------
 
     def run_command(self) -> int:
-        variables = of_callers(self.service, self.options.keep_credentials)
+        variables = {**of_callers(self.service, self.options.keep_credentials), **self.front.variables()}
         self.command = Run(self.options.command, variables, self.happened.set)
         self.wait()
         if not self.command.is_over() and self.signal_number == signal.SIGINT:

@@ -5,7 +5,7 @@ from urllib.parse import SplitResult, urlsplit
 
 from ..configuration import Kind, is_text, is_whole, mistakes_of, shown
 from ..service import Fault
-from .expressions import EXAMPLES, Cron, Rate, WrongExpression, expression_of
+from ..expressions import EXAMPLES, Cron, Rate, WrongExpression, expression_of
 
 MOST_OF_FIFO, MOST_AT_ONCE = 10, 10  # messages: in a batch of a FIFO queue, and in one answer of a queue
 MOST_SCHEDULES = 100  # of a function (the quota of a rule bus is 300 in all)
@@ -18,7 +18,8 @@ OF_QUEUE = {
     "window": Kind(lambda value: is_whole(value, 301), "a whole number of seconds, from 0 to 300"),
 }
 OF_SCHEDULE = {"expression": Kind(is_text, f"a string, such as {EXAMPLES}"),
-               "input": Kind(lambda value: True, "JSON")}
+               "input": Kind(lambda value: True, "JSON"),
+               "timezone": Kind(is_text, "a string: a time zone, such as \"Europe/Berlin\"")}
 
 
 def is_schedule(value: object) -> bool:
@@ -111,7 +112,7 @@ def mistakes_of_schedule(given: Dict[str, Any], where: str) -> Iterator[str]:
     if mistakes:
         return
     try:
-        expression_of(given["expression"])
+        expression_of(given["expression"], given.get("timezone"))
     except WrongExpression as fault:
         yield f"{where}{shown(given['expression'])}: {fault}"
 
@@ -126,7 +127,7 @@ def queues_of(functions: "List[Dict[str, Any]] | tuple[Dict[str, Any], ...]") ->
 
 
 def schedules_of(member: Dict[str, Any]) -> List[Schedule]:
-    return [Schedule(given["expression"], expression_of(given["expression"]), given.get("input"))
+    return [Schedule(given["expression"], expression_of(given["expression"], given.get("timezone")), given.get("input"))
             for given in schedules_in(member.get("schedule"))]
 
 

@@ -5,7 +5,7 @@ import signal
 import subprocess
 import threading
 import time
-from typing import Callable, Dict, Iterator, List, Optional, Sequence, Tuple
+from typing import Callable, Dict, Iterator, List, Mapping, Optional, Sequence, Tuple
 
 from ..guard import GUARD
 from ..service import Service
@@ -19,11 +19,11 @@ OLDEST_AWS = {1: (1, 29), 2: (2, 13)}
 LONGEST_SECONDS = 10.0  # for a client to say its version
 
 
-def of_environment(service: Service, function: Function, number: int, port: int,
-                   keeps_credentials: bool) -> Dict[str, str]:
-    """The variables of an environment's processes."""
+def of_environment(service: Service, function: Function, number: int, port: int, keeps_credentials: bool,
+                   addresses: Mapping[str, str] = {}) -> Dict[str, str]:
+    """The variables of an environment's processes. `addresses` are those of routes and URLs."""
     variables = {
-        "TZ": ":UTC", "PYTHONUNBUFFERED": "1", **of_callers(service, keeps_credentials),
+        "TZ": ":UTC", "PYTHONUNBUFFERED": "1", **of_callers(service, keeps_credentials), **addresses,
         **({} if keeps_credentials else {"AWS_SESSION_TOKEN": "local"}),
         "AWS_LAMBDA_RUNTIME_API": f"127.0.0.1:{port}",
         "_HANDLER": function.handler, "LAMBDA_TASK_ROOT": os.path.realpath(function.directory),

@@ -1,8 +1,8 @@
 """The expressions of a schedule, `rate(..)` and `cron(..)` (EventBridge User Guide, "Schedule expressions"): when they
-fire next, in UTC."""
+fire next, in UTC or in the time of a zone."""
 import calendar
 import re
-from datetime import datetime, timedelta, timezone
+from datetime import datetime, timedelta, timezone, tzinfo
 from typing import Callable, FrozenSet, List, NamedTuple, Optional
 
 RATE = re.compile(r"rate\(([0-9]{1,9}) (minute|hour|day)(s?)\)")
@@ -46,24 +46,31 @@ class Cron(NamedTuple):
     months: FrozenSet[int]
     years: FrozenSet[int]
     is_day: Callable[[datetime], bool]
+    zone: tzinfo = timezone.utc
 
     def next_after(self, moment: datetime) -> Optional[datetime]:
         """The first moment after this one; none if there is none any more."""
-        begin = moment.astimezone(timezone.utc).replace(second=0, microsecond=0) + timedelta(minutes=1)
+        begin = moment.astimezone(self.zone).replace(second=0, microsecond=0) + timedelta(minutes=1)
         times = [(hour, minute) for hour in sorted(self.hours) for minute in sorted(self.minutes)]
         for year in sorted(year for year in self.years if year >= begin.year):
             for month in sorted(self.months):
                 if (year, month) < (begin.year, begin.month):
                     continue
                 for day in range(1, calendar.monthrange(year, month)[1] + 1):
-                    date = datetime(year, month, day, tzinfo=timezone.utc)
+                    date = datetime(year, month, day, tzinfo=self.zone)
                     if date + timedelta(days=1) <= begin or not self.is_day(date):
                         continue
                     for hour, minute in times:
                         found = date.replace(hour=hour, minute=minute)
-                        if found >= begin:
-                            return found
+                        if found >= begin and found.astimezone(timezone.utc) > moment and exists(found):
+                            return found.astimezone(timezone.utc)
         return None
+
+
+def exists(moment: datetime) -> bool:
+    """Whether clocks of its zone show this time: not in the hour that they leave out in spring."""
+    there = moment.astimezone(timezone.utc).astimezone(moment.tzinfo)
+    return there.replace(tzinfo=None) == moment.replace(tzinfo=None)
 
 
 def value_of(text: str, field: Field) -> int:
@@ -161,14 +168,26 @@ def rate_of(text: str) -> Rate:
     return Rate(int(match[1]) * SECONDS[match[2]])
 
 
-def expression_of(text: str) -> "Rate | Cron":
-    """What a text says; WrongExpression if it is no expression, or never fires again."""
+def zone_of(name: str) -> tzinfo:
+    try:
+        import zoneinfo
+        return zoneinfo.ZoneInfo(name)
+    except (ImportError, ValueError, OSError, KeyError):  # (KeyError: it is not in the system's time zones)
+        raise WrongExpression(f"there is no time zone {name[:60]}: write one such as Europe/Berlin") from None
+
+
+def expression_of(text: str, zone: Optional[str] = None) -> "Rate | Cron":
+    """What a text says, in UTC or in the time of a zone; WrongExpression if it is no expression, or never fires
+    again."""
     if len(text) > 256:
         raise WrongExpression("an expression has at most 256 characters")
     match = CRON.fullmatch(text)
     if not match and not text.startswith("rate("):
         raise WrongExpression(f"write {EXAMPLES}")
     made: "Rate | Cron" = cron_of(match[1]) if match else rate_of(text)
+    if zone is not None:
+        there = zone_of(zone)
+        made = made._replace(zone=there) if isinstance(made, Cron) else made
     if made.next_after(datetime.now(timezone.utc)) is None:
         raise WrongExpression("it never fires: no date is as it says")
     return made

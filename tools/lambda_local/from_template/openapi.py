@@ -1,0 +1,98 @@
+"""The routes of an API that an OpenAPI document describes, by `x-amazon-apigateway-integration` (API Gateway Developer
+Guide, "OpenAPI extensions for API Gateway"): in the template, or a file beside it."""
+from typing import Iterator, List, Optional, Tuple
+
+from ..configuration import Members
+from ..front.routes import WrongRoute
+from .files import Folder
+from .gateway_resources import function_invoked_by
+from .messages import Fault, excerpt, tell
+from .objects import Object
+from .reader import LONGEST, parse
+from .resources import resources_of
+from .routes import FunctionRoute, Of, key_of
+from .values import Scope, members_of
+
+INTEGRATION = "x-amazon-apigateway-integration"
+METHODS = {"get", "put", "post", "delete", "options", "head", "patch", "trace", "x-amazon-apigateway-any-method"}
+# Where a kind of APIs has its document: in the template, or in a file
+BODIES = {"AWS::Serverless::Api": ("DefinitionBody", "DefinitionUri"),
+          "AWS::Serverless::HttpApi": ("DefinitionBody", "DefinitionUri"),
+          "AWS::ApiGateway::RestApi": ("Body", "BodyS3Location"), "AWS::ApiGatewayV2::Api": ("Body", "BodyS3Location")}
+REST = ("AWS::Serverless::Api", "AWS::ApiGateway::RestApi")
+
+
+def add_routes(functions: List[Members], scope: Scope, folder: Folder, base: str) -> None:
+    """Gives functions the routes that documents have."""
+    for kind, (inline, file) in BODIES.items():
+        for key, properties in resources_of(kind, scope):
+            body = document_of(key, properties, inline, file, scope, folder, base)
+            if body is not None:
+                for route in routes_in(body):
+                    add_route(key, kind in REST, *route, functions, scope)
+
+
+def document_of(key: str, properties: Members, inline: str, file: str, scope: Scope, folder: Folder,
+                base: str) -> Optional[Members]:
+    """The document of an API; none if it has none, or if it is elsewhere, which is told."""
+    body, named = scope.chosen(properties.get(inline)), scope.chosen(properties.get(file))
+    included = members_of(body, "Fn::Transform")
+    if included.get("Name") == "AWS::Include":
+        named = members_of(included, "Parameters").get("Location")
+    elif isinstance(body, dict):
+        return body
+    if named is None:
+        return None
+    value = scope.evaluate_or_reason(named).value
+    if not isinstance(value, str) or "://" in value:
+        tell(f"leaves out {file} of {key}, {excerpt(value)}, which is not a file here")
+        return None
+    try:
+        read = parse(value, folder.text(base, value, LONGEST))
+    except Fault as fault:
+        tell(f"leaves out {file} of {key}: {fault}")
+        return None
+    return read if isinstance(read, dict) else None
+
+
+def routes_in(body: Members) -> Iterator[Tuple[str, str, object]]:
+    """The method, the path and the operation of each route."""
+    for path, item in members_of(body, "paths").items():
+        for method, operation in item.items() if isinstance(item, dict) else ():
+            if str(method).lower() in METHODS:
+                yield str(method), str(path), operation
+
+
+def add_route(key: str, is_rest: bool, method: str, path: str, operation: object, functions: List[Members],
+              scope: Scope) -> None:
+    """Gives a function one route; one of another integration is told, but for a preflight's."""
+    where = f"{method.upper()} {path} of {key}"
+    given = Object(members_of(operation, INTEGRATION), f"the integration of {where}", scope, tell)
+    kind = str(given.raw("type") or "").upper()
+    if kind == "MOCK":
+        return
+    made = function_invoked_by(given.raw("uri"), functions, scope)
+    if made is None:
+        tell(f"leaves out {where}: " + (f"its integration {kind} is no function that is here" if kind
+                                        else f"it has no {INTEGRATION}"))
+        return
+    payload = "1.0" if is_rest or str(given.raw("payloadFormatVersion")) == "1.0" else "2.0"
+    given.without_meaning(["httpMethod", "credentials", "connectionType", "timeoutInMillis", "passthroughBehavior",
+                           "contentHandling", "responses"])
+    if kind == "AWS":
+        tell(f"{made['name']}: {where} is a proxy integration here, without mapping templates")
+        given.without_meaning(["requestTemplates", "requestParameters"])
+    given.close()
+    told = sorted(set(map(str, members_of({"": operation}, ""))) & {"security", "x-amazon-apigateway-auth"})
+    if told and members_of({"": operation}, "").get("security") != []:
+        tell(f"leaves out {', '.join(told)} of {where}")
+    try:
+        route = FunctionRoute(key_of(method, path), Of(scope.prefix + key, is_rest, payload))
+        made["routes"] = [*made.get("routes", ()), *([] if has(made, route) else [route])]
+    except WrongRoute as fault:
+        tell(f"{made['name']}: leaves out {where}: {fault}")
+
+
+def has(made: Members, route: FunctionRoute) -> bool:
+    """Whether the function has a route already, by an event that says the same."""
+    return any(other.key == route.key and other.of.key == route.of.key for other in made.get("routes", ()))

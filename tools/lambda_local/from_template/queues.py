@@ -1,0 +1,107 @@
+"""The queues whose messages invoke functions, as UP.json has them: events of SAM and Serverless, and
+AWS::Lambda::EventSourceMapping."""
+import re
+from typing import Iterator, List, Optional
+
+from ..configuration import Members
+from .cloudformation import is_wanted
+from .messages import VALUES, excerpt, tell
+from .objects import Object, Tell, members_by_key
+from .services import PAGE, endpoint_of
+from .values import Scope
+
+MAPPING = "AWS::Lambda::EventSourceMapping"
+ARN = re.compile(r"arn:[^:]*:sqs:[^:]*:([^:]*):(.+)")
+MOST_WITHOUT_WINDOW = 10  # messages of a batch
+
+
+def queue_of(arn: object, batch: Optional[int], window: Optional[int], where: str, scope: Scope,
+             tell_: Tell) -> Optional[Members]:
+    """The member `queue`. Its address is that of the queue's name at the local address that AWS_ENDPOINT_URL_SQS or
+    AWS_ENDPOINT_URL has; without one it is a value to supply, which is said."""
+    value = scope.evaluate_or_reason(arn).value
+    match = ARN.fullmatch(value) if isinstance(value, str) else None
+    account, name = (match[1], match[2]) if match else (str(scope.pseudo["AWS::AccountId"]), "NAME")
+    endpoint = endpoint_of("sqs")
+    if endpoint is None:
+        tell_(f"{where}, SQS, is not polled: set \"queue\": {{\"url\": \"http://HOST:PORT/{account}/{name}\"}} in "
+              f"{VALUES}, or AWS_ENDPOINT_URL_SQS ({PAGE})")
+    elif match is None:
+        tell_(f"leaves out {where}, SQS: {excerpt(value)} is not the ARN of a queue")
+        return None
+    if batch is not None and batch > MOST_WITHOUT_WINDOW and not window:
+        batch = MOST_WITHOUT_WINDOW
+    made: Members = {"url": f"{endpoint}/{account}/{name}"} if endpoint else {}
+    made.update({} if batch is None else {"batchSize": batch})
+    made.update({} if window is None else {"window": window})
+    return made
+
+
+def is_off(given: Object, where: str, name: str, tell_: Tell) -> bool:
+    if given.value(name) in (False, "false"):
+        tell_(f"leaves out {where}, which is not enabled")
+        return True
+    return False
+
+
+def of_events(properties: Members, scope: Scope, tell_: Tell) -> List[Members]:
+    found = [*of_sam(properties.get("Events"), scope, tell_), *of_serverless(properties.get("events"), scope, tell_)]
+    return [queue for queue in found if queue is not None]
+
+
+def mapped(given: Object, source: str, where: str, scope: Scope, tell_: Tell) -> Optional[Members]:
+    """By the members that SAM's event and the resource have in common."""
+    if is_off(given, where, "Enabled", tell_):
+        return None
+    given.without_meaning(["FunctionResponseTypes", "ScalingConfig", "KmsKeyArn", "Tags", "MetricsConfig"])
+    made = queue_of(given.raw(source), given.whole("BatchSize", 1, 10_000),
+                    given.whole("MaximumBatchingWindowInSeconds", 0, 300), where, scope, tell_)
+    given.close()
+    return made
+
+
+def of_sam(events: object, scope: Scope, tell_: Tell) -> Iterator[Optional[Members]]:
+    for name, event in members_by_key(events, scope).items():
+        if event.get("Type") == "SQS":
+            where = f"its event {name}"
+            yield mapped(Object(event.get("Properties"), where, scope, tell_), "Queue", where, scope, tell_)
+
+
+def of_serverless(events: object, scope: Scope, tell_: Tell) -> Iterator[Optional[Members]]:
+    chosen = scope.chosen(events)
+    for event in chosen if isinstance(chosen, list) else ():
+        if isinstance(event, dict) and list(event) == ["sqs"]:
+            whole = event["sqs"] if isinstance(event["sqs"], dict) and "arn" in event["sqs"] else {"arn": event["sqs"]}
+            given, where = Object(whole, "its event sqs", scope, tell_), "its event sqs"
+            given.without_meaning(["functionResponseType", "maximumConcurrency"])
+            if not is_off(given, where, "enabled", tell_):
+                yield queue_of(given.raw("arn"), given.whole("batchSize", 1, 10_000),
+                               given.whole("maximumBatchingWindow", 0, 300), where, scope, tell_)
+            given.close()
+
+
+def put(made: Members, queues: List[Members], tell_: Tell) -> None:
+    """Gives a function its queue. It has one at most here."""
+    for queue in queues:
+        if "queue" in made:
+            tell_(f"leaves out a further queue{' ' * ('url' in queue)}{queue.get('url', '')}: a function has one here")
+        else:
+            made["queue"] = queue
+
+
+def add_mappings(functions: List[Members], scope: Scope) -> None:
+    """Those that are resources of their own."""
+    from .resources import function_of
+    for key, resource in scope.resources.items():
+        if not isinstance(resource, dict) or resource.get("Type") != MAPPING or not is_wanted(key, resource, scope):
+            continue
+        given = Object(resource.get("Properties"), str(key), scope, tell)
+        source = scope.evaluate_or_reason(given.raw("EventSourceArn")).value
+        made = function_of(scope.evaluate_or_reason(given.raw("FunctionName")).value, functions, scope)
+        if made is None:
+            tell(f"leaves out {key}, {MAPPING}: its function is not here")
+        elif not isinstance(source, str) or not ARN.fullmatch(source):
+            tell(f"leaves out {key}, {MAPPING}: {excerpt(source)} is not the ARN of an SQS queue")
+        else:
+            queue = mapped(given, "EventSourceArn", f"{key} of {made['name']}", scope, tell)
+            put(made, [] if queue is None else [queue], tell)
