@@ -83,6 +83,7 @@ LIES: Dict[str, Tuple[str, str, str, str]] = {
     "telemetry_stories": ("schemas", OF_TOOLS + "telemetry/schema.py",
                           'return "failure" if status == "error" else status', "return status"),
     "templates": ("globals", OF_TOOLS + "from_template/cloudformation.py", "return [*shared, *own]", "return [*own]"),
+    "template_oracle": ("templates", OF_TOOLS + "from_template/cloudformation.py", "and not is_intrinsic(own):", "and True:"),
     "template_routes": ("rest_of_sam", OF_TOOLS + "from_template/routes.py", "BinaryMediaTypes", "BinaryTypes"),
     "terminal": ("invoke", OF_TOOLS + "outgoing.py", "return UNSAFE.sub(_escaped, text)", "return text"),
     "timeline": ("pictures", OF_TOOLS + "timeline/words.py", "if milliseconds < 10_000", "if milliseconds < 1_000"),
