@@ -83,11 +83,11 @@ class Up:
         for name, text in {"app.py": app, **files}.items():
             self.write(name, text)
         prepare(self.at)
+        function = {"name": "f", "command": BREAKABLE, "variables": {"GREETING": "hello"}, "timeout": 1, **members}
         # (one environment exactly, so that it is known which process serves)
-        exact = {} if "ports" in members else {"environments": 1}
-        function = {"name": "f", "command": BREAKABLE, "variables": {"GREETING": "hello"}, "timeout": 1, **exact,
-                    **members}
-        self.write("up.json", json.dumps({"functions": functions or [function], **whole}))
+        functions = [{**({} if {"ports", "environments"} & set(one) else {"environments": 1}), **one}
+                     for one in functions or [function]]
+        self.write("up.json", json.dumps({"functions": functions, **whole}))
         self.lines: List[str] = []
         self.endpoint = ""  # until a line has it
         self.process = subprocess.Popen([LAUNCHER, "up", *options, "up.json", *command], cwd=self.at,
