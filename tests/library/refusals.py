@@ -29,7 +29,7 @@ def of_machine() -> str:
 def read(path: str) -> Dict[str, Noted]:
     """A table: a line for each edit, `CRATE/NAME COMMIT SECONDS`, and for each twin, `CRATE/NAME same ..`. A ValueError
     names a line of another form."""
-    found = {}
+    found: Dict[str, Noted] = {}
     for number, line in enumerate(records.text_of(path).splitlines(), 1):
         words = LINE.fullmatch(line)
         if not words:
@@ -96,9 +96,9 @@ def changes(root: str, commit: str) -> List[Set[str]]:
 def ages(root: str, table: Dict[str, Noted]) -> Dict[str, Optional[int]]:
     """For each edit and twin, how many commits have changed what it stands on since it was noted: its own file, and the
     sources of its crate and of those below. None if nothing is noted of it."""
-    crates, since, found = uses(root), {}, {}
-    for commit in {it.commit for it in table.values()}:
-        since[commit] = changes(root, commit)
+    crates = uses(root)
+    since = {commit: changes(root, commit) for commit in {it.commit for it in table.values()}}
+    found: Dict[str, Optional[int]] = {}
     for name in edits.names_of(root):
         crate = name.split("/")[0]
         stands_on = re.compile(rf"crates/({'|'.join([crate, *below(crate, crates)])})/(src|specs|proofs)/|"

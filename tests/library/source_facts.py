@@ -78,7 +78,7 @@ def routes(root: str) -> Iterator[str]:
 
 def reasons(root: str) -> Dict[str, str]:
     """The functions that need no clause, by `crate::path`, each with its reason, from lines `NAME NAME ..: REASON`."""
-    found = {}
+    found: Dict[str, str] = {}
     for line in text_of(root, NO_CLAUSE).splitlines():
         names, _, reason = line.partition(": ")
         if line[:1] not in ("", "#"):
