@@ -1,5 +1,9 @@
 """Checks how the gate judges must-fail edits, which it tries anew and what it keeps: by what the prover prints, in
 small repositories, and with commands in place of the prover."""
+import contextlib
+import importlib.machinery
+import importlib.util
+import io
 import os
 import subprocess
 import sys
@@ -8,6 +12,7 @@ import unittest
 from typing import Dict, List
 from unittest import mock
 
+from tests import ROOT
 from tests.library import edits, evidence, gate_record, refusals, trials
 from tests.library.cases import Case
 from tests.library.trees import commit, write
@@ -147,6 +152,32 @@ class MustFail(Case):
         with self.assertRaises(ValueError) as caught:
             [*gate_record.keep_in_tree(self.root, self.room)]
         self.check("a folder without records", str(caught.exception), f"no gate has left anything in {self.room}")
+
+    def test_what_a_gate_tries_beside_its_own(self) -> None:
+        loader = importlib.machinery.SourceFileLoader("gate_of_edits", os.path.join(ROOT, "tests", "must_fail", "gate"))
+        spec = importlib.util.spec_from_loader("gate_of_edits", loader)
+        assert spec
+        gate = importlib.util.module_from_spec(spec)
+        loader.exec_module(gate)
+        repository(self.root)
+        made = {"a/e": trials.Trial("", 5), "b/e": trials.Trial("still proved", 5), "b/e same": trials.Trial("no", 5),
+                "c/e": trials.Trial("no verdict", 5, False)}
+        printed = io.StringIO()
+        with mock.patch.multiple(gate, ROOT=self.root, commit_to_note=lambda _: head(self.root)), \
+                mock.patch.multiple(gate.counted, passed=0, failed=0), contextlib.redirect_stdout(printed), \
+                mock.patch.object(gate.trials, "trial", lambda _, name, *more: made[name]):
+            tried = gate.Trials(self.root, 2)
+            tried.known = {"b/e": refusals.Noted(head(self.root), 5)}
+            tried.some_of(made, 240, 60, 30)
+            seen = [(gate.counted.passed, gate.counted.failed)]
+            tried.some_of(made, 0, 60, 30)
+            seen.append((gate.counted.passed, gate.counted.failed))
+        self.check("what is refused passes, what was refused once and is not any more fails", seen[0], (1, 1))
+        self.check("without a budget none is tried", seen[1], seen[0])
+        told = printed.getvalue()
+        for words in ("FAIL b/e: ", "note b/e same, never tried before, is not proved", "note c/e was left to the"):
+            self.check(f"it says {words!r}", words in told, shown=told)
+        self.check("what passed is noted", [*refusals.known(self.root)], ["a/e"])
 
     def test_another_programs_table_is_passed_over(self) -> None:
         repository(self.root)
