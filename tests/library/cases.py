@@ -41,9 +41,9 @@ class Case(unittest.TestCase):
     def run(self, result: Optional[unittest.TestResult] = None) -> Optional[unittest.TestResult]:
         """Runs the test, counts what failed, and prints what ended it before its time, or why it was skipped."""
         result = self.defaultTestResult() if result is None else result
-        before, skipped, checks = len(faults_of(result)), len(result.skipped), counted.passed
+        before, skipped, checks = len(faults_of(result)), len(skipped_of(result)), counted.passed
         super().run(result)
-        for _, reason in result.skipped[skipped:]:
+        for _, reason in skipped_of(result)[skipped:]:
             print(f"note {self._testMethodName} is skipped: {reason}", flush=True)
         for test, trace in faults_of(result)[before:]:
             counted.failed += 1
@@ -55,7 +55,12 @@ class Case(unittest.TestCase):
 
 
 def faults_of(result: unittest.TestResult) -> List[Tuple[Any, str]]:
-    return [*result.failures, *result.errors]
+    """(pytest's result keeps its own account, and none of these lists)"""
+    return [*getattr(result, "failures", []), *getattr(result, "errors", [])]
+
+
+def skipped_of(result: unittest.TestResult) -> List[Tuple[Any, str]]:
+    return getattr(result, "skipped", [])
 
 
 atexit.register(counted.end)

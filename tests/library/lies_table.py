@@ -9,6 +9,7 @@ from typing import Dict, Iterator, Tuple
 NOTED = os.path.join("tests", "library", "lies.noted")
 OF_TOOLS = "tools/lambda_local/"
 LIES: Dict[str, Tuple[str, str, str, str]] = {
+    "compatibility": ("finds", "tests/compatibility/run", 'return "" if old == new else', 'return "" if True else'),
     "conformance": ("a_failure_is_explained", OF_TOOLS + "conformance/report.py",
                     "return 1 if self.counts[FAIL]", "return 0 if self.counts[FAIL]"),
     "conformance_parts": ("memory", OF_TOOLS + "conformance/leaks.py",
@@ -46,6 +47,7 @@ LIES: Dict[str, Tuple[str, str, str, str]] = {
     "http_events": ("events", OF_TOOLS + "front/payload.py",
                     '"isBase64Encoded": True}', '"isBase64Encoded": False}'),
     "invocation_log": ("tails", OF_TOOLS + "up/invocation_log.py", "MOST_TAIL = 4096", "MOST_TAIL = 4090"),
+    "install": ("refusals", "tools/packages/source.py", "GLIBC = (2, 34)", "GLIBC = (2, 31)"),
     "invoke": ("results", OF_TOOLS + "invoke.py",
                "        return 1\n    return 0\n", "        return 0\n    return 0\n"),
     "javascript": ("handlers", "javascript/function_error.js",
