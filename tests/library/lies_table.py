@@ -40,6 +40,8 @@ LIES: Dict[str, Tuple[str, str, str, str]] = {
                       'return method != "HEAD" and status != 304', "return status != 304"),
     "front_connections": ("written_anew", OF_TOOLS + "front/relay.py",
                           "for name in (TYPE, TRACE) for value", "for name in (TYPE,) for value"),
+    "front_followers": ("quiet most", OF_TOOLS + "front/followers.py",
+                        "        if self.count >= self.most:\n", "        if self.count > self.most:\n"),
     "fuzz": ("reports FUZZ_HOURS=0.02", OF_TOOLS + "outgoing.py", "return UNSAFE.sub(_escaped, text)", "return text"),
     "history": ("follows", OF_TOOLS + "history/running.py", "&from={self.next}", "&from=0"),
     "histories": ("", OF_TOOLS + "history/reader.py", "if entry.ticket != self.next:", "if False:"),

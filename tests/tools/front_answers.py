@@ -6,6 +6,7 @@ import http.client
 import io
 import itertools
 import json
+import time
 from typing import Any, AsyncIterator, List
 
 from lambda_local.front import sending
@@ -34,7 +35,7 @@ class Written:
         self.data += data
         self.writes += 1
 
-    def abort(self) -> None:
+    def abort(self, by_reset: bool = False) -> None:
         self.is_aborted = True
 
 
@@ -189,6 +190,15 @@ class Kept:
         self.connection.connect()
 
     def ask(self, method: str, event: Any, in_body: bool = False) -> Any:
+        """The status and the body. A throttle, as on a busy machine, is tried again."""
+        for _ in range(50):
+            seen = self.once(method, event, in_body)
+            if seen[0] != 429:
+                break
+            time.sleep(0.1)
+        return seen
+
+    def once(self, method: str, event: Any, in_body: bool) -> Any:
         assert self.connection.sock is not None
         path = self.path if in_body else f"{self.path}?event={quoted(event)}"
         try:

@@ -113,7 +113,7 @@ class Front(threading.Thread):
         self.client = Client(service.port)
         self.places = Places(places_for(sum(len(one["ports"]) for one in configuration["functions"]),
                                         sum(other.descriptors for other in others)))
-        port = InvokePort(self.client, self.settings, configuration, self.drain_seconds, self.log, tails)
+        port = InvokePort(self.client, self.settings, configuration, self.drain_seconds, self.log, self.places, tails)
         self.queue, identifiers = port.queue, port.identifiers
         urls = {function: url_of(listener) for function, listener in self.urls.items()}
         streams = streams or Streams()

@@ -8,8 +8,10 @@ from .budget import Budget, Full as NoRoom
 from .client import Client
 from .errors import of_json, of_service, of_user, stop_reply, throttle_reply
 from .events import Event, Identifiers, function_of, refuse
+from .followers import Followers, is_following
 from .http import Malformed, Reply, Request, TooLong, first
 from .origins import BROKEN_BODY, FOREIGN_CODING, Refusal, further_hosts, refusal_of
+from .places import Places
 from .queue import Full, Queue
 from .relay import headers_to_send, relay, unknown
 from .settings import Settings
@@ -25,8 +27,8 @@ class InvokePort:
     """Without settings of asynchronous invocations, the service refuses those."""
 
     def __init__(self, client: Client, settings: Settings, configuration: Members, drain_seconds: float, log: Log,
-                 tails: Optional[Tails] = None) -> None:
-        self.tails = tails
+                 places: Places, tails: Optional[Tails] = None) -> None:
+        self.tails, self.followers = tails, Followers(places)
         self.client, self.drain_seconds = client, drain_seconds
         self.identifiers, self.hosts = Identifiers(configuration), further_hosts()
         self.known: Set[str] = set()
@@ -46,7 +48,8 @@ class InvokePort:
                     or kind not in ("Event", "DryRun")):
                 if self.tails and function is not None and first(request.headers, LOG_TYPE) == "Tail":
                     return await with_tail(self.tails, function, lambda: relay(self.client, request, self.budget))
-                return await relay(self.client, request, self.budget)
+                how = self.followers.relay if is_following(request) else relay
+                return await how(self.client, request, self.budget)
             reply = await self.unknown(request)
             if reply:
                 return reply

@@ -101,7 +101,7 @@ async def send_pieces(wire: Wire, made: Framed, pieces: Pieces) -> None:
             raise Gone
         await wire.write(head + (last_chunk() if made.follows is Follows.CHUNKS else b""))
     except BaseException:
-        wire.abort()
+        wire.abort(by_reset=made.follows is Follows.UNTIL_CLOSE)
         raise
     finally:
         coming.cancel()

@@ -8,6 +8,7 @@ from typing import Optional, Protocol, Set
 from ..http1 import CLOSED, NEED_DATA, CutShort, Event, Malformed, Request as Head, RequestReader
 from ..outgoing import Log
 from .client import NoDescriptor
+from .followers import is_short
 from .http import Body, Reply, Request, words_of
 from .newcomers import Newcomers
 from .patience import LINGER_BYTES, Patience, Phase
@@ -198,7 +199,7 @@ class Server:
     # ---- what is answered --------------------------------------------------------------------------------------------
 
     async def reply_to(self, request: Request, is_in_reserve: bool) -> Reply:
-        if is_in_reserve and not request.path.startswith("/_local/"):
+        if is_in_reserve and not is_short(request.path):
             reply = self.refusal(503, "All places for connections are taken")
             return reply._replace(headers=[*reply.headers, ("connection", "close")])
         return await self.port.handle(request)

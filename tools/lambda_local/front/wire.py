@@ -7,12 +7,15 @@ buffer of its own before the reader of HTTP does: measured with the same reader,
 microseconds of processor time through streams and 72 so, one with a body of 1 MiB 900 and 600."""
 import asyncio
 import select
+import socket
+import struct
 import time
 from typing import Callable, Optional
 
 from ..http1 import NEED_DATA, Event, Reader
 
 MOST_UNREAD = 256 << 10  # bytes; with more, the peer is not read from until they are taken
+BY_RESET = struct.pack("ii", 1, 0)  # of SO_LINGER
 
 
 class Gone(Exception):
@@ -30,6 +33,8 @@ class Wire(asyncio.Protocol):
         self.is_made = False
         self.waiting: "Optional[asyncio.Future[None]]" = None
         self.draining: "Optional[asyncio.Future[None]]" = None
+        self.on_end: Optional[Callable[[], None]] = None
+        self.most_ahead = MOST_UNREAD
         self.touched, self.received = time.monotonic(), 0  # the last byte in one of the directions; bytes that came
 
     # ---- what asyncio tells ------------------------------------------------------------------------------------------
@@ -46,10 +51,12 @@ class Wire(asyncio.Protocol):
             self.is_paused = True
             self.transport.pause_reading()
         self._wake()
+        self._look_at_end()
 
     def eof_received(self) -> bool:
         self.reader.receive(b"")
         self._wake()
+        self._look_at_end()
         return True  # (the other direction stays open: a caller may end its side and wait for the answer)
 
     def connection_lost(self, fault: Optional[Exception]) -> None:
@@ -71,6 +78,16 @@ class Wire(asyncio.Protocol):
     def _wake(self) -> None:
         if self.waiting and not self.waiting.done():
             self.waiting.set_result(None)
+
+    def when_ended(self, call: Callable[[], None], most: int) -> None:
+        """Has this called, once, when the peer has ended its side, or more than so many bytes wait before its end."""
+        self.on_end, self.most_ahead = call, most
+        self._look_at_end()
+
+    def _look_at_end(self) -> None:
+        if self.on_end and (self.reader.ended or len(self.reader.buffer) > self.most_ahead):
+            call, self.on_end = self.on_end, None
+            call()
 
     # ---- reading -----------------------------------------------------------------------------------------------------
 
@@ -121,7 +138,10 @@ class Wire(asyncio.Protocol):
     def close(self) -> None:
         self.transport.close()
 
-    def abort(self) -> None:
+    def abort(self, by_reset: bool = False) -> None:
+        """Ends it at once. A peer that reads until the end sees by a reset that it is none."""
+        if by_reset and not self.is_lost:
+            self.transport.get_extra_info("socket").setsockopt(socket.SOL_SOCKET, socket.SO_LINGER, BY_RESET)
         self.transport.abort()
 
     def is_silent(self) -> bool:
