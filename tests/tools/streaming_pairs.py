@@ -238,6 +238,23 @@ class StreamingPairs(Case):
                 streaming.HELD_SECONDS = before
         asyncio.run(held())
 
+    def test_late(self) -> None:
+        """What was streamed is that for its caller too if the service answers before its history is read."""
+        async def late() -> None:
+            streams = Streams()
+            streams.passed(1, "r")
+            stream = streams.begins(1, "r", [*HEADERS, ("Content-Type", "a/b")])
+            assert stream is not None
+            stream.feed(b"so")
+            stream.feed(b"me")
+            found = streams.late("r", b"some")
+            self.check("the response", found and (found.content_type, [piece async for piece in found.pieces()]),
+                       ("a/b", [b"some"]))
+            self.check("another's", streams.late("s", b"some"), None)
+            self.check("one that was not streamed", streams.late("r", b"same"), None)
+            streams.held[1].giving_up.cancel()
+        asyncio.run(late())
+
     def test_traces(self) -> None:
         async def traces() -> None:
             streams = Streams()

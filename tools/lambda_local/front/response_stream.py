@@ -52,13 +52,23 @@ class Invocation:
             either: "Set[asyncio.Future[Any]]" = {self.answer, self.expected.begun}
             await asyncio.wait(either, return_when=asyncio.FIRST_COMPLETED)
             if not self.expected.begun.done():
-                return await self.answer
+                return self._late(await self.answer)
         except BaseException:
             await self.aclose()
             raise
         self.stream = self.expected.begun.result()
         self.answer.add_done_callback(self._end)
         return Start(self.stream, str(self.expected.identifier), self.answer)
+
+    def _late(self, whole: Whole) -> Union[Start, Whole]:
+        """The service's answer; one to a response that was streamed is as if it came now."""
+        status, headers, result = whole
+        if status == 200 and first(headers, "x-amz-function-error") is None:
+            identifier = first(headers, "x-amzn-requestid")
+            self.stream = self.streams.late(identifier, result)
+            if self.stream is not None:
+                return Start(self.stream, str(identifier), self.answer)
+        return whole
 
     def _end(self, answer: "asyncio.Task[Whole]") -> None:
         """All that will come has come."""

@@ -11,7 +11,7 @@ import re
 import secrets
 import time
 from collections import deque
-from typing import AsyncIterator, Callable, Deque, Dict, NamedTuple, Optional
+from typing import AsyncIterator, Callable, Deque, Dict, NamedTuple, Optional, Tuple
 
 from ..http1 import Headers, first
 
@@ -20,7 +20,7 @@ ERROR_TYPE, ERROR_BODY = "lambda-runtime-function-error-type", "lambda-runtime-f
 MOST_UNREAD = 256 << 10  # bytes; with more, the runtime is not read from until its caller has taken them
 LONGEST_TRACE = 256  # bytes, of the service
 LINEAGE = re.compile(r"(?:(.*);)?Lineage=1:([0-9a-f]{16}):0")
-HELD_SECONDS = 5.0  # for which a response waits until the history says whose it is; then its caller gets it whole
+HELD_SECONDS = 5.0  # for which a response waits until the history says whose it is; then its caller gets it at its end
 
 
 class Fault(NamedTuple):
@@ -44,8 +44,8 @@ class Stream:
     # ---- from the runtime --------------------------------------------------------------------------------------------
 
     def feed(self, data: bytes) -> None:
+        self.sum.update(data)
         if not self.is_left:
-            self.sum.update(data)
             self.waiting.append(data)
             self.size += len(data)
             self.changed.set()
@@ -149,6 +149,7 @@ class Streams:
         self.given: Dict[int, str] = {}
         self.serving: Dict[int, Serving] = {}
         self.held: Dict[int, Held] = {}
+        self.posted: Dict[int, Tuple[str, Stream]] = {}  # the last one that came, and for which invocation
 
     # ---- from the front ----------------------------------------------------------------------------------------------
 
@@ -161,6 +162,18 @@ class Streams:
         self.expected.pop(expected.token, None)
         if expected.identifier is not None:
             self.invoked.pop(expected.identifier, None)
+
+    def late(self, identifier: Optional[str], output: bytes) -> Optional[Stream]:
+        """The response to an invocation, if it was streamed, for a caller who has got nothing of it: the service has
+        answered before its history was read."""
+        for name, posted in self.posted.values():
+            if name == identifier and posted.is_all_of(output):
+                made = Stream(posted.content_type)
+                if output:
+                    made.feed(output)
+                made.end(posted.fault)
+                return made
+        return None
 
     # ---- from the service's history ----------------------------------------------------------------------------------
 
@@ -201,6 +214,7 @@ class Streams:
         if (first(headers, MODE) or "").lower() != STREAMING:
             return None
         stream, serving = Stream(first(headers, "content-type")), self.serving.get(environment)
+        self.posted[environment] = identifier, stream
         if serving and serving.identifier == identifier:
             return stream if self._give(environment, stream) else None
         if environment in self.held:
