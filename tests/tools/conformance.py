@@ -345,6 +345,27 @@ class Conformance(Case):
             self.check("and what came", failure.get("message", "").startswith("the caller received "))
             self.check("and its details", "Invocation error" in (failure.text or ""))
 
+    def test_documents(self):
+        with tempfile.TemporaryDirectory() as folder:
+            paths = {name: os.path.join(folder, name) for name in ("report.md", "badge.svg")}
+            run = Run("runtime", "--only", "error_type", "--only", "stdout", "--only", "numbers", "--markdown",
+                      paths["report.md"], "--badge", paths["badge.svg"], "--", *PYTHON, program("wrong_runtimes.py"),
+                      "LosesTheErrorType")
+            with open(paths["report.md"], encoding="utf-8") as file:
+                lines = file.read().splitlines()
+            self.check("the page begins with what was tested", lines[0].startswith("# conformance runtime: "))
+            self.check("it counts the verdicts",
+                       lines[2].endswith(": 1 of 3 checks passed, 1 failed, 0 should, 1 noted."))
+            rows = [line.split(" | ") for line in lines if line.startswith("| `")]
+            self.check("what did not pass is a table, the worst first", [row[:2] for row in rows],
+                       [["| `error_type`", "FAIL"], ["| `numbers`", "NOTE"]])
+            self.check("with pages", "(https://docs.aws.amazon.com/lambda/latest/dg/runtimes-api.html)" in rows[0][3])
+            self.check("what passed is named", lines[-1], "Passed: `stdout`.")
+            drawn = xml.parse(paths["badge.svg"]).getroot()
+            self.check("the badge is an SVG", (drawn.tag.rpartition("}")[2], drawn.get("aria-label")),
+                       ("svg", "Lambda runtime: 1 failed"))
+            run.told(run.status == 1)
+
     def test_a_failure_shows_its_own_part(self):
         """Of a scenario of seven checks one after the other, a FAIL of the fifth shows its calls and no others."""
         run = Run("runtime", "--only", "without_trace", "--", *PYTHON, program("wrong_runtimes.py"), "NeedsATrace")
@@ -388,6 +409,8 @@ class Conformance(Case):
             (["runtime", "--sometimes", "--", "true"], "--sometimes"),
             (["runtime", "--", "no_such_program"], "no_such_program is not a program"),
             (["runtime", "--junit", somewhere, "--", "true"], "--junit nowhere"),
+            (["runtime", "--markdown", somewhere, "--", "true"], "--markdown nowhere"),
+            (["runtime", "--badge", somewhere, "--", "true"], "--badge nowhere"),
             (["runtime", "--pictures", "/dev/null", "--", "true"], "--pictures /dev/null"),
             (["runtime", "--", "sh", "-c", "echo it is broken; exit 3"],
              "it ended with status 3 before it asked for anything, and wrote:\n  it is broken"),

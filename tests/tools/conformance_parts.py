@@ -5,21 +5,23 @@ import contextlib
 import http.server
 import itertools
 import math
+import re
 import signal
 import subprocess
 import sys
 import tempfile
 import threading
 import time
+import xml.etree.ElementTree as xml
 from types import SimpleNamespace
 from typing import Iterator, List, Optional, Tuple, cast
 from unittest import mock
 
-from lambda_local.conformance import again, causes, leaks, pages, report, service, sometimes, watch
+from lambda_local.conformance import again, causes, documents, leaks, pages, report, service, sometimes, watch
 from lambda_local.conformance.environment import Environment
 from lambda_local.conformance.extension import delivery, stage
 from lambda_local.conformance.exchanges import Exchange as Refused
-from lambda_local.conformance.kit import (FAIL, NOTE, NOTHING_SEEN, PASS, Came, Check, Jury, Missing, Scenario, Verdict,
+from lambda_local.conformance.kit import (FAIL, NOTE, NOTHING_SEEN, PASS, SHOULD, Came, Check, Jury, Missing, Scenario, Verdict,
                                           deed, finding)
 from lambda_local.conformance.manners import Manner
 from lambda_local.conformance.messages import Message
@@ -382,6 +384,28 @@ class Parts(Case):
                 process = SimpleNamespace(output=file)
                 self.check(f"the last lines of {len(written)} bytes", Process.last_lines(cast(Process, process), 10),
                            wanted)
+
+
+class Pages(Case):
+    """What a program sends cannot do anything to the documents."""
+
+    def test_marks(self):
+        sent = "a | b <script> `c` *d* [e](f)\n# g \x1b[31m $h$ & \\"
+        told = documents.page("conformance runtime: x|y", [verdict(FAIL, sent), verdict(PASS, "", "two")])
+        row, = (line for line in told.splitlines() if line.startswith("| `one`"))
+        self.check("a cell is one cell", len(re.findall(r"(?<!\\)\|", row)), 5)
+        self.check("and has no marks of its own", re.findall(r"(?<!\\)[<>*`#]", row.split(" | ")[2]), [])
+        self.check("nor control characters", "\x1b" in told, False)
+        self.check("a long text is cut", len(documents.cell("x" * 5000)) < 310)
+
+    def test_badges(self):
+        passed, failed, should = verdict(PASS, ""), verdict(FAIL, "x"), verdict(SHOULD, "x")
+        for verdicts, wanted in (([passed] * 3, "Lambda runtime: 3 of 3 passed"),
+                                 ([passed, should], "Lambda runtime: 1 of 2 passed, 1 should"),
+                                 ([passed, failed, failed], "Lambda runtime: 2 failed"),
+                                 ([], "Lambda runtime: not tested")):
+            drawn = xml.fromstring(documents.badge("runtime", verdicts))
+            self.check(wanted, drawn.get("aria-label"), wanted)
 
 
 class Server(http.server.ThreadingHTTPServer):

@@ -10,6 +10,7 @@ from ..outgoing import written
 from ..service import Fault
 from .causes import Causes, Known
 from .clock import CLOCK
+from .documents import Documents
 from .kit import FAIL, NOTE, PASS, SHOULD, Seen, Verdict
 
 LINES, FIRST, WIDTH = 24, 8, 200  # of a timeline as text and what the kit did, of which these come first; letters
@@ -57,6 +58,7 @@ class Report:
         self._timelines: Set[Tuple[str, Tuple[str, ...]]] = set()  # that were drawn: of scenarios, parts
         self.suite, self.counts = junit.Suite(name), {PASS: 0, FAIL: 0, SHOULD: 0, NOTE: 0}
         self._drawn: Dict[str, str] = {}  # by their paths
+        self.documents, self.title = Documents(name, options.markdown, options.badge), name
         if self.junit_path and not os.access(os.path.dirname(os.path.abspath(self.junit_path)), os.W_OK):
             raise Fault(2, f"--junit {self.junit_path}: name a file in a folder that can be written")
         if self.pictures:
@@ -78,6 +80,7 @@ class Report:
 
     def add(self, verdict: Verdict) -> None:
         self.counts[verdict.outcome] += 1
+        self.documents.add(verdict)
         known = self._causes.known(verdict) if verdict.outcome == FAIL else None
         if known:
             self._again.setdefault(known, []).append(verdict.check.name)
@@ -145,4 +148,5 @@ class Report:
                    f"{seconds:.1f} s")
         if self.junit_path:
             self.suite.write(self.junit_path)
+        self.documents.write(self.title)
         return 1 if self.counts[FAIL] or (self.strict and self.counts[SHOULD]) else 0

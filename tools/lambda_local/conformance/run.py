@@ -45,6 +45,8 @@ def parser_of(name: str, description: str, options: str, usual: str) -> Parser:
     parser.add_argument("--list", action="store_true",
                         help="list the scenarios and checks, each with its page, and start nothing")
     parser.add_argument("--junit", metavar="FILE", help="write the verdicts there as JUnit XML")
+    parser.add_argument("--markdown", metavar="FILE", help="write the verdicts there as a page in Markdown")
+    parser.add_argument("--badge", metavar="FILE", help="write an SVG there that says how many checks have passed")
     parser.add_argument("--pictures", metavar="DIR",
                         help="draw the timeline of each scenario with a FAIL there, as SVG")
     parser.add_argument("--program", metavar="P",
@@ -108,6 +110,7 @@ def play(name: str, registry: List[Scenario], options: argparse.Namespace, comma
     try:
         tools = Tools(command, options.program, processes, options)
         report, begun = Report(name, options), time.monotonic()
+        report.title = title
         report.write(title)
         chosen, only = kit.chosen(registry, options.only), options.only
 
