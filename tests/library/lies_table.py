@@ -16,6 +16,8 @@ LIES: Dict[str, Tuple[str, str, str, str]] = {
                           "or grown < rule.least:", "or grown < 9 * rule.least:"),
     "conformance_proxy": ("each_way", OF_TOOLS + "conformance/proxy.py",
                           "            service.sendall(data)", "            service.sendall(data[:1000])"),
+    "conformance_remote": ("what_is_beyond_this_machine", OF_TOOLS + "conformance/service/remote.py",
+                           'host.endswith(".localhost")', '"localhost" in host'),
     "conformance_service": ("each_fault_is_found CONFORMANCE_FAULTS=registers-late",
                             OF_TOOLS + "conformance/service/judge.py",
                             "if exchange.status != wanted:", "if False:"),

@@ -9,6 +9,9 @@ no runtime of the service's own may be connected. The same calls are replayed by
 is compared, up to identifiers, times, and the texts that are a service's own. What differs is reported with as few
 calls as show it. docs/conformance.md says more.
 
+With --endpoint it asks another Lambda, such as AWS's own, by Invokes of a function that --zip writes, how it answers
+where docs/differences.md does not know it.
+
 Exit statuses: 0; 1 if an answer differs; 2 for wrong usage, or a service that does not answer."""
 import argparse
 import random
@@ -21,6 +24,7 @@ from ...service import Fault, program_path
 from ...usage import parser_of
 from ..clock import CLOCK
 from ..run import Parser, ended_by_signal, seconds
+from . import remote
 from .calls import Call
 from .course import ANSWER_SECONDS, SURELY, Course, Difference, Played, Unrecoverable
 from .incomplete import REQUESTS, Incomplete, invokes, not_refused_by
@@ -229,7 +233,10 @@ def main(words: List[str]) -> int:
     parser.add_argument("--junit", metavar="FILE", help="write the result there as JUnit XML")
     parser.add_argument("--program", metavar="P",
                         help="lambda_local (default: LAMBDA_LOCAL_PROGRAM, else the repository's ./lambda_local)")
+    remote.add_options(parser)
     options = parser.parse_args(words)
+    if remote.asks(options):
+        return remote.run(options)
     for name in ("invoke", "runtime"):
         if not getattr(options, name):
             raise Fault(2, f"write --{name} {'URL' if name == 'invoke' else 'HOST:PORT'}, "
