@@ -90,7 +90,8 @@ def sources_of(root, crate):
 # The tools whose options a page lists, each of them.
 HELPS = {"docs/up.md": ("./lambda_local up", "./lambda_local invoke"), "docs/rerun.md": ("./lambda_local rerun",),
          "docs/timeline.md": ("./lambda_local timeline",), "docs/ci.md": ("tools/package",),
-         "docs/conformance.md": tuple(f"./lambda_local conformance {it}" for it in ("runtime", "extension", "service")),
+         "docs/conformance.md": ("./lambda_local conformance runtime", "./lambda_local conformance extension"),
+         "docs/conformance_service.md": ("./lambda_local conformance service",),
          "docs/checks.md": ("tests/hours", "tests/memory", "tests/newcomer", "tests/pages", "tests/release",
                             "tests/tools/run", "tools/release"),
          "docs/proof_costs.md": ("tools/proof_costs",), "docs/speed.md": ("bench/serve/run",)}

@@ -438,9 +438,9 @@ class Conformance(Case):
                 self.check(f"after {number.name} nothing is left", seen, (True, wanted, [], []))
 
     def test_the_page_has_each_check(self):
-        with open(os.path.join(ROOT, "docs", "conformance.md"), encoding="utf-8") as file:
+        with open(os.path.join(ROOT, "docs", "conformance_checks.md"), encoding="utf-8") as file:
             page = file.read()
         for kind in KINDS:
             rows = [f"| `{one.name}` | {one.expected} | [{one.page.part}]({one.page.address}) |" for one in kind.checks]
-            self.check(f"{kind.name}: docs/conformance.md has each check as --list has it",
+            self.check(f"{kind.name}: docs/conformance_checks.md has each check as --list has it",
                        [row for row in rows if row not in page], [])

@@ -21,12 +21,12 @@ CHECKS = {"memory": "memory", "descriptors": "descriptors", "threads": "threads"
 @scenario(
     ("many_events", pages.EXTENSION_INVOKE,
      f"it takes {EVENTS} events, one after the other, or as many as there are in {SECONDS} s"),
-    ("memory", pages.REUSE, "they leave nothing in memory: what it takes stops growing"),
-    ("descriptors", pages.REUSE, "they leave no descriptors open"),
-    ("threads", pages.REUSE, "nor threads"),
-    ("children", pages.REUSE, "nor processes that run"),
-    ("zombies", pages.REUSE, "nor ended ones that are not waited for"),
-    ("files", pages.REUSE, "nor large files; a small one for each event is a SHOULD"),
+    ("memory", pages.REUSE, "many events leave nothing in memory: what it takes stops growing"),
+    ("descriptors", pages.REUSE, "many events leave no descriptors open"),
+    ("threads", pages.REUSE, "many events leave no threads behind"),
+    ("children", pages.REUSE, "many events leave no processes running"),
+    ("zombies", pages.REUSE, "many events leave no ended processes that are not waited for"),
+    ("files", pages.REUSE, "many events leave no large files; a small one for each is a SHOULD"),
     lasts=10, drawn=False, collects_early=True)
 def many_events(stage: ExtensionStage) -> None:
     stage.begin()

@@ -68,7 +68,7 @@ def registration(stage: ExtensionStage) -> None:
 @scenario(
     ("asks_after_invoke", pages.EXTENSION_INVOKE, "after each INVOKE it asks for the next event"),
     ("invoke_in_time", pages.EXTENSION_INVOKE,
-     "it does so before the function's timeout, which is for all of the Invoke phase"),
+     "it asks for the next event before the function's timeout, which is for all of the Invoke phase"),
     ("one_poll", pages.EXTENSION_NEXT, "there is one Next at a time: no second one while one waits"),
     ("known_requests", pages.REGISTER,
      "it makes no request of another route than the Extensions API and the Telemetry API have, and does not register "

@@ -33,11 +33,11 @@ CHECKS = {"memory": "memory", "descriptors": "descriptors", "threads": "threads"
     ("memory", pages.REUSE,
      f"{INVOCATIONS:,} invocations with {PAYLOAD:,} bytes each or an error, and {LITTLE:,} with hardly any, leave "
      f"nothing in memory: what it takes stops growing, at the latest after {MOST:,}"),
-    ("descriptors", pages.REUSE, "they leave no descriptors open"),
-    ("threads", pages.REUSE, "nor threads"),
-    ("children", pages.REUSE, "nor processes that run"),
-    ("zombies", pages.REUSE, "nor ended ones that are not waited for"),
-    ("files", pages.REUSE, "nor payloads in files; a small file for each invocation is a SHOULD"),
+    ("descriptors", pages.REUSE, "many invocations leave no descriptors open"),
+    ("threads", pages.REUSE, "many invocations leave no threads behind"),
+    ("children", pages.REUSE, "many invocations leave no processes running"),
+    ("zombies", pages.REUSE, "many invocations leave no ended processes that are not waited for"),
+    ("files", pages.REUSE, "many invocations leave no payloads in files; a small file for each is a SHOULD"),
     lasts=20, drawn=False, collects_early=True)
 def thousands(stage: Stage) -> None:
     given, mark = stage.tools.options.invocations, uuid.uuid4().hex

@@ -113,8 +113,8 @@ def text(stage: Stage) -> None:
 
 @scenario(
     ("long_text", pages.JSON_TEXTS,
-     f"so does a text of {LONG:,} bytes whose letters have one to four of them, of which the ends of what is read at "
-     "once fall into each place"))
+     f"a text of {LONG:,} bytes, whose letters have one to four of them, reaches the handler and its caller whole, "
+     "wherever the ends of what is read at once fall"))
 def long_text(stage: Stage) -> None:
     stage.environment.proxy.manner = Manner(kinds=("next",), part=PART, pause=0.001)
     for shift in range(2):

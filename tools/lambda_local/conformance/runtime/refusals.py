@@ -86,7 +86,7 @@ def response_too_late(stage: Stage) -> None:
 
 @scenario(
     ("long_refusal", pages.INVOKE_FAILURES,
-     "so it does if the refusal has a long body, in chunks, which comes before the next answer on that connection"),
+     "a refusal with a long body, in chunks, is read to its end before the next answer on that connection"),
     timeout=1, lasts=3)
 def response_refused_at_length(stage: Stage) -> None:
     stage.environment.proxy.manner = Manner(kinds=("response", "error"), refusals=True, body=LONG, chunk=1000)

@@ -7,7 +7,7 @@
 The tool plays a caller, a runtime and extensions, in worked and in random sequences of calls, one call after the other;
 no runtime of the service's own may be connected. The same calls are replayed by `lambda_local replay`, and each answer
 is compared, up to identifiers, times, and the texts that are a service's own. What differs is reported with as few
-calls as show it. docs/conformance.md says more.
+calls as show it. docs/conformance_service.md says more.
 
 With --endpoint it asks another Lambda, such as AWS's own, by Invokes of a function that --zip writes, how it answers
 where docs/differences.md does not know it.
