@@ -21,8 +21,8 @@ from lambda_local.conformance import again, causes, documents, leaks, pages, rep
 from lambda_local.conformance.environment import Environment
 from lambda_local.conformance.extension import delivery, stage
 from lambda_local.conformance.exchanges import Exchange as Refused
-from lambda_local.conformance.kit import (FAIL, NOTE, NOTHING_SEEN, PASS, SHOULD, Came, Check, Jury, Missing, Scenario, Verdict,
-                                          deed, finding)
+from lambda_local.conformance.kit import (FAIL, NOTE, NOTHING_SEEN, PASS, SHOULD, Came, Check, Jury, Missing, Scenario,
+                                          Verdict, deed, finding)
 from lambda_local.conformance.manners import Manner
 from lambda_local.conformance.messages import Message
 from lambda_local.conformance.process import Holds, Process

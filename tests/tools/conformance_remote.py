@@ -1,6 +1,6 @@
-"""Checks lambda_local conformance service --endpoint: against the emulator of the tests with the function that it writes,
-against moto's server if that is installed, and that nothing beyond this machine is asked unless a user wants it. The
-program is LAMBDA_LOCAL_PROGRAM, else ./lambda_local."""
+"""Checks lambda_local conformance service --endpoint: against the emulator of the tests with the function that it
+writes, against moto's server if that is installed, and that nothing beyond this machine is asked unless a user wants
+it."""
 import argparse
 import importlib.util
 import os
@@ -43,8 +43,8 @@ class Remote(Case):
         for url in ("http://127.0.0.1:3001", "http://127.9.9.9", "http://[::1]:3001", "http://localhost:4566/x",
                     "http://lambda.localhost:4566"):
             self.check(f"{url} is here", refused(url), None)
-        for url in (AWS, "http://10.0.0.1", "http://0.0.0.0:1", "http://localhost.example.com", "http://127.0.0.1.nip.io",
-                    "http://[2001:db8::1]/", "https://localhostx"):
+        for url in (AWS, "http://10.0.0.1", "http://0.0.0.0:1", "http://localhost.example.com",
+                    "http://127.0.0.1.nip.io", "http://[2001:db8::1]/", "https://localhostx"):
             self.check(f"{url} needs the option", "--beyond-this-machine" in (refused(url) or ""))
             self.check(f"{url} needs a terminal too", "terminal" in (refused(url, True) or ""))
             self.check(f"{url} needs the right answer", "nothing was sent" in (refused(url, True, "yes\n") or ""))
@@ -75,8 +75,8 @@ class Remote(Case):
     def test_answers(self):
         own = Reply(200, {"x-amzn-requestid": "7"}, b'{"errorType":"T","errorMessage":"7 Task timed out"}')
         self.check("an error has no identifier", report(own), "T: ID Task timed out")
-        for body, wanted in ((b'{"trace":""}', "none"), (b'{"trace":"Root=1-00000000-000000000000000000000000;Sampled=0"}',
-                                                         "a root of zeros"),
+        zeros = b'{"trace":"Root=1-00000000-000000000000000000000000;Sampled=0"}'
+        for body, wanted in ((b'{"trace":""}', "none"), (zeros, "a root of zeros"),
                              (b'{"trace":"Root=1-5759e988-bd862e3fe1be46a994272793"}', "a root of its own"),
                              (b"[1", "none")):
             self.check(f"{body!r}: {wanted}", trace(Reply(200, {}, body)), wanted)

@@ -72,8 +72,8 @@ def handler_that_is_missing(stage: Stage) -> None:
 
 @scenario(
     ("missing_function", pages.INIT_ERROR,
-     "a handler whose file has no such function is an error of the Init, sent to init/error; that each invocation fails "
-     "instead is a SHOULD"),
+     "a handler whose file has no such function is an error of the Init, sent to init/error; that each invocation "
+     "fails instead is a SHOULD"),
     handler="conformance.missing")
 def function_that_is_missing(stage: Stage) -> None:
     init_fails(stage, "missing_function", SHOULD)

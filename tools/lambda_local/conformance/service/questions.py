@@ -67,7 +67,7 @@ def trace(reply: Reply) -> str:
 
 
 def questions(function: str, failing: str) -> List[Question]:
-    """Those of a function that is the probe, and of one that is its missing handler; none of that if it is not named."""
+    """Those of a function that is the probe, and of one that has its missing handler, if that is named."""
     too_large = f"error Function.ResponseSizeTooLarge: ID Response exceeds {LIMIT} bytes"
     found = [
         Question("`X-Amzn-Trace-Id` of the answer", Asked(function, event("who")), "absent", header(TRACE)),
