@@ -10,6 +10,7 @@ import time
 from typing import Dict, List
 
 from lambda_local.front import patience
+from lambda_local.front.budget import SLOW_SECONDS
 from lambda_local.front.client import NoDescriptor
 from lambda_local.front.tasks import begin_task
 from tests.library.cases import Case
@@ -104,6 +105,36 @@ class FrontConnections(Case):
         with front_of(service) as (_, caller, _):
             seen = [caller.ask("POST", invoke_path("f"), b'{"number":%d}' % number)[2] for number in range(3)]
             self.check("each caller gets its own answer", (seen, service.connections), ([b"1"] * 3, 2))
+
+    def test_half_bodies(self):
+        """A body that has not come holds nothing; one that does not go on makes room for one that does."""
+        service = Service(*["ok"] * 3)
+        with front_of(service) as (front, _, _):
+            address = ("127.0.0.1", front.invoke_listener.getsockname()[1])
+            head = f"POST {invoke_path('f')} HTTP/1.1\r\nHost: a\r\nTransfer-Encoding: chunked\r\n\r\n".encode()
+
+            def begins(size):
+                peer = socket.create_connection(address, timeout=PATIENCE)
+                peer.sendall(head + b"%x\r\n%b\r\n" % (size, b" " * size))
+                return peer
+            body = b'%x\r\n{"number":1}%b\r\n0\r\n\r\n'
+            whole = head + body % (12, b"")
+            slow = [begins(1) for _ in range(60)]
+            time.sleep(0.5)
+            self.check("beside 60 that have sent a byte", answer_to(front, whole)[0], 200)
+            budget = front.servers[0].port.port.budget
+            self.check("what they hold", budget.size, 60)
+            budget.most = 1 << 20
+            slow.append(begins(900 << 10))
+            until(lambda: budget.size >= 900 << 10, PATIENCE)
+            large = head + body % (12 + (500 << 10), b" " * (500 << 10))
+            self.check("one for which there is no room", answer_to(front, large)[0], 503)
+            time.sleep(SLOW_SECONDS + 0.5)
+            self.check("there is, once the slow one has not gone on", answer_to(front, large)[0], 200)
+            self.check("which has given way", is_closed(slow[-1]))
+            for peer in slow:
+                peer.close()
+            self.check("what is held at the end", until(lambda: budget.size == 0, PATIENCE))
 
     def test_places(self):
         """A newcomer takes the place of the one that has waited longest; the service's own requests always get in."""

@@ -1,12 +1,15 @@
 """Checks the parts of tools/lambda_local/telemetry between a runtime and its service, without processes: what passes
 stays byte for byte what it was, and subscriptions are as AWS's pages have them."""
+import asyncio
 import json
 import random
 from typing import Dict, List, Tuple, Union
 
 from lambda_local.configuration import Members
+from lambda_local.http1 import Malformed, ResponseReader
 from lambda_local.telemetry.conversation import Answer, Conversation, Ears, Exchange
 from lambda_local.telemetry.desk import Desk
+from lambda_local.telemetry.sender import NotTaken, OverHttp
 from lambda_local.telemetry.story import About
 from lambda_local.telemetry.subscription import (LOGS, TELEMETRY, Buffering, Destination, Refused,
                                                  subscription_of)
@@ -230,6 +233,33 @@ class Telemetry(Case):
             except Exception as fault:
                 raised.append((cut, repr(fault)))
         self.check("5,000 bodies are taken or refused, and raise nothing else", raised[:1], [])
+
+    def test_receivers(self):
+        """What of a receiver's answer is read, and how it counts."""
+        async def answered(data, repeats):
+            """How an answer counts, and whether no more than some of it was read."""
+            reader = asyncio.StreamReader()
+            reader.feed_data(data * repeats)
+            reader.feed_eof()
+            found = ResponseReader()
+            found.method = "POST"
+            try:
+                seen: object = await OverHttp(Destination("HTTP", 1))._answer(found, reader)
+            except NotTaken as reason:
+                seen = str(reason)
+            except Malformed as fault:
+                seen = type(fault).__name__
+            return seen, len(await reader.read()) > len(data) * repeats / 2
+        goes_on, length = b"HTTP/1.1 100 Continue\r\n\r\n", b"HTTP/1.1 200 OK\r\nContent-Length: "
+        none = "its answer has more than 65536 bytes and no status, other than 100"
+        for name, data, repeats, wanted in (
+                ("200", length + b"0\r\n\r\n", 1, (200, False)),
+                ("500", b"HTTP/1.1 500 No\r\nContent-Length: 0\r\n\r\n", 1, (500, False)),
+                ("100 before 200", goes_on * 3 + length + b"2\r\n\r\nok", 1, (200, False)),
+                ("100 without end", goes_on, 20_000, (none, True)),
+                ("a body without end", length + b"900000\r\n\r\n" + bytes(900_000), 1, (200, True)),
+                ("a head that ends early", b"HTTP/1.1 200", 1, ("CutShort", False))):
+            self.check(f"an answer of {name}", asyncio.run(answered(data, repeats)), wanted)
 
     def test_desks(self):
         said: List[str] = []

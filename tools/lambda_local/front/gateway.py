@@ -6,6 +6,7 @@ from ..configuration import Members
 from ..outgoing import Log
 from ..streaming.streams import Streams
 from . import cors, response_stream
+from .budget import Budget, Full, Held
 from .client import Client
 from .events import Identifiers, target_of
 from .formats import OfHttpApi, OfUrl, format_of, message
@@ -18,7 +19,6 @@ from .settings import Address, Integration, Target
 from .wire import Gone
 
 MOST_BODY = 6 << 20  # bytes, of a request and of the event that is made of it
-MOST_HELD = 256 << 20  # bytes of the bodies of all requests of a port that are being answered
 
 
 class Backend(NamedTuple):
@@ -35,7 +35,7 @@ class Gateway:
 
     def __init__(self, client: Client, address: Address, identifiers: Identifiers, log: Log) -> None:
         self.client, self.cors, self.identifiers, self.log = client, address.cors, identifiers, log
-        self.bytes_held, self.hosts = 0, further_hosts()
+        self.budget, self.hosts = Budget(), further_hosts()
 
     def find(self, request: Request) -> Optional[Backend]:
         raise NotImplementedError
@@ -73,24 +73,22 @@ class Gateway:
         return message(status, text)
 
     async def invoke(self, request: Request, backend: Backend) -> Reply:
-        size = MOST_BODY if request.body.length is None else min(MOST_BODY, request.body.length)
-        if self.bytes_held + size > MOST_HELD:
-            self.say(backend, request, f"503, requests with {MOST_HELD} bytes are being answered")
-            return message(503, "Service Unavailable")
-        self.bytes_held += size
         try:
-            return await self.invoke_by(request, backend)
-        finally:
-            self.bytes_held -= size
+            with self.budget.hold(request.body.wire.abort) as held:
+                return await self.invoke_by(request, backend, held)
+        except Full:
+            self.say(backend, request, f"503, requests with {self.budget.most} bytes are being answered")
+            return message(503, "Service Unavailable")
 
-    async def invoke_by(self, request: Request, backend: Backend) -> Reply:
+    async def invoke_by(self, request: Request, backend: Backend, held: Held) -> Reply:
         def tell(text: str) -> None:
             self.say(backend, request, text, level="warning")
 
         try:
-            body = await request.body.whole(MOST_BODY)
+            body = await request.body.whole(MOST_BODY, held.grow)
         except TooLong:
             return self.too_large(backend, request, "its body")
+        held.is_whole()
         context = {**backend.context, "requestId": self.identifiers.next(backend.function)}
         event = backend.format.event(request, body, context, backend.parameters, tell)
         if len(event) > MOST_BODY:
@@ -152,7 +150,7 @@ class Url(Gateway):
         if not isinstance(start, response_stream.Start):
             await invocation.aclose()
             return self.map_result(request, backend, *start, response_stream.plain_reply, tell)
-        self.bytes_held += len(event)
+        self.budget.size += len(event)  # (which is held until the service has answered)
         start.answer.add_done_callback(lambda _: self.release(len(event)))
         try:
             return await response_stream.url_reply(invocation, start.stream)
@@ -162,7 +160,7 @@ class Url(Gateway):
             return backend.format.failure_reply()
 
     def release(self, size: int) -> None:
-        self.bytes_held -= size
+        self.budget.size -= size
 
     def find(self, request: Request) -> Optional[Backend]:
         return self.backend

@@ -53,8 +53,8 @@ class Body:
                 await asyncio.sleep(0)
         self._finish(event)
 
-    async def whole(self, most: int) -> bytes:
-        """All of it; TooLong if it has more bytes than that."""
+    async def whole(self, most: int, grow: Callable[[int], None] = lambda _: None) -> bytes:
+        """All of it; TooLong if it has more bytes than that. `grow` is told of each piece before it is kept."""
         if self.length is not None and self.length > most:
             raise TooLong
         parts: List[bytes] = []
@@ -63,6 +63,7 @@ class Body:
             size += len(piece)
             if size > most:
                 raise TooLong
+            grow(len(piece))
             parts.append(piece)
         return parts[0] if len(parts) == 1 else b"".join(parts)
 

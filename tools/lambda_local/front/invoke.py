@@ -82,10 +82,9 @@ class InvokePort:
         return reply
 
     async def take(self, queue: Queue, request: Request, function: str, identifier: str) -> Reply:
-        length = MOST_PAYLOAD if request.body.length is None else min(MOST_PAYLOAD, request.body.length)
         try:
-            with self.budget.reserve(length):
-                payload = await request.body.whole(MOST_PAYLOAD)
+            with self.budget.hold(request.body.wire.abort) as held:
+                payload = await request.body.whole(MOST_PAYLOAD, held.grow)
         except TooLong:
             return of_user(413, "RequestTooLargeException", f"Payload exceeds {MOST_PAYLOAD} bytes", identifier)
         if payload and not is_json(payload):

@@ -110,12 +110,13 @@ class Management:
 
     async def stream(self, request: Request, target: str, identifier: str) -> Reply:
         """Its payload counts among those that are held until the service has answered."""
-        length = LONGEST if request.body.length is None else min(LONGEST, request.body.length)
         held = contextlib.ExitStack()
         try:
-            held.enter_context(self.port.budget.reserve(length))
-            payload = await request.body.whole(LONGEST)
+            body = held.enter_context(self.port.budget.hold(request.body.wire.abort))
+            payload = await request.body.whole(LONGEST, body.grow)
+            body.is_whole()
         except NoRoom:
+            held.close()
             return self.refusal(503, "Too many bodies are held")
         except TooLong:
             held.close()

@@ -60,11 +60,12 @@ async def body_to_send(request: Request, budget: Budget,
     is read whole, so that its length is known."""
     body = request.body
     if body.length is None:
-        stack.enter_context(budget.reserve(LONGEST))
+        held = stack.enter_context(budget.hold(body.wire.abort))
         try:
-            whole = await body.whole(LONGEST)
+            whole = await body.whole(LONGEST, held.grow)
         except TooLong:
             return LONGEST + 1, None, b""
+        held.is_whole()
         return len(whole), None, whole
     if body.length > LONGEST:
         return body.length, None, b""

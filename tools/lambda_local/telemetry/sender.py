@@ -87,20 +87,24 @@ class OverHttp(Connection):
             raise NotTaken(f"it answers {status}")
 
     async def _answer(self, answer: ResponseReader, reader: asyncio.StreamReader) -> int:
+        """Its status. Of an answer that is longer no more is read: it counts by its head, if that has come."""
         status, keeps, size = 0, False, 0
-        while size <= LONGEST_ANSWER:
+        while True:
             event = answer.next_event()
             if isinstance(event, Response):
                 status, keeps = event.status, event.keeps_alive
-            elif isinstance(event, Data):
-                size += len(event.data)
             elif isinstance(event, EndOfMessage):
                 self.is_kept = keeps and not answer.buffer
                 return status
+            elif event is NEED_DATA and size > LONGEST_ANSWER:
+                break
             elif event is NEED_DATA:
-                answer.receive(await reader.read(LONGEST_ANSWER))
-            else:
+                size += len(data := await reader.read(LONGEST_ANSWER))
+                answer.receive(data)
+            elif not isinstance(event, Data):
                 raise EOFError("it has closed the connection")
+        if status < 200:
+            raise NotTaken(f"its answer has more than {LONGEST_ANSWER} bytes and no status, other than {status}")
         return status
 
 
