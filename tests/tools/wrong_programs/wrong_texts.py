@@ -177,13 +177,26 @@ class DiesOfHalfACharacter(Runtime):
 
 
 class HangsAtHalfACharacter(DiesOfHalfACharacter):
-    outcome = "FAIL"
-
     def read(self, payload: bytes) -> Any:
         try:
             return super().read(payload)
         except SystemExit:
             signal.pause()
+
+
+class RemembersHalfACharacter(DiesOfHalfACharacter):
+    """Gives nothing else any more."""
+    outcome, has_seen = "FAIL", False
+
+    def read(self, payload: bytes) -> Any:
+        try:
+            return super().read(payload)
+        except SystemExit:
+            self.has_seen = True
+            return None
+
+    def dump(self, output: Any) -> bytes:
+        return super().dump("half" if self.has_seen else output)
 
 
 class SendsErrorsForOutputsLikeThem(Runtime):
@@ -208,4 +221,5 @@ MISTAKES: Dict[str, type] = {name: type(name, (Rewriting,), {"check": check, "al
                                                              "change": staticmethod(change)})
                              for name, check, also, place, change in TABLE}
 MISTAKES.update({one.__name__: one for one in (BigIntsAsFloats, DiesOfHalfACharacter, HangsAtHalfACharacter,
+                                               RemembersHalfACharacter,
                                                SendsErrorsForOutputsLikeThem, WrapsOutputsLikeErrors)})
