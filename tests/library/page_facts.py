@@ -254,8 +254,8 @@ def of_variables(root, page, text):
     paths = [path for path in found if os.path.isfile(path) and "/out/" not in path]
     words = ["grep", "-ohIE", "LAMBDA_LOCAL_[A-Z_]+", f"{root}/lambda_local", *paths]
     named = subprocess.run(words, stdout=subprocess.PIPE, text=True).stdout
-    # (the jobs of examples/ci set LAMBDA_LOCAL_WHEEL themselves)
-    read = {name for name in named.split() if name != "LAMBDA_LOCAL_WHEEL"}
+    # (the jobs of examples/ci set LAMBDA_LOCAL_PACKAGE themselves)
+    read = {name for name in named.split() if name != "LAMBDA_LOCAL_PACKAGE"}
     listed = set(re.findall(r"^\| `(LAMBDA_LOCAL_[A-Z_]+)`", text, re.M))
     if read != listed:
         yield f"not listed {sorted(read - listed)}, not read {sorted(listed - read)}"

@@ -1,5 +1,7 @@
 """Checks tests/library/counted.py and cases.py, by which all other tests check: what they must not take for a success,
 what they say then, and that a check which fails hides none of the next."""
+import glob
+import os
 import subprocess
 import sys
 
@@ -42,6 +44,17 @@ TESTS = (
     ("    prints_each = False\n    def test_it(self):\n        self.check('one', 1, 1)\n"
      "        self.check('two', 1, 2)\n", 1, "1 passed, 1 failed", ("FAIL two", "ok   test_it: 1")),
 )
+# A result that keeps none of unittest's lists, as pytest's, which it gives to each test.
+BARE = OPENING + """    def test_it(self): self.check('one', 1, 1)
+class Result:
+    startTest = stopTest = addSuccess = addFailure = addError = addSkip = lambda *given: None
+It('test_it').run(Result())
+"""
+FOUND = """import unittest
+def ids(suite):
+    return [name for one in suite for name in ([one.id()] if isinstance(one, unittest.TestCase) else ids(one))]
+print('found', *sorted({name.split('.')[2] for name in ids(unittest.defaultTestLoader.discover('.'))}))
+"""
 
 
 def run(program: str) -> "tuple[int, list[str], str]":
@@ -69,3 +82,15 @@ class Counting(Case):
             status, seen, printed = run(OPENING + test + "unittest.main()")
             self.check(f"a case: {words[0]}", (status, seen, [it for it in words if it not in printed]),
                        (wanted, [last], []), shown=printed)
+
+    def test_pytest(self) -> None:
+        """A case under a result of pytest's."""
+        status, last, printed = run(BARE)
+        self.check("a case needs no lists of its result", (status, last), (0, ["1 passed, 0 failed"]), shown=printed)
+
+    def test_discover(self) -> None:
+        """`python3 -m unittest discover` at the root finds each file of tests/tools that has tests."""
+        printed = run(FOUND)[2]
+        found = {name for line in printed.splitlines() if line.startswith("found ") for name in line.split()}
+        names = {os.path.basename(path)[:-len(".py")] for path in glob.glob(f"{ROOT}/tests/tools/[!_]*.py")}
+        self.check("all files are found", sorted(names - found), [], shown=printed)

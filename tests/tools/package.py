@@ -33,13 +33,6 @@ TEST = """def test_greet(lambda_local):
     lambda_local.start(greet=lambda event: {"hello": event["name"]})
     assert lambda_local.invoke("greet", {"name": "Ada"}) == {"hello": "Ada"}
 """
-USERS_TEST = """import json, os, urllib.request
-
-def test_greet():
-    url = os.environ["AWS_ENDPOINT_URL_LAMBDA"] + "/2015-03-31/functions/greet/invocations"
-    request = urllib.request.Request(url, b'{"name":"Ada"}', method="POST")
-    assert json.load(urllib.request.urlopen(request)) == {"hello": "Ada"}
-"""
 
 
 @contextlib.contextmanager
@@ -94,16 +87,6 @@ def python_with_pytest():
         if os.access(python, os.X_OK) and run([python, "-c", "import pytest, ensurepip"])[0] == 0:
             return python
     return None
-
-
-def github_steps(text):
-    """Returns the commands after `run:`."""
-    return re.findall(r"^ *(?:- )?run: ([^|\n]+)$", text, re.M)
-
-
-def gitlab_steps(text):
-    """The commands below `script:`."""
-    return re.findall(r"^ *- (.+)$", re.findall(r"^ *script:\n((?: *- .+\n)+)", text, re.M)[0], re.M)
 
 
 class Made:
@@ -365,24 +348,3 @@ class Package(Case):
             status, output, said = run([python, *told.split(), "-q", "-p", "no:cacheprovider"], cwd=work,
                                        PYTHONPATH=tools)
             self.check("pytest has the plugin as docs/pytest.md says", (status, "1 passed" in output), (0, True))
-
-    def test_jobs(self):
-        """The steps of examples/ci, in a clean folder with a user's function and tests."""
-        python = python_with_pytest()
-        if python is None:
-            self.skipTest("no Python here has pytest")
-        for name, steps in (("github.yml", github_steps), ("gitlab.yml", gitlab_steps)):
-            text = text_of(ROOT, "examples", "ci", name)
-            self.check(f"{name} names the wheel by a variable",
-                       re.search(r"^ *LAMBDA_LOCAL_WHEEL: https://\S+\.whl$", text, re.M) is not None)
-            with tempfile.TemporaryDirectory() as folder, tempfile.TemporaryDirectory() as work:
-                run([python, "-m", "venv", "--system-site-packages", f"{folder}/fresh"])
-                write(f"{work}/up.json", json.dumps(UP).encode())
-                write(f"{work}/app.py", APP.encode())
-                write(f"{work}/test_app.py", USERS_TEST.encode())
-                found = steps(text)
-                self.check(f"{name} has steps", len(found) > 1)
-                for step in found:
-                    ran = run(["bash", "-e", "-c", step], cwd=work, PATH=f"{folder}/fresh/bin:/usr/bin:/bin",
-                              PIP_NO_INDEX="1", LAMBDA_LOCAL_WHEEL="file://" + self.made.wheel)
-                    self.check(f"{name}: {step}", ran[0] == 0, shown=ran)
