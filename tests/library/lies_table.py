@@ -73,6 +73,7 @@ LIES: Dict[str, Tuple[str, str, str, str]] = {
                          "elif count == 10 * self.told[kind]:", "elif False:"),
     "rerun": ("compares", OF_TOOLS + "rerun/compare.py", "return [Difference(\"\", then, now)]", "return []"),
     "rerun_command": ("faults", OF_TOOLS + "rerun/functions.py", "there is no function", "there is a function"),
+    "rerun_inner": ("roots", OF_TOOLS + "rerun/inner.py", "if root == NO_ROOT:", "if False:"),
     "rest_events": ("rest_results", OF_TOOLS + "front/rest_payload.py", '"multiValueHeaders"', '"multipleHeaders"'),
     "runtimes": ("shell", "examples/runtime.sh", "ExitStatus", "ExitCode"),
     "runtimes_http": ("names", "examples/runtime.mjs", 'errorType : "Unhandled";', "errorType : errorType;"),

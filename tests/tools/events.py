@@ -29,8 +29,8 @@ def sink(event, context):
     with open("records", "a") as file: file.write(json.dumps(event) + "\\n")
     if "requestPayload" in event and event["requestPayload"].get("sink") == "fails": raise ValueError("sink")
 '''
-BOTO3 = '''import boto3, json
-client = boto3.client("lambda")
+BOTO3 = '''import boto3, json, os
+client = boto3.client("lambda", endpoint_url=os.environ["AWS_ENDPOINT_URL_LAMBDA"])  # (for those before 1.28)
 for kind in ("Event", "DryRun"):
     answer = client.invoke(FunctionName="f", InvocationType=kind, Payload="{}")
     print(answer["StatusCode"], len(answer["ResponseMetadata"]["RequestId"]), answer["Payload"].read())

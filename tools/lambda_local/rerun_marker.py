@@ -60,8 +60,9 @@ def again(item: Any, history: str, ignore: Sequence[str] = (), one_by_one: bool 
                     pytrace=False)
     try:
         recording = read(path_of(item, history), service.program)
-        results, _ = rerun(service, recording, [pointer_of(text) for text in ignore], one_by_one, exact=exact)
-        words = [] if all(result.verdict == EQUAL for result in results) else [history, *text_of(results, recording)]
+        results, _, notes = rerun(service, recording, [pointer_of(text) for text in ignore], one_by_one, exact=exact)
+        is_equal = all(result.verdict == EQUAL for result in results)
+        words = [] if is_equal else [history, *text_of(results, recording), *notes]
     except Fault as fault:
         words = [str(fault)]
     if words:

@@ -1,34 +1,104 @@
 """A recording, run again against a service."""
+import contextlib
 import http.client
-from typing import Callable, List, Sequence, Tuple
+import time
+from typing import Callable, Dict, List, Optional, Sequence, Tuple
 
+from ..outgoing import several
 from ..service import Fault, Service
 from .compare import Pointer
-from .play import play
-from .record import Recording, find, parsed
-from .report import Result, judged
+from .inner import Made
+from .play import Sent, play
+from .record import Invocation, Recording, find, parsed
+from .report import Result, judged, of_made, of_new
+
+SETTLES = 5.0  # seconds for what functions have made and did not wait for
+PAUSE = 0.05
 
 
 def rerun(service: Service, recording: Recording, pointers: Sequence[Pointer] = (), one_by_one: bool = False,
-          is_over: Callable[[], bool] = lambda: False, exact: bool = False) -> Tuple[List[Result], str]:
-    """Sends what was recorded to a service that is ready. Gives the results and the service's history."""
+          is_over: Callable[[], bool] = lambda: False, exact: bool = False) -> Tuple[List[Result], str, List[str]]:
+    """Sends what callers sent to a service that is ready, and waits for what its functions make of it. Gives the
+    results, the service's history, and what is to be said beside them."""
     served = [each for each in recording.invocations if each.was_served]
     names = {function["name"] for function in service.configuration["functions"]}
     if missing := sorted({each.function for each in served} - names):
         raise Fault(2, f"there is no function {missing[0]}, which the history invokes")
-    sent = play(service.port, served, recording.timeouts, one_by_one, is_over)
+    of_callers, of_functions = [each for each in served if not each.made], [each for each in served if each.made]
     try:
+        before = service.stats()
+        sent = play(service.port, of_callers, recording.timeouts, one_by_one, is_over)
+        if of_functions:
+            settle(service, before["admitted"] + len(served))
         history = service.history()
-    except (OSError, http.client.HTTPException) as fault:
+    except (OSError, ValueError, http.client.HTTPException) as fault:
         raise Fault(2, f"the service has ended before its history could be read: {fault}") from None
     now = parsed(history, "the new history", service.program).invocations
-    results = []
-    for then, made in zip(served, sent):
-        answer = find(now, then.function, made.identifier) if made.identifier else None
-        kind = answer.kind if answer else f"status {made.status}"
-        body = answer.body if answer else made.body
-        if kind == "stopped":
-            raise Fault(
-                2, f"the service has ended while call {then.ticket} of {then.function} was sent again: it was stopped")
-        results.append(judged(then, kind, body, made.seconds, pointers, exact))
-    return results, history
+    answers = [find(now, then.function, made.identifier) if made.identifier else None
+               for then, made in zip(of_callers, sent)]
+    results = [of_caller(then, made, answer, pointers, exact)
+               for then, made, answer in zip(of_callers, sent, answers)]
+    own = {answer.ticket for answer in answers if answer}
+    others = [each for each in now if each.ticket >= before["entries"] and each.was_served and each.ticket not in own]
+    makers = {then.ticket: answer.ticket for then, answer in zip(of_callers, answers) if answer}
+    for then, match in matched(of_functions, others, makers):
+        results.append(of_made(then, match, pointers, exact))
+    results.sort(key=lambda result: result.invocation.ticket)
+    unknown = [each for each in others if not each.made]
+    return results + [of_new(each) for each in others if each.made], history, notes_of(unknown)
+
+
+def settle(service: Service, admitted: int) -> None:
+    """Until as many are admitted as then and none is in flight, or a while is over."""
+    end = time.monotonic() + SETTLES
+    with contextlib.suppress(KeyError):
+        while time.monotonic() < end:
+            counts = service.stats()
+            if counts["admitted"] >= admitted and counts["inFlight"] == 0:
+                return
+            time.sleep(PAUSE)
+
+
+def of_caller(then: Invocation, made: Sent, answer: Optional[Invocation], pointers: Sequence[Pointer],
+              exact: bool) -> Result:
+    kind = answer.kind if answer else f"status {made.status}"
+    body = answer.body if answer else made.body
+    if kind == "stopped":
+        raise Fault(2, f"the service has ended while call {then.ticket} of {then.function} was sent again: it was "
+                       "stopped")
+    return judged(then, kind, body, made.seconds, pointers, exact)
+
+
+def matched(then: Sequence[Invocation], now: List[Invocation],
+            makers: Dict[int, int]) -> List[Tuple[Invocation, Optional[Invocation]]]:
+    """Each invocation that a function made with the one that it is now, in order: of the same function, made by the
+    same invocation, with the same event; else with another event; else made by one that is not known. What is taken
+    leaves `now`."""
+    found: Dict[int, Invocation] = {}
+    for knows_maker, has_event in ((True, True), (True, False), (False, True), (False, False)):
+        for each in then:
+            if each.ticket in found:
+                continue
+            for one in now:
+                if (one.function == each.function and (one.payload == each.payload or not has_event)
+                        and is_of_maker(each.made, one.made, makers, knows_maker)):
+                    found[each.ticket] = one
+                    now.remove(one)
+                    break
+    return [(each, found.get(each.ticket)) for each in then]
+
+
+def is_of_maker(then: Optional[Made], now: Optional[Made], makers: Dict[int, int], knows_maker: bool) -> bool:
+    """Whether the same invocation has made both; or, if its maker need not be known, whether it may have."""
+    if then is None or then.by is None or now is None or now.by is None:
+        return not knows_maker
+    return knows_maker and makers.get(then.by) == now.by
+
+
+def notes_of(unknown: Sequence[Invocation]) -> List[str]:
+    """On invocations that were not sent, and whose trace does not say that a function has made them."""
+    if not unknown:
+        return []
+    names = ", ".join(sorted({each.function for each in unknown}))
+    return [f"{several(len(unknown), 'invocation')} of {names} {'was' if len(unknown) == 1 else 'were'} made by "
+            "functions without the trace that they run in: if the history has them, they were sent as well"]

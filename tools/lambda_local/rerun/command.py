@@ -60,10 +60,10 @@ def run(options: argparse.Namespace) -> int:
     pointers = [pointer_of(text) for text in options.ignore]
     recording = read(options.history, options.program)
     functions = Functions(options.up, recording, options.program, options.ready, options.verbose)
-    results, history = functions.used(
+    results, history, notes = functions.used(
         lambda: rerun(functions.service, recording, pointers, options.one_by_one, functions.happened.is_set,
                       options.exact))
-    print("\n".join(text_of(results, recording)))
+    print("\n".join([*text_of(results, recording), *notes]))
     if options.junit:
         write_junit(options.junit, results)
     if options.update:

@@ -9,6 +9,7 @@ from ..history.replay import entries_of_script
 from ..history.script import Script
 from ..history.words import INVOKE, SERVED
 from ..program import Fault, program_path
+from .inner import Made, Roots
 
 # The value of a header (RFC 9110, section 5.5), of letters, marks and spaces.
 TRACE = re.compile(r"(?:[!-~\x80-\xff](?:[\t -~\x80-\xff]*[!-~\x80-\xff])?)?")
@@ -26,6 +27,7 @@ class Invocation(NamedTuple):
     kind: str
     body: Optional[bytes]  # of its answer
     end: Optional[int]  # the entry that answered it
+    made: Optional[Made] = None  # if a function made it, by which it is made again
 
     @property
     def was_served(self) -> bool:
@@ -75,6 +77,7 @@ def invocations_of(entries: Iterable[Entry], path: str) -> List[Invocation]:
     """The Invokes among some entries, with their answers."""
     found: Dict[int, Invocation] = {}
     counts: Counts[str] = Counter()
+    roots = Roots()
     for entry in entries:
         call = entry.call
         if call.kind == INVOKE:
@@ -83,8 +86,10 @@ def invocations_of(entries: Iterable[Entry], path: str) -> List[Invocation]:
             if call.trace is not None and not TRACE.fullmatch(call.trace):
                 raise Fault(2, f"{path}: entry {entry.ticket}: {call.trace[:60]!r} is not a trace: no header has it")
             found[entry.ticket] = Invocation(entry.ticket, function, counts[function], call.qualified, call.trace,
-                                             call.body or b"", OPEN, None, None)
+                                             call.body or b"", OPEN, None, None,
+                                             roots.begin(entry.ticket, entry.request, call.trace))
         for answer in entry.answers:
+            roots.end(answer.ticket)
             if answer.ticket in found:
                 found[answer.ticket] = found[answer.ticket]._replace(kind=str(answer.word), body=answer.body,
                                                                      end=entry.ticket)

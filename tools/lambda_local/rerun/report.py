@@ -19,6 +19,11 @@ class Result(NamedTuple):
     verdict: str
     lines: List[str]  # what differs
     seconds: float
+    is_new: bool = False  # the history does not have it: a function has made it now
+
+    @property
+    def name(self) -> str:
+        return "a new call" if self.is_new else f"call {self.invocation.ticket}"
 
 
 def words_of(kind: str, body: Optional[bytes]) -> str:
@@ -43,6 +48,22 @@ def judged(then: Invocation, kind: str, body: Optional[bytes], seconds: float, p
     return Result(then, CHANGED if lines else EQUAL, lines, seconds)
 
 
+def of_made(then: Invocation, now: Optional[Invocation], pointers: Sequence[Pointer], exact: bool = False) -> Result:
+    """A recorded invocation that a function made, beside the one that it has made now, if it has."""
+    if now is None:
+        return Result(then, CHANGED, ["only then: no function makes it now"], 0.0)
+    result = judged(then, now.kind, now.body, 0.0, pointers, exact)
+    events = [f"its event: {each}" for each in differences(then.payload, now.payload, pointers)]
+    if not events:
+        return result
+    return Result(then, CHANGED if result.verdict == EQUAL else result.verdict, [*events, *result.lines], 0.0)
+
+
+def of_new(now: Invocation) -> Result:
+    """An invocation that a function has made now alone."""
+    return Result(now, CHANGED, [f"only now: a function makes it, {words_of(now.kind, now.body)}"], 0.0, is_new=True)
+
+
 def left_out(invocations: Sequence[Invocation]) -> str:
     """The recorded invocations that are not sent, in words."""
     counts = Counter("without an answer" if each.kind == "open" else each.kind for each in invocations
@@ -55,7 +76,7 @@ def text_of(results: Sequence[Result], recording: Recording) -> List[str]:
     lines = []
     for result in results:
         if result.verdict != EQUAL:
-            head = f"{result.verdict}: call {result.invocation.ticket}, {result.invocation.function}"
+            head = f"{result.verdict}: {result.name}, {result.invocation.function}"
             lines += [f"{head}: {result.lines[0]}"] if len(result.lines) == 1 else [
                 f"{head}:", *(f"  {line}" for line in result.lines)]
             lines.append(f"  its event: {shown(result.invocation.payload, EVENT)}")
@@ -71,7 +92,7 @@ def write_junit(path: str, results: Sequence[Result]) -> None:
     suite = Suite("rerun")
     for result in results:
         failure = None if result.verdict == EQUAL else f"{result.verdict}: {result.lines[0]}"
-        name = f"call {result.invocation.ticket}: {shown(result.invocation.payload, EVENT_OF_A_NAME)}"
+        name = f"{result.name}: {shown(result.invocation.payload, EVENT_OF_A_NAME)}"
         lines = result.lines + [f"its event: {shown(result.invocation.payload, EVENT)}"]
         suite.case(result.invocation.function, name, result.seconds, failure, "\n".join(lines))
     suite.write(path, has_payloads=True)

@@ -7,7 +7,7 @@ REPORT come first."""
 import threading
 import time
 from collections import deque
-from typing import Any, Deque, Dict, List, NamedTuple, Union
+from typing import Any, Deque, Dict, Iterator, List, NamedTuple, Set, Union
 
 from ..life import Begun, Ended, Event
 from .invocation_lines import Line, Printed
@@ -17,6 +17,7 @@ from .log import OUTPUT, Log
 MOST_HELD = 4 << 20  # characters; then a process that prints waits
 PATIENCE = 1.0  # seconds, as long as it waits
 MOST_REMEMBERED = 64  # invocations of an environment
+REST = 0.005  # seconds in which lines come together: each would wake a thread, which every invocation would wait for
 
 
 class Begin(NamedTuple):
@@ -75,12 +76,14 @@ class InvocationReport(threading.Thread):
     def __init__(self, invocations: Invocations, log: Log):
         super().__init__(name="report", daemon=True)
         self.invocations, self.log = invocations, log
-        self.changed = threading.Condition()
+        self.changed = threading.Condition()  # what is notified waits for room
+        self.news = threading.Event()
+        self.newer: Set[Held] = set()  # those that have something to show
         self.held: Dict[int, Held] = {}
         self.coming: List[Told] = []  # by the watch, which goes on
         self.told: List[Told] = []
         self.size = 0
-        self.has_news = self.is_settling = self.is_closed = False
+        self.is_settling = self.is_closed = False
 
     def hold(self, number: int, name: str, function: str, place: int, printed: Printed) -> None:
         """From now on, what this environment's processes print goes this way."""
@@ -103,8 +106,8 @@ class InvocationReport(threading.Thread):
 
     def add(self, held: Held, item: Union[Line, Begin]) -> None:
         held.next.append(item)
-        self.has_news = True
-        self.changed.notify_all()
+        self.newer.add(held)
+        self.news.set()
 
     # ---- from the watch ----------------------------------------------------------------------------------------------
 
@@ -133,21 +136,25 @@ class InvocationReport(threading.Thread):
 
     def know(self) -> None:
         """All that an entry tells was told."""
+        if not self.coming:
+            return
         with self.changed:
             self.told += self.coming
             self.coming = []
-            self.has_news = self.has_news or bool(self.told)
-            self.changed.notify_all()
+            self.news.set()
 
     # ---- its thread --------------------------------------------------------------------------------------------------
 
     def run(self) -> None:
         while not self.is_closed:
-            with self.changed:
-                self.changed.wait_for(lambda: self.is_closed or self.has_news)
-                self.has_news = False
+            self.news.wait()
+            if not self.is_closed:
+                time.sleep(REST)
+            self.news.clear()
             self.place()
-            for held in self.held.values():
+            with self.changed:
+                newer, self.newer = self.newer, set()
+            for held in newer:
                 self.show(held)
 
     def place(self) -> None:
@@ -162,38 +169,38 @@ class InvocationReport(threading.Thread):
             self.is_settling = False
             for one in told:
                 one.held.put(one.identifier, one.marks)
+                self.newer.add(one.held)
 
     def show(self, held: Held) -> None:
-        while (found := self.next_of(held)) is not None:
+        with self.changed:
+            ready = list(self.ready_of(held))
+            self.size -= sum(len(found.text) for found in ready if isinstance(found, Line))
+            self.changed.notify_all()
+        for found in ready:
             if isinstance(found, Line):
                 self.log(found.source, found.text, kind=OUTPUT)
             else:
                 self.log(held.name, found.text, found.level, found.kind, found.kind == "platform",
                          **{**held.members, **found.members})
 
-    def next_of(self, held: Held) -> Union[Line, Mark, None]:
-        """What is shown next; nothing if the next invocation's START waits for the end of the one before."""
-        with self.changed:
-            if not held.next:
-                return None
+    def ready_of(self, held: Held) -> Iterator[Union[Line, Mark]]:
+        """What is shown next, up to the START of an invocation that waits for the end of the one before."""
+        while held.next:
             found = held.next[0]
             if isinstance(found, Begin):
                 if held.open and held.open not in held.over and not self.is_closed:
-                    return None
+                    return
                 held.open = found.identifier
-                held.next[0] = Mark(start_line(found.identifier), {"request": found.identifier})
-            elif isinstance(found, Line):
-                self.size -= len(found.text)
-                self.changed.notify_all()
-            taken = held.next.popleft()
-            assert not isinstance(taken, Begin)
-            return taken
+                found = Mark(start_line(found.identifier), {"request": found.identifier})
+            held.next.popleft()
+            yield found
 
     def close(self) -> None:
         """Once all has ended: shows all that is left."""
         with self.changed:
             self.is_closed = True
             self.changed.notify_all()
+        self.news.set()
         if self.ident is not None:
             self.join(PATIENCE)
         self.know()

@@ -330,7 +330,7 @@ class Session:
     def join(self) -> None:
         """Waits for all threads: the guard ends what one leaves that does not end."""
         end = time.monotonic() + LAST_SECONDS
-        for thread in [*self.threads, self.clients, *self.sources]:
+        for thread in [*self.threads, *self.sources]:
             if thread.ident is not None:
                 thread.join(max(0.0, end - time.monotonic()))
                 if thread.is_alive() and not (isinstance(thread, Poller) and thread.is_held):

@@ -1,8 +1,10 @@
 """The environment variables of the command and of functions, and whether the clients on PATH read them."""
 import os
 import re
+import shutil
 import signal
 import subprocess
+import sys
 import threading
 import time
 from typing import Callable, Dict, Iterator, List, Mapping, Optional, Sequence, Tuple
@@ -40,9 +42,31 @@ def warning(client: str, version: Sequence[int], newer: str, otherwise: str) -> 
             f"newer, or give it {otherwise}")
 
 
+def is_python_of_path() -> bool:
+    """Whether `python3` starts this interpreter: it was started so, or is in that folder."""
+    here = shutil.which("python3")
+    return getattr(sys, "orig_argv", [""])[0] == "python3" or (
+        here is not None and os.path.dirname(here) == os.path.dirname(sys.executable))
+
+
+def own_boto3() -> Optional[Tuple[int, int]]:
+    """The version of this interpreter's boto3; none if it has none."""
+    from importlib import metadata  # (which takes a while)
+    try:
+        return version_in(metadata.version("boto3"))
+    except metadata.PackageNotFoundError:
+        return None
+
+
+def version_in(text: str) -> Optional[Tuple[int, int]]:
+    match = re.search(r"(?:^|/)(\d+)\.(\d+)", text)
+    return (int(match[1]), int(match[2])) if match else None
+
+
 def old_clients(version_of: Callable[[List[str]], Optional[Tuple[int, int]]]) -> Iterator[str]:
     """A sentence on each client on PATH that is too old to come here by itself."""
-    boto3 = version_of(["python3", "-c", "import importlib.metadata as m; print(m.version('boto3'))"])
+    boto3 = own_boto3() if is_python_of_path() else version_of(
+        ["python3", "-c", "import importlib.metadata as m; print(m.version('boto3'))"])
     if boto3 and boto3 < OLDEST_BOTO3:
         yield warning("boto3", boto3, written(OLDEST_BOTO3), "endpoint_url=os.environ['AWS_ENDPOINT_URL_LAMBDA']")
     aws = version_of(["aws", "--version"])
@@ -52,10 +76,11 @@ def old_clients(version_of: Callable[[List[str]], Optional[Tuple[int, int]]]) ->
 
 
 class Clients(threading.Thread):
-    """Looks for old clients while all else starts."""
+    """Looks for old clients once all is ready, beside the user's command: a client may take seconds to say its version,
+    which nobody waits for."""
 
     def __init__(self, log: Log, stopping: threading.Event) -> None:
-        super().__init__(name="clients")
+        super().__init__(name="clients", daemon=True)
         self.log, self.stopping = log, stopping
 
     def run(self) -> None:
@@ -80,5 +105,4 @@ class Clients(threading.Thread):
                 if self.stopping.is_set() or time.monotonic() > end:
                     os.killpg(child.pid, signal.SIGKILL)
         GUARD.release(child.pid)
-        match = re.search(r"(?:^|/)(\d+)\.(\d+)", printed) if child.returncode == 0 else None
-        return (int(match[1]), int(match[2])) if match else None
+        return version_in(printed) if child.returncode == 0 else None
