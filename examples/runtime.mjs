@@ -348,6 +348,14 @@ function placeOf(fault, file, isES) {
   return (said ?? "").split("\n\n")[0];
 }
 
+// Where a module was looked for, and what is there in its place.
+function notThere(folder, name) {
+  const base = path.resolve(ROOT, folder, name);
+  const source = [".ts", ".mts", ".cts", ".tsx", ".jsx"].find((each) => fs.existsSync(base + each));
+  const built = source ? `; there is ${path.basename(base)}${source}: compile it first` : "";
+  return `${path.dirname(base)} has no ${path.basename(base)}.js, .mjs or .cjs${built}`;
+}
+
 async function moduleOf(folder, name) {
   const { file, isES } = fileOf(path.resolve(ROOT, folder, name));
   try {
@@ -357,7 +365,11 @@ async function moduleOf(folder, name) {
     if (cause instanceof SyntaxError) {
       throw new RuntimeFault("UserCodeSyntaxError", String(cause), { lines: placeOf(cause, file, isES) });
     }
-    if (cause?.code === "MODULE_NOT_FOUND") throw new RuntimeFault("ImportModuleError", String(cause), { cause });
+    if (cause?.code === "MODULE_NOT_FOUND") {
+      const text = file === undefined
+        ? `${String(cause).split("\n")[0]}\nRequire stack:\n- ${notThere(folder, name)}` : String(cause);
+      throw new RuntimeFault("ImportModuleError", text, { cause });
+    }
     throw cause;
   }
 }

@@ -107,6 +107,8 @@ LIES: Dict[str, Tuple[str, str, str, str]] = {
            "PAUSES[min(self.early - 2, len(PAUSES) - 1)] if self.early > 1 else 0", "0"),
     "up_command": ("credentials", OF_TOOLS + "variables.py",
                    '"AWS_SESSION_TOKEN", "AWS_SECURITY_TOKEN"', '"AWS_SECURITY_TOKEN"'),
+    "up_defaults": ("aliases", OF_TOOLS + "front/aliases.py", "in self.aliases.get(qualified[2]",
+                    "not in self.aliases.get(qualified[2]"),
     "up_edge": ("private_files", OF_TOOLS + "outgoing.py", "0o600 if has_payloads", "0o644 if has_payloads"),
     "up_failures": ("pauses", OF_TOOLS + "up/restarts.py",
                     "PAUSES[min(self.early - 2, len(PAUSES) - 1)] if self.early > 1 else 0", "0"),

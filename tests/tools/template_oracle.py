@@ -122,8 +122,8 @@ def sources_of(whole, wanted):
         if key in wanted:
             found[key, what] = found.get((key, what), 0) + 1
     for one in resources(whole, LAMBDA + "EventSourceMapping").values():
-        if one.get("Enabled") is not False and "sqs" in json.dumps(one["EventSourceArn"]).lower() or "Jobs" in json.dumps(
-                one["EventSourceArn"]):
+        source = json.dumps(one["EventSourceArn"])
+        if one.get("Enabled") is not False and "sqs" in source.lower() or "Jobs" in source:
             note(one["FunctionName"], "queue")
     for one in resources(whole, "AWS::Events::Rule").values():
         if "ScheduleExpression" in one and one.get("State") != "DISABLED":
@@ -167,7 +167,8 @@ class TemplateOracle(Case):
         with contextlib.redirect_stderr(io.StringIO()):
             scope = Scope(read, "stack")
             functions = dict(cloudformation.functions_in(read, scope))
-            theirs = {key: properties(by_conditions(one, scope)) for key, one in resources(made, LAMBDA + "Function").items()
+            written = resources(made, LAMBDA + "Function").items()
+            theirs = {key: properties(by_conditions(one, scope)) for key, one in written
                       if "Condition" not in made["Resources"][key] or cloudformation.is_wanted(
                           key, made["Resources"][key], scope)}
             self.check(f"{name}: functions and their properties",

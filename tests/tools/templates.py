@@ -97,7 +97,8 @@ class Templates(Case):
             Runtime="python3.12", Environment={"Variables": {"STAGE": {"Ref": "Stage"}}},
             Events={"Get": {"Type": "HttpApi", "Properties": {"Path": "/orders/{id}", "Method": "get"}}})}}
         code = ("import concurrent.futures, os, urllib.request\n"
-                "def ask(n):\n    with urllib.request.urlopen(os.environ['LAMBDA_LOCAL_ROUTES'] + f'/orders/{n}') as it:"
+                "def ask(n):\n    url = os.environ['LAMBDA_LOCAL_ROUTES']\n"
+                "    with urllib.request.urlopen(url + f'/orders/{n}') as it:"
                 "\n        return it.read().decode()\n"
                 "with concurrent.futures.ThreadPoolExecutor(6) as pool:\n    print(*pool.map(ask, range(6)))\n")
         with folder_of(template_0_json=template, src__app_0_py=app, ask_0_py=code) as folder:
@@ -164,8 +165,8 @@ class Templates(Case):
                 words = {**words, "parameter_files": [os.path.join(folder, file)
                                                       for file in words.get("parameter_files", [])]}
                 made = made_by(path, **words)[0]
-                self.check(f"parameters: {name}", tuple(variables_of(made).values()) if isinstance(made, dict) else made,
-                           wanted)
+                seen = tuple(variables_of(made).values()) if isinstance(made, dict) else made
+                self.check(f"parameters: {name}", seen, wanted)
             for words, wanted in (
                     ({"parameters": ["A=q"]}, "--parameter A: it must be one of x, y z, not q"),
                     ({"parameters": ["D=q"]}, f"--parameter D: {path} has no such parameter; there are A, B, C"),
@@ -181,7 +182,8 @@ class Templates(Case):
 
     def test_variables(self):
         with folder_of(template_0_json={"Resources": {
-                "F": sam(FunctionName="shop", Environment={"Variables": {"A": "template", "B": "template"}}), "G": sam()}},
+                "G": sam(), "F": sam(FunctionName="shop", Environment={"Variables": {"A": "template",
+                                                                                    "B": "template"}})}},
                 all_0_env="# all\nexport A=file\nC=\"two words\" # so\nD='x # y'\n\nE=1 # one\n",
                 vars_0_json={"F": {"B": "json", "N": 5}, "Parameters": {"P": True}}, flat_0_json={"Q": "x"},
                 wrong_0_json={"H": {"A": "x"}}, bad_0_env="A=1\nB\n") as folder:
@@ -218,8 +220,8 @@ class Templates(Case):
                                   made["Work"]["queue"], whole["api"]),
                        ({"A": "1", "B": "2"}, 5, 1, "./go", f"{folder}/built",
                         {"batchSize": 3, "url": "http://127.0.0.1:9324/0/q"}, {"port": 8080}))
-            self.check("what is to be supplied names the file", 'set "queue": {"url": "http://HOST:PORT/123456789012/Q"}'
-                       " in lambda_local.json" in said, shown=said)
+            wanted = 'set "queue": {"url": "http://HOST:PORT/123456789012/Q"} in lambda_local.json'
+            self.check("what is to be supplied names the file", wanted in said, shown=said)
             self.check("by name", made_by(path, values=f"{folder}/by_name.json")[0]["shop-pay"]["memory"], 512)
             self.check("no such function", made_by(path, values=f"{folder}/other.json")[0],
                        f"{folder}/other.json: there is no function Par, did you mean Pay?")
@@ -233,7 +235,8 @@ class Templates(Case):
                            {"url": "http://127.0.0.1:5000/123456789012/Q", "batchSize": 3})
             finally:
                 del os.environ["AWS_ENDPOINT_URL_SQS"]
-            self.check("merging", own_values.merged({"a": {"b": 1, "c": [1]}, "d": 1}, {"a": {"c": [2]}, "d": {"e": 1}}),
+            self.check("merging", own_values.merged({"a": {"b": 1, "c": [1]}, "d": 1},
+                                                    {"a": {"c": [2]}, "d": {"e": 1}}),
                        {"a": {"b": 1, "c": [2]}, "d": {"e": 1}})
 
     def test_globals(self):
@@ -378,7 +381,8 @@ class Templates(Case):
                      "I": "${file(code.js):x}", "J": "${file(../out.json):x}", "K": "${file(link.json):x}"}
         with folder_of() as above:
             folder = os.path.join(above, "app")
-            write(folder, {"serverless.json": whole, "config.json": {"service": "shop", "deep": [{"dev": "D", "prod": "P"}]},
+            write(folder, {"serverless.json": whole,
+                           "config.json": {"service": "shop", "deep": [{"dev": "D", "prod": "P"}]},
                            "env.json": {"ALL": "${self:service}-${sls:stage}"}, "text.txt": "plain\n",
                            "custom.json": {"c": "${self:custom.inner}", "inner": 7, "yes": "true"},
                            "fns.json": {"f": {"handler": "x", "environment": variables}}, "code.js": "throw 1",
@@ -403,17 +407,19 @@ class Templates(Case):
         """What nobody reads is said, of each object."""
         if not HAS_YAML:
             self.skipTest("PyYAML is not here")
-        text = ("service: s\nprovider: {name: aws, runtime: provided, tracing: {lambda: true}, iam: {role: x}}\nfunctions:\n"
+        text = ("service: s\nprovider: {name: aws, runtime: provided, tracing: {lambda: true}, iam: {role: x}}\n"
+                "functions:\n"
                 "  f:\n    handler: x\n    url: {authorizer: aws_iam, invokeMode: RESPONSE_STREAM, colour: x}\n"
                 "    tracing: Active\n    events:\n"
-                "      - http: {path: a, method: get, async: true, private: true, authorizer: auth, request: {schemas: {}},"
-                " integration: lambda}\n      - httpApi: {path: /b, method: get, authorizer: {name: jwt}}\n"
+                "      - http: {path: a, method: get, async: true, private: true, authorizer: auth,"
+                " request: {schemas: {}}, integration: lambda}\n      - httpApi: {path: /b, method: get, authorizer: {name: jwt}}\n"
                 "      - schedule: {rate: rate(1 hour), inputPath: $.a}\n      - stream: arn\n")
         with folder_of(serverless_0_yml=text) as folder:
             made, _, said = made_by(os.path.join(folder, "serverless.yml"))
             self.check("a URL that streams", made["s-dev-f"]["url"], {"invoke": "RESPONSE_STREAM"})
             for words in ("leaves out tracing of provider", "its URL takes requests without a signature here",
-                          "leaves out colour of its URL", "leaves out async, authorizer, private, request of its event http",
+                          "leaves out colour of its URL",
+                          "leaves out async, authorizer, private, request of its event http",
                           "its event http is a proxy integration here, and not lambda",
                           "leaves out authorizer of its event httpApi", "leaves out inputPath of its schedule",
                           "leaves out events: stream", "s-dev-f: leaves out tracing"):
@@ -457,8 +463,8 @@ class Templates(Case):
                        (["live"], ["blue"], {"ALIAS": f"{arn}F:live", "VERSION": f"{arn}F", "OWN": f"{arn}G:blue"}))
             self.check("asynchronous invocations", (made["F"]["asynchronous"], made["G"]["asynchronous"]),
                        ({"retries": 0, "maximumAge": 60, "onFailure": "G"}, {"retries": 1}))
-            self.check("a queue for dead letters", "G: leaves out DeadLetterQueue, arn:aws:sqs:us-east-1:1:dead" in said,
-                       shown=said)
+            wanted = "G: leaves out DeadLetterQueue, arn:aws:sqs:us-east-1:1:dead"
+            self.check("a queue for dead letters", wanted in said, shown=said)
         whole = {"service": "s", "provider": {"runtime": "provided"}, "functions": {
             "f": {"handler": "x", "maximumRetryAttempts": 2, "destinations": {"onFailure": {"Ref": "GLambdaFunction"}}},
             "g": {"handler": "x", "package": {"artifact": "g.zip"}}}}
@@ -476,8 +482,9 @@ class Templates(Case):
             os.symlink(above, os.path.join(folder, "up"))
             os.mkfifo(os.path.join(folder, "pipe.json"))
             names = ("../secret.json", f"{above}/secret.json", "up/secret.json", "pipe.json", "/dev/zero", "a\0b", "/")
-            template = {"Resources": {"F": sam(), **{f"S{number}": {"Type": "AWS::CloudFormation::Stack", "Properties": {
-                "TemplateURL": name}} for number, name in enumerate(names)}}}
+            stacks = {f"S{number}": {"Type": "AWS::CloudFormation::Stack", "Properties": {"TemplateURL": name}}
+                      for number, name in enumerate(names)}
+            template = {"Resources": {"F": sam(), **stacks}}
             write(folder, {"template.json": template})
             made, _, said = made_by(os.path.join(folder, "template.json"))
             self.check("nothing outside is read", (list(made), said.count("AWS::CloudFormation::Stack: ")),

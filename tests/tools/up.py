@@ -43,7 +43,7 @@ class UpTest(Case):
         self.check("and a new one serves after it", isinstance(up.invoke()[0], int))
         open(os.path.join(up.at, "broken"), "w").close()
         self.check("the crash is told", up.invoke(do="crash")[0], "Runtime.ExitError")
-        self.check("a runtime that ends in its Init is paused", up.until("started again in", 15))
+        self.check("a runtime that ends in its Init is paused", up.until("restarting in", 15))
         self.check("and its caller hears", up.invoke()[0], "Runtime.ExitError")
         os.remove(os.path.join(up.at, "broken"))
         self.check("TERM stops in order, nothing is left", up.end(), (0, []))
@@ -111,12 +111,13 @@ class UpTest(Case):
                     child.send_signal(signal.SIGTERM)
                 status = child.wait(40)
             with open(os.path.join(folder, "log")) as log:
-                self.check("its own log in a watched folder begins nothing anew", (status, "begins anew" in log.read()),
-                           (0, False))
+                self.check("its own log in a watched folder begins nothing anew",
+                           (status, "restarting f" in log.read()), (0, False))
 
     def test_debug(self):
         up = Up("--debug", "f")
-        self.check("a function to debug begins", up.until("may stop in its Init", 10))
+        self.check("a function to debug begins",
+                   up.until("waiting for a debugger: Init has no time limit until f is invoked", 10))
         self.check("and serves", isinstance(up.invoke()[0], int))
         self.check("nothing is left of it", up.end(), (0, []))
         # As at a breakpoint, for longer than an Init has (10 s) and than others are waited for.
@@ -125,8 +126,8 @@ class UpTest(Case):
                 command=["--", "sh", "-c",
                          'curl -s -d "{}" "$AWS_ENDPOINT_URL_LAMBDA/2015-03-31/functions/f/invocations"'],
                 extensions={"x": extension_that(1000)}, app=held + HANDLER)
-        self.check("a command waits for a function that is debugged", up.until("waits for f/1, which is being debugged",
-                                                                               20))
+        self.check("a command waits for a function that is debugged",
+                   up.until("waiting for f/1, which is being debugged", 20))
         status, left = up.end(None)
         self.check("it runs once that has left its Init, and an extension came after it",
                    (status, left, up.output.isdigit()),

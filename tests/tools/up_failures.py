@@ -141,9 +141,9 @@ class UpFailures(Case):
         four, two = failing(environments=4), failing("--reload", environments=2, watch=["mended"])
         self.check("a failed Init is told with type, message and place",
                    until(lambda: four.count(r"\[f/[1-4]\] Init failed Runtime\.ImportModuleError: Unable to import "
-                                            r"module x \(app\.py:3\)$"), 10))
+                                            r"module x \(app\.py:3\)$"), 40))
         self.check("and with its trace", four.until("import x", 5))
-        self.check("it is started again after a pause", four.until("started again in 1 s", 10))
+        self.check("it is started again after a pause", four.until("restarting in 1 s", 10))
         answer, took = four.invoke()
         # (Without it, after the Init's 10 s.)
         self.check("a caller in a pause hears the report at once", (answer, took < 5),
@@ -160,7 +160,7 @@ class UpFailures(Case):
 
     def reload_until_mended(self, up):
         self.check("with --reload the third failed Init waits for a file",
-                   until(lambda: up.count("started again when a file changes") == 2, 20))
+                   until(lambda: up.count("restarting when a file changes") == 2, 20))
         seen = len(starts(up))
         answer, took = up.invoke()
         self.check("its callers hear the report at once", (answer, took < 5), ("Runtime.ImportModuleError", True))
@@ -313,10 +313,11 @@ class UpFailures(Case):
 
     def test_told_once(self):
         """The trace that the bundled runtime has printed of a failed Init is not told again."""
-        up = Up("--ready", "3", command=("--", "true"), app='def helper():\n    return {}["missing"]\nhelper()\n',
+        up = Up("--ready", "60", command=("--", "true"), app='def helper():\n    return {}["missing"]\nhelper()\n',
                 functions=[{"name": "f", "runtime": "python", "handler": "app.run"}])
-        up.until("not ready after")
-        up.end(None)
+        self.check("three early ends in a row are the end",
+                   up.until("not ready: f/1, whose Init fails: KeyError: 'missing'", 120))
+        self.check("with the status of what is not ready", up.end(None)[0], 5)
         self.check("a failed Init is told in a line", up.count(r"Init failed KeyError: 'missing' \(app\.py:2\)$") > 0)
         # (a trace that tools/up tells is indented by two more)
         self.check("its trace is the runtime's", (up.count(r"\]     helper\(\)$") > 0,

@@ -126,7 +126,7 @@ class UpOutput(Case):
         app = 'class Ошибка(Exception):\n    pass\nraise Ошибка("нет")\n'
         up = Up(functions=[{"name": "f", "runtime": "python", "handler": "app.run", "timeout": 1}], app=app)
         self.check("a failed Init with a Cyrillic name is told", up.until("Init failed Ошибка", 120), True)
-        self.check("it is started again after a pause", up.until("started again in 2 s", 120), True)
+        self.check("it is started again after a pause", up.until("restarting in 2 s", 120), True)
         answer, took = up.invoke()
         self.check("a caller in a pause hears the report at once", (answer, took < 1.9), ("Ошибка", True))
         self.check("the thread that tells goes on", up.has("cannot go on"), False)

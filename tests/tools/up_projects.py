@@ -153,7 +153,7 @@ class UpProjects(Case):
         up = Up("--allow-unready", functions=functions, app=APP, whole={"asynchronous": True},
                 files={"slow.py": SLOW, "index.js": NODE, "mine": mine}, command=["--", "sleep", "100"],
                 prepare=prepare)
-        self.check("functions that cannot be started do not stop the command", up.until("ready but for ", 120))
+        self.check("functions that cannot be started do not stop the command", up.until("ready, except ", 120))
         self.check("what is wrong is told", up.has("unbuilt: directory: there is no folder ") and up.has(
             "unbuilt: ./bootstrap is not a program") and up.has("[broken/1] Init failed Runtime.ImportModuleError"))
         answer = up.invoke("py")[0]
@@ -231,7 +231,7 @@ class UpProjects(Case):
         self.check("one of Lambda's names", programs.python_of(own, None, "/at"), (sys.executable, ""))
         program, note = programs.python_of("python3.99", None, "/at")
         self.check("a version that is not here is told",
-                   (program, note.startswith("python3.99 is not on PATH, and Python 3.")),
+                   (program, note.startswith("python3.99 not found, using 3.")),
                    (sys.executable, True))
         with tempfile.TemporaryDirectory() as folder:  # (as a manager of versions has them on PATH)
             for name, does in (("python3.97", "exit 127"), ("python3.98", "echo 3.98")):
@@ -243,7 +243,7 @@ class UpProjects(Case):
             try:
                 program, note = programs.python_of("python3.97", None, "/at")
                 self.check("one that does not start is told",
-                           (program, note.startswith("python3.97 does not start here, and Py")),
+                           (program, note.startswith("python3.97 does not start, using ")),
                            (sys.executable, True))
                 self.check("one that does is taken", programs.python_of("python3.98", None, "/at"), ("python3.98", ""))
             finally:

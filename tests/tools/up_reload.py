@@ -62,9 +62,10 @@ class UpReload(Case):
         up.write("data", "changed")
         with open(os.path.join(up.at, "up.json"), "a") as file:
             file.write("\n")
-        self.check("a change of UP.json is reported", up.until("up.json has changed: start anew to use it", 20))
-        self.check("and what is ignored begins nothing anew", up.has("begins anew"), False)
+        self.check("a change of UP.json is reported",
+                   up.until("up.json has changed: restart lambda_local up to apply it", 20))
+        self.check("and what is ignored begins nothing anew", up.has("restarting f"), False)
         with open(os.path.join(up.at, "app.py"), "a") as file:
             file.write("# changed\n")
-        self.check("a change of the code does", up.until("f begins anew: app.py changed", 20))
+        self.check("a change of the code does", up.until("restarting f: app.py changed", 20))
         self.check("nothing is left", up.end(), (0, []))

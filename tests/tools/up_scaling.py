@@ -65,7 +65,7 @@ class UpScaling(Case):
     def test_callers(self):
         up = scaled({"min": 1, "max": 4, "idle": 4})
         self.check("the least number is ready", up.until("[up] ready", 60))
-        self.check("no other is started", (up.has("is started"), up.invoke()[1] < 20), (False, True))
+        self.check("no other is started", (up.has("starting: all other"), up.invoke()[1] < 20), (False, True))
         seen = at_once(up, 4, sleep=3)
         self.check("four callers at once get four processes", len(processes(seen)), 4)
         seen = up.invoke(depth=3)[0]
@@ -76,8 +76,8 @@ class UpScaling(Case):
         entries = entries_in(up.history())
         self.check("no Init has expired", [entry.call.kind for entry in entries if entry.call.kind == "expire"], [])
         self.check("idle ones end",
-                   until(lambda: up.count(r"\[f/[234]\] -- ends, since it had no work for 4 s") >= 3, 40))
-        self.check("but for the least number", up.count(r"\[f/1\] -- ends"), 0)
+                   until(lambda: up.count(r"\[f/[234]\] -- stopping: idle for 4 s") >= 3, 40))
+        self.check("but for the least number", up.count(r"\[f/1\] -- stopping"), 0)
         settle(up)
         first = up.invoke()[0][0]
         self.check("their processes go", until(lambda: not [pid for pid in processes(seen) if lives(pid)

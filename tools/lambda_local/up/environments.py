@@ -43,7 +43,7 @@ class Environment(threading.Thread):
         self.identifier: Optional[str] = None  # of lambda_local up in this generation
         self.restarts, self.pause = restarts, Pause()
         self.reported: Optional[Generation] = None  # the last one that ended by this tool's own report
-        # One beyond the function's least number is started once it is wanted.
+        # One beyond the function's least number is started once it is wanted, and its thread with it.
         self.is_extra = watch.environment(number).place > function.least
         self.is_started, self.wanted = not self.is_extra, threading.Event()
 
@@ -119,9 +119,11 @@ class Environment(threading.Thread):
 
     def begin(self) -> None:
         """An invocation is bound to it."""
-        self.say("is started: no other environment is free")
+        self.say("starting: all other environments are busy")
         self.is_started = True
         self.wanted.set()
+        if self.ident is None:
+            self.start()
 
     def wake(self) -> None:
         """At the end it waits for nothing any more."""
@@ -142,7 +144,7 @@ class Environment(threading.Thread):
             if status == 500 and b"ContainerError" in body:
                 return None
             if status == 500 and body != told:
-                self.say("cannot begin anew: the service answers " + body.decode(errors="replace"), level="error")
+                self.say("cannot restart: the service answers " + body.decode(errors="replace"), level="error")
                 told = body
             # (403: an extension that is started by hand still shuts down)
             if self.stopping.wait(1 if status == 500 else 0.1):
@@ -175,7 +177,7 @@ class Environment(threading.Thread):
             return False
         limit = None if self.function.debug else self.function.init
         if limit is None:
-            self.say("may stop in its Init as long as it likes until it is invoked")
+            self.say(f"waiting for a debugger: Init has no time limit until {self.function.name} is invoked")
         while not self.stopping.is_set():
             if self.watch.environment(self.number).generation.poll is not None:
                 return True
@@ -319,10 +321,10 @@ class Environment(threading.Thread):
         if self.restarts.needs_a_change or self.restarts.pause:
             with self.pause.answering() as hurry:
                 if self.restarts.needs_a_change:
-                    self.say("it has failed three times: it is started again when a file changes", level="warning")
+                    self.say("failed three times: restarting when a file changes", level="warning")
                     hurry.wait()
                 else:
-                    self.say(f"started again in {self.restarts.pause} s: it ends as soon as it has begun",
+                    self.say(f"restarting in {self.restarts.pause} s: it keeps exiting right after it starts",
                              level="warning")
                     hurry.wait(self.restarts.pause)
         if self.pause.was_hurried():

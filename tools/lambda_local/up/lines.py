@@ -27,6 +27,7 @@ class Lines:
         self.functions = {function.name: function for function in functions}
         # By function: since when, and how often for which reason
         self.throttled: Dict[str, Tuple[float, Counts[str]]] = {}
+        self.failed: Dict[str, str] = {}  # how the last Init of a function failed
 
     def take(self, event: Event) -> None:
         if isinstance(event, Throttled):
@@ -72,8 +73,12 @@ class Lines:
         elif event.kind in FAILURES:
             report = Report(event.generation.report or b"", function.directory)
             of = f"of the extension {event.extension.name} " if event.extension else ""
-            self.say(environment.name, f"Init {of}failed {report}", "error", "init", {**report.members, **members})
-            for line in [] if self._is_printed(environment.number, report.lines) else report.lines:
+            text = f"Init {of}failed {report}"
+            is_again = self.failed.get(function.name) == text  # (it has been told at length)
+            self.failed[function.name] = text
+            self.say(environment.name, f"Init {of}failed again, in the same way" if is_again else text, "error", "init",
+                     {**report.members, **members})
+            for line in [] if is_again or self._is_printed(environment.number, report.lines) else report.lines:
                 self.log(environment.name, f"  {shorten(line)}", level="error", kind="trace")
 
     def _is_printed(self, number: int, trace: List[str]) -> bool:

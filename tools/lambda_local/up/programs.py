@@ -41,9 +41,8 @@ def python_of(runtime: str, given: Optional[str], directory: str) -> Tuple[str, 
     # (one that a manager of versions has put there may refuse to start)
     if is_there and version_of(f"python3.{minor}", "python") == f"3.{minor}":
         return f"python3.{minor}", ""
-    return own, (f"python3.{minor} {'does not start here' if is_there else 'is not on PATH'}, and Python "
-                 f"{sys.version_info[0]}.{sys.version_info[1]} runs it: write another \"python\" to have it run by "
-                 f"that")
+    return own, (f"python3.{minor} {'does not start' if is_there else 'not found'}, using "
+                 f"{sys.version_info[0]}.{sys.version_info[1]} (set \"python\" to choose another)")
 
 
 def program_of_runtime(runtime: str, given: Optional[str], directory: str, where: str) -> Tuple[str, str]:

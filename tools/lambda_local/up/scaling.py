@@ -41,4 +41,4 @@ class Scaling:
             return
         self.last[environment] = (work, now)
         if ask(self.service.port, "POST", f"/_local/env/{environment.number}/spindown")[0] == 202:
-            environment.say(f"ends, since it had no work for {environment.function.idle} s")
+            environment.say(f"stopping: idle for {environment.function.idle} s")

@@ -40,6 +40,7 @@ Given = TypeVar("Given")
 
 SAVED = "lambda_local.history.txt"
 NAMED = 8  # environments in one line
+FAILED_STARTS = 3  # of an environment in a row, after which a command is not waited for any more
 READY_SECONDS = 60  # for all environments, if no other time is asked for
 LAST_SECONDS = 20.0  # for all threads at the end
 
@@ -189,7 +190,8 @@ class Session:
         for function, text, url in self.front.addresses():
             self.say(text, kind="address", always=not self.options.command, function=function, endpoint=url)
         for thread in [*self.threads, *([self.report] if self.report else [])]:
-            thread.start()
+            if not (isinstance(thread, Environment) and thread.is_extra):  # (it is started once it is wanted)
+                thread.start()
         threading.Thread(target=self.note_end, daemon=True).start()
         try:
             if self.wait_until_ready():
@@ -227,10 +229,14 @@ class Session:
         while not self.happened.wait(0.05):
             (late, awaited), passed = self.late(), time.monotonic() - begun
             if not awaited:
-                self.say(f"ready but for {self.names(late)}" if late else "ready", kind="ready",
+                self.say(f"ready, except {self.names(late)}" if late else "ready", kind="ready",
                          level="warning" if late and self.options.command else "info")
                 return True
             hurried = [environment for environment in awaited if not environment.function.debug]
+            failing = [environment for environment in hurried if environment.restarts.early >= FAILED_STARTS]
+            if self.options.command and failing and not self.options.allow_unready:
+                raise Fault(5, f"not ready: {'; '.join(map(self.lateness, failing[:NAMED]))}; --only leaves a function "
+                               "out, --allow-unready runs the command all the same")
             if hurried and passed > self.patience:
                 said = f"not ready after {self.patience:g} s: " + "; ".join(map(self.lateness, hurried[:NAMED]))
                 if not self.options.allow_unready:
@@ -239,7 +245,7 @@ class Session:
                 return True
             if passed > tell_at:
                 tell_at = 2 * tell_at
-                self.say(f"waits for {self.names(hurried or awaited)}{'' if hurried else ', which is being debugged'}")
+                self.say(f"waiting for {self.names(hurried or awaited)}{'' if hurried else ', which is being debugged'}")
         return False
 
     @staticmethod
