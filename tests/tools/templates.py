@@ -412,7 +412,8 @@ class Templates(Case):
                 "  f:\n    handler: x\n    url: {authorizer: aws_iam, invokeMode: RESPONSE_STREAM, colour: x}\n"
                 "    tracing: Active\n    events:\n"
                 "      - http: {path: a, method: get, async: true, private: true, authorizer: auth,"
-                " request: {schemas: {}}, integration: lambda}\n      - httpApi: {path: /b, method: get, authorizer: {name: jwt}}\n"
+                " request: {schemas: {}}, integration: lambda}\n"
+                "      - httpApi: {path: /b, method: get, authorizer: {name: jwt}}\n"
                 "      - schedule: {rate: rate(1 hour), inputPath: $.a}\n      - stream: arn\n")
         with folder_of(serverless_0_yml=text) as folder:
             made, _, said = made_by(os.path.join(folder, "serverless.yml"))
