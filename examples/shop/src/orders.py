@@ -25,7 +25,8 @@ def created(order):
 
 
 def answer(status, value):
-    return {"statusCode": status, "headers": {"content-type": "application/json"}, "body": json.dumps(value, default=int)}
+    return {"statusCode": status, "headers": {"content-type": "application/json"},
+            "body": json.dumps(value, default=int)}
 
 
 def handler(event, context):

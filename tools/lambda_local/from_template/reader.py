@@ -66,7 +66,8 @@ def size_of(whole: object, known: Dict[int, int]) -> int:
         return 1
     if id(whole) not in known:
         known[id(whole)] = MOST_VALUES
-        known[id(whole)] = 1 + sum(size_of(one, known) for one in (whole.values() if isinstance(whole, dict) else whole))
+        values = whole.values() if isinstance(whole, dict) else whole
+        known[id(whole)] = 1 + sum(size_of(one, known) for one in values)
     return known[id(whole)]
 
 

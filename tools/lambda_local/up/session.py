@@ -245,7 +245,8 @@ class Session:
                 return True
             if passed > tell_at:
                 tell_at = 2 * tell_at
-                self.say(f"waiting for {self.names(hurried or awaited)}{'' if hurried else ', which is being debugged'}")
+                debugged = "" if hurried else ", which is being debugged"
+                self.say(f"waiting for {self.names(hurried or awaited)}{debugged}")
         return False
 
     @staticmethod
