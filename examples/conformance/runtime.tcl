@@ -1,6 +1,6 @@
 #!/usr/bin/env tclsh
-# A runtime in Tcl with the handler that `./lambda_local conformance runtime` expects, and nothing but Tcl's own commands.
-# It relies on the kit's events, which are compact, `do` first and `value` last.
+# A runtime in Tcl with the handler that `./lambda_local conformance runtime` expects, and nothing but Tcl's own
+# commands. It relies on the kit's events, which are compact, `do` first and `value` last.
 #
 # usage: ../../lambda_local conformance runtime -- tclsh runtime.tcl
 lassign [split $env(AWS_LAMBDA_RUNTIME_API) :] host port

@@ -19,6 +19,8 @@ LIES: Dict[str, Tuple[str, str, str, str]] = {
                           "            service.sendall(data)", "            service.sendall(data[:1000])"),
     "conformance_remote": ("what_is_beyond_this_machine", OF_TOOLS + "conformance/service/remote.py",
                            'host.endswith(".localhost")', '"localhost" in host'),
+    "conformance_reports": ("parts", OF_TOOLS + "conformance/kit.py",
+                            "self._begun.setdefault(name, self._part_begun())", "self._moments[0]"),
     "conformance_service": ("each_fault_is_found CONFORMANCE_FAULTS=registers-late",
                             OF_TOOLS + "conformance/service/judge.py",
                             "if exchange.status != wanted:", "if False:"),

@@ -345,57 +345,6 @@ class Conformance(Case):
             self.check("and what came", failure.get("message", "").startswith("the caller received "))
             self.check("and its details", "Invocation error" in (failure.text or ""))
 
-    def test_documents(self):
-        with tempfile.TemporaryDirectory() as folder:
-            paths = {name: os.path.join(folder, name) for name in ("report.md", "badge.svg")}
-            run = Run("runtime", "--only", "error_type", "--only", "stdout", "--only", "numbers", "--markdown",
-                      paths["report.md"], "--badge", paths["badge.svg"], "--", *PYTHON, program("wrong_runtimes.py"),
-                      "LosesTheErrorType")
-            with open(paths["report.md"], encoding="utf-8") as file:
-                lines = file.read().splitlines()
-            self.check("the page begins with what was tested", lines[0].startswith("# conformance runtime: "))
-            self.check("it counts the verdicts",
-                       lines[2].endswith(": 1 of 3 checks passed, 1 failed, 0 should, 1 noted."))
-            rows = [line.split(" | ") for line in lines if line.startswith("| `")]
-            self.check("what did not pass is a table, the worst first", [row[:2] for row in rows],
-                       [["| `error_type`", "FAIL"], ["| `numbers`", "NOTE"]])
-            self.check("with pages", "(https://docs.aws.amazon.com/lambda/latest/dg/runtimes-api.html)" in rows[0][3])
-            self.check("what passed is named", lines[-1], "Passed: `stdout`.")
-            drawn = xml.parse(paths["badge.svg"]).getroot()
-            self.check("the badge is an SVG", (drawn.tag.rpartition("}")[2], drawn.get("aria-label")),
-                       ("svg", "Lambda runtime: 1 failed"))
-            run.told(run.status == 1)
-
-    def test_a_failure_shows_its_own_part(self):
-        """Of a scenario of seven checks one after the other, a FAIL of the fifth shows its calls and no others."""
-        run = Run("runtime", "--only", "without_trace", "--", *PYTHON, program("wrong_runtimes.py"), "NeedsATrace")
-        _, _, drawn = run.output.partition("      timeline\n")
-        self.check("its two invocations are drawn", [one for one in re.findall(r"caller 1: invoke .* bytes?: (\S+),",
-                                                                              drawn)],
-                   ['{"do":"echo","value":1}', '{"do":"context","value":0}'])
-        delivered = re.findall(r"next, call \d+, is answered .*: deliver request (\d+)", drawn)
-        answered = re.search(r"^      wire      last: POST \S*/invocation/\S*-([0-9a-f]+)/error -> 202$", run.output,
-                             re.MULTILINE)
-        self.check("the last exchange is its own", answered and str(int(answered[1], 16)), delivered[-1])
-        run.told(answered is not None)
-
-    def test_what_it_wrote_is_shown(self):
-        lines = ("import sys", f"sys.path.insert(0, {PROGRAMS!r})", "from sound_runtime import Runtime",
-                 "Runtime.respond = lambda *_: sys.exit('\\n'.join('abcdefghijk'))", "Runtime().run()")
-        run = Run("runtime", "--", *PYTHON, "-c", "; ".join(lines))
-        wrote = run.output.partition("      wrote\n")[2].splitlines()[:10]
-        self.check("a FAIL has the last ten lines that the program wrote", [line.strip() for line in wrote],
-                   list("bcdefghijk"))
-        run.told(len(wrote) == 10)
-
-    def test_what_saw_nothing_passes_nothing(self):
-        run = Run("runtime", "--only", "failing_init", "--", "sh", "-c",
-                  f"case $_HANDLER in failing.*) exit 1;; esac; exec {' '.join(PYTHON)} {program('sound_runtime.py')}")
-        self.check("without init/error its end is a NOTE", (run.verdicts("FAIL"), run.verdicts("NOTE"),
-                                                            run.verdicts("PASS")),
-                   ({"init_error"}, {"init_error_ends"}, set()))
-        run.told(run.status == 1)
-
     def test_wrong_usage(self):
         somewhere = os.path.join("nowhere", "report.xml")
         cases: Tuple[Tuple[List[str], str], ...] = (
