@@ -153,8 +153,8 @@ function* chunksOf(bytes) {
   throw new WrongAnswer("its chunks are malformed, or too many");
 }
 
-// A connection over a socket of its own: with node:http an exchange takes three times as long. It is kept, and keeps
-// the process only while an answer is awaited, which has no timeout: a Next waits as long as no one invokes.
+// A connection over a socket of its own: with node:http an exchange takes nearly twice the processor time. It is kept,
+// and keeps the process only while an answer is awaited, which has no timeout: a Next waits as long as no one invokes.
 class Connection {
   constructor() {
     const at = ADDRESS.lastIndexOf(":");

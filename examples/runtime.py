@@ -68,8 +68,8 @@ class Headers(dict):
 
 
 class Connection:
-    """An HTTP/1.1 connection (RFC 9112) over a socket of its own: with http.client an exchange takes three times as
-    long, and a start a quarter more."""
+    """An HTTP/1.1 connection (RFC 9112) over a socket of its own: with http.client an exchange takes nearly twice the
+    processor time."""
 
     def __init__(self, address):
         host, _, port = address.rpartition(":")
