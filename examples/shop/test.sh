@@ -1,7 +1,8 @@
 #!/bin/sh
 # Runs the shop's tests: moto's server has the table and the queue, lambda_local up the functions.
 #   pip install 'moto[server]' boto3 pytest pyyaml
-# PORT is moto's port, LAMBDA_LOCAL the command (lambda_local), PYTHON the Python that has moto.
+# PORT is moto's port, LAMBDA_LOCAL the command (lambda_local), PYTHON the Python that has moto, PYTEST
+# the command of pytest; arguments are options of up.
 set -eu
 cd "$(dirname "$0")"
 port=${PORT:-5000} python=${PYTHON:-python3}
@@ -13,4 +14,4 @@ for _ in $(seq 150); do
   sleep 0.2
 done
 "$python" tests/setup.py
-"${LAMBDA_LOCAL:-lambda_local}" up -- sh -c "\"$python\" -m pytest -q -p no:cacheprovider tests && node --test tests/"
+"${LAMBDA_LOCAL:-lambda_local}" up "$@" -- sh -c "${PYTEST:-$python -m pytest} -q -p no:cacheprovider tests && node --test tests/"

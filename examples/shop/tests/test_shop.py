@@ -10,7 +10,8 @@ ROUTES = os.environ["LAMBDA_LOCAL_ROUTES"]
 
 
 def ask(path, body=None):
-    request = urllib.request.Request(ROUTES + path, body and json.dumps(body).encode())
+    request = urllib.request.Request(ROUTES + path, body and json.dumps(body).encode(),
+                                     {"content-type": "application/json"})
     try:
         with urllib.request.urlopen(request, timeout=30) as answer:
             return answer.status, json.load(answer)
