@@ -1,6 +1,6 @@
-"""Checks examples/shop: its template is served as it is, beside moto's server, and its tests pass by pytest and by Node's
-test runner; without pytest, its functions are called one by one. It needs a Python on PATH that has moto's server, boto3
-and PyYAML, and Node, and says so if one is missing."""
+"""Checks examples/shop: its template is served as it is, beside moto's server, and its tests pass by pytest and by
+Node's test runner; without pytest, its functions are called one by one. It needs a Python on PATH that has moto's
+server, boto3 and PyYAML, and Node, and says so if one is missing."""
 import json
 import os
 import shutil
@@ -9,6 +9,7 @@ import sys
 import tempfile
 import unittest
 
+from lambda_local.configuration import Members
 from lambda_local.service import free_ports
 from tests import ROOT
 from tests.library.cases import Case
@@ -42,8 +43,9 @@ class Shop(Case):
             # (on a busy machine an import of boto3 may take longer than the 10 s of an Init)
             values = os.path.join(folder, "values.json")
             with open(values, "w") as file:
-                json.dump({"functions": [{"name": name, "init": 200, "timeout": 100, **({"python": PYTHON} if name[1] != "r" else {})} for name in (
-                    "OrdersFunction", "PricesFunction", "PackFunction")]}, file)
+                slow: Members = {"init": 200, "timeout": 100}
+                json.dump({"functions": [{"name": "PricesFunction", **slow}, *(
+                    {"name": name, "python": PYTHON, **slow} for name in ("OrdersFunction", "PackFunction"))]}, file)
             plain = os.path.join(folder, "plain.py")
             with open(plain, "w") as file:
                 file.write(PLAIN)
