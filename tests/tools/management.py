@@ -123,8 +123,7 @@ class Management(Case):
                 self.check(f"the service's own: {method} {path}",
                            caller.ask(method, path)[::2], direct.ask(method, path)[::2])
             status, headers, body = caller.ask("POST", invoke_path("f"), b"{}", {"X-Amz-Invocation-Type": "Event"})
-            self.check("an event is refused as before", (status, json.loads(body)["message"]),
-                       (400, "Invocation type is not RequestResponse"))
+            self.check("an event is taken", (status, body), (202, b""))
 
     def test_by_boto3(self):
         """Each operation of botocore's model, and the waiters."""

@@ -53,7 +53,8 @@ class Shop(Case):
             shutil.copytree(os.path.join(ROOT, "examples", "shop"), at)
             done = subprocess.run(["sh", "test.sh", "--values", values], cwd=at, capture_output=True, text=True,
                                   timeout=600, env={**os.environ, "PYTHON": str(PYTHON),
-                                                    "PYTEST": f"{PYTEST} -m pytest" if PYTEST else f"{sys.executable} {plain}",
+                                                    "PYTEST": f"{PYTEST} -m pytest" if PYTEST else (
+                                                        f"{sys.executable} {plain}"),
                                                     "PORT": str(free_ports(1, ())[0]),
                                                     "LAMBDA_LOCAL": os.path.join(ROOT, "lambda_local")})
         self.check("the shop's tests pass", (done.returncode, "4 passed" in done.stdout, "# pass 2" in done.stdout

@@ -93,11 +93,11 @@ HERE = ("Invoke", "InvokeWithResponseStream", "ListFunctions", "GetFunction", "G
         "GetFunctionUrlConfig", "GetFunctionConcurrency", "PutFunctionConcurrency", "DeleteFunctionConcurrency")
 OF_API = re.compile(r"/20\d\d-\d\d-\d\d/.*")  # what is a path of the Lambda API, and not of this service's own
 CODE = "functions are those of UP.json, which lambda_local up reads when it starts"
-VERSIONS = "the only version of a function is $LATEST"
+VERSIONS = "the only version of a function is $LATEST, and its aliases are those of UP.json"
 INSTEAD: Dict[str, str] = {
     "CreateFunction": CODE, "DeleteFunction": CODE, "UpdateFunctionConfiguration": CODE,
     "UpdateFunctionCode": f"{CODE}; lambda_local up --reload takes code that changes",
-    "InvokeAsync": 'use Invoke with the type Event, which "asynchronous": true in UP.json accepts',
+    "InvokeAsync": "use Invoke with the type Event",
     "ListVersionsByFunction": VERSIONS, "PublishVersion": VERSIONS, "ListAliases": VERSIONS, "CreateAlias": VERSIONS,
     "GetAlias": VERSIONS, "UpdateAlias": VERSIONS, "DeleteAlias": VERSIONS,
     **dict.fromkeys(("GetFunctionEventInvokeConfig", "PutFunctionEventInvokeConfig", "UpdateFunctionEventInvokeConfig",
