@@ -14,4 +14,5 @@ for _ in $(seq 150); do
   sleep 0.2
 done
 "$python" tests/setup.py
-"${LAMBDA_LOCAL:-lambda_local}" up "$@" -- sh -c "${PYTEST:-$python -m pytest} -q -p no:cacheprovider tests && node --test tests/"
+tests="${PYTEST:-$python -m pytest} -q -p no:cacheprovider tests && node --test tests/"
+"${LAMBDA_LOCAL:-lambda_local}" up "$@" -- sh -c "$tests"
