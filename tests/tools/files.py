@@ -149,7 +149,7 @@ class Files(Case):
             names = sorted([*os.listdir(folder), "__pycache__"])
             for name, words, status, line in (
                 ("timeline", ["timeline", "--html", "-o", "out", SCRIPT], 4, "timeline: out: File too large"),
-                ("from_template", ["from_template", "template.json", "-o", "out"], 4,
+                ("from_template", ["from_template", "template.json", "--force", "-o", "out"], 4,
                  "from_template: out: File too large"),
                 ("up", ["up", "--history", "out", "up.json", "--", *invoke], 4,
                  "the history could not be saved: out: File too large"),

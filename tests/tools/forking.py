@@ -98,9 +98,9 @@ class Forking(Case):
             self.check("the runtime is the main module", main, ["__main__", "runtime.py", True, True])
             self.check("nothing is left", up.end(), (0, []))
         fresh, other = seen["0"], seen["1"]
-        # (UP.json's folder and the service's ports are those of another run)
+        # (UP.json's folder, the service's ports and the identifiers of requests are those of another run)
         for place in (fresh, other):
-            for name in ("LAMBDA_LOCAL_FORK", "LAMBDA_LOCAL_PROCESS", "LAMBDA_TASK_ROOT", "PWD"):
+            for name in ("LAMBDA_LOCAL_FORK", "LAMBDA_LOCAL_PROCESS", "LAMBDA_TASK_ROOT", "PWD", "_X_AMZN_TRACE_ID"):
                 place["values"].pop(name, None)
             place["values"] = {name: value for name, value in place["values"].items() if "127.0.0.1" not in value}
             place["path"], place["directory"] = place["path"][1:], place["path"][0] == place["directory"]
