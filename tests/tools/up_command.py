@@ -241,7 +241,7 @@ class UpCommand(Case):
         up = Up("--ready", "10", command=["--", "true"],
                 functions=[{"name": "f", "command": [*RUNTIME[:2], "nothing.run"]}])
         self.check("and with why its Init fails",
-                   (up.end(None)[0], up.has("not ready after 10 s: f/1, whose Init fails: Runtime.ImportModuleError")),
+                   (up.end(None)[0], up.has("not ready: f/1, whose Init fails: Runtime.ImportModuleError")),
                    (5, True))
 
     def test_runtimes(self):
