@@ -25,18 +25,15 @@ def told(text, folder, *options):
 
 
 # Members of the function greet, whose command is `true`, and what is said after "up: up.json: function greet: ".
+MEMBERS = ("aliases, asynchronous, command, directory, environments, extensions, handler, init, inline, layers, memory, "
+           "name, ports, python, queue, reserved, runtime, schedule, telemetry, timeout, url, variables, watch")
 ENVIRONMENTS = 'environments must be a whole number from 1 to 256, or an object with "min" and "max", not '
 OF_FUNCTION: Dict[str, Tuple[Members, str]] = {
     "a member that nobody knows": ({"timeuot": 5}, "unknown member timeuot, did you mean timeout?"),
-    "one that is like no other": ({"zzz": 1}, "unknown member zzz; there are command, directory, environments, "
-                                              "extensions, handler, init, layers, memory, name, ports, python, "
-                                              "queue, reserved, runtime, schedule, telemetry, timeout, url, variables, "
-                                              "watch"),
+    "one that is like no other": ({"zzz": 1}, f"unknown member zzz; there are {MEMBERS}"),
     "what others call it": ({"environment": {"A": "x"}}, "unknown member environment, did you mean variables?"),
     "a number by another name": ({"environment": 2}, "unknown member environment, did you mean environments?"),
-    "what a template has": ({"events": []}, "unknown member events; there are command, directory, environments, "
-                                            "extensions, handler, init, layers, memory, name, ports, python, queue, "
-                                            "reserved, runtime, schedule, telemetry, timeout, url, variables, watch"),
+    "what a template has": ({"events": []}, f"unknown member events; there are {MEMBERS}"),
     "a text for a number": ({"timeout": "5"}, 'timeout must be a whole number of seconds, from 1 to 900, not "5"'),
     "a broken number": ({"memory": 1.5}, "memory must be a whole number of MB, not 1.5"),
     "true for a number": ({"reserved": True}, "reserved must be a whole number, not true"),

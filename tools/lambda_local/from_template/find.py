@@ -61,15 +61,14 @@ def is_template(path: str) -> bool:
     """Whether a file is a template, and not an UP.json."""
     if not path.endswith(".json"):
         return path.endswith((".yaml", ".yml", ".template"))
-    if path.endswith(".template.json"):
+    if path.endswith(".template.json") or os.path.basename(path) in SERVERLESS:
         return True
     try:
         with open(path, "rb") as file:
             whole = read_json(file.read(LONGEST + 1), longest=LONGEST)
     except (OSError, NotJson):
         return False  # (whoever reads an UP.json says what is wrong)
-    return isinstance(whole, dict) and ("Resources" in whole or "provider" in whole or isinstance(
-        whole.get("functions"), dict))
+    return isinstance(whole, dict) and ("Resources" in whole or "provider" in whole)
 
 
 def source_of(named: Optional[str]) -> Source:
