@@ -143,7 +143,7 @@ def front_of(asynchronous: Union[None, bool, Members], members: Mapping[str, Mem
     if asynchronous is None or asynchronous is False:
         return None
     from .front.front import Front  # (asyncio takes a while to import, and few tests need it)
-    from .front.settings import OF_ASYNCHRONOUS, Address, Settings, asynchronous_of
+    from .front.settings import OF_ASYNCHRONOUS, Settings, asynchronous_of
     if asynchronous is not True and not isinstance(asynchronous, dict):
         raise ValueError(f"asynchronous must be True, or a dict such as {{\"retries\": 0}}, not {asynchronous!r}")
     given = {} if asynchronous is True else asynchronous
@@ -152,7 +152,7 @@ def front_of(asynchronous: Union[None, bool, Members], members: Mapping[str, Mem
     if given.get("onFailure", next(iter(members))) not in members:
         raise ValueError(f"asynchronous: onFailure: there is no function {shown(given['onFailure'])}")
     functions = tuple({"name": name, **own} for name, own in members.items())
-    made = Settings(0, asynchronous_of(given), {}, {}, Address(), functions, os.getcwd())
+    made = Settings(0, asynchronous_of(given), urls={}, apis={}, functions=functions, folder=os.getcwd())
     return Front(made, "start()", DRAIN_SECONDS, tell_of_events)
 
 
