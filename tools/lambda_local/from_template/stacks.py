@@ -137,8 +137,7 @@ class Stacks:
     def chosen_stage(self, inner: Dict[str, str]) -> str:
         """The folder of one of the stages of an app: each is the whole of it."""
         wanted = self.given.stage
-        name = next(iter(inner)) if wanted is None else next(
-            (name for name in inner if name.lower() == wanted.lower()), None)
+        name = next((name for name in inner if wanted is None or name.lower() == wanted.lower()), None)
         if name is None:
             raise Fault(f"--stage {wanted}: there is no such stage; there are {', '.join(inner)}")
         if len(inner) > 1 and wanted is None:

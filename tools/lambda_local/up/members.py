@@ -63,7 +63,7 @@ OWN = {
     "layers": Kind(is_list_of(is_text), "a list of folders and .zip files"),
     "variables": VARIABLES,
     "directory": Kind(is_text, "a string: a folder, or a .zip file"),
-    "inline": Kind(lambda value: is_text(value) and is_unicode(value), "a string: code"),
+    "inline": Kind(lambda value: isinstance(value, str) and is_unicode(value), "a string: code"),
     "memory": Kind(lambda value: is_whole(value, 1 << 32), "a whole number of MB"),
     "watch": Kind(is_list_of(is_text), "a list of files and folders"),
     "extensions": Kind(is_extensions,

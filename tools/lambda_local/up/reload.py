@@ -191,7 +191,7 @@ class Reload(threading.Thread):
     def look(self, files: Dict[str, Files]) -> Dict[str, Times]:
         """The times of each function's files. UP.json is none of them: its changes are told apart."""
         times: Dict[Tuple[Tuple[str, ...], FrozenSet[str]], Times] = {}
-        own = set(map(os.path.realpath, self.paths))
+        own = {os.path.realpath(path) for path in self.paths}
         for each in files.values():
             if each.key not in times:
                 times[each.key] = {path: moment for path, moment in each.times().items()

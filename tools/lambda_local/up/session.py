@@ -309,7 +309,8 @@ class Session:
         saved if that is asked, or the command failed."""
         self.ending.set()
         self.step("waiting for events", lambda: self.front.drain(lambda: self.service.process.poll() is not None))
-        gone, is_saved = self.service.process.poll() is not None, True
+        gone = self.service.process.poll() is not None
+        is_saved: Optional[bool] = True
         self.step("reading the history", self.watch.refresh)
         if (self.options.history or self.options.command and failed) and not gone:
             is_saved = self.step("saving the history", self.save, False)

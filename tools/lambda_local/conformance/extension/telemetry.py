@@ -128,7 +128,7 @@ def subscription(stage: "ExtensionStage") -> None:
     if not stage.telemetry.asked:
         return stage.note("telemetry", "it asks for none")
     faults = stage.telemetry.faults
-    return stage.check("telemetry", not faults, faults and faults[0], f"{stage.telemetry.asked} right")
+    return stage.check("telemetry", not faults, faults[0] if faults else None, f"{stage.telemetry.asked} right")
 
 
 @scenario(

@@ -2,11 +2,12 @@
 `probe.missing`, whose Init fails. It stores nothing and reaches nothing."""
 import os
 import time
+from typing import Any
 
 VERSION = 1
 
 
-def handler(event, context):
+def handler(event: Any, context: Any) -> Any:
     do = event.get("do") if isinstance(event, dict) else None
     if do == "who":
         return {"probe": VERSION}
