@@ -14,8 +14,6 @@ GENERIC = re.compile(r"<(?:[^<>]|->)*>")
 CLAUSE = re.compile(r"^\s*(ensures|requires|ghost|×)")
 ROUTE = re.compile(r"^(?!\s*(?://|ensures|requires|ghost)).*\"/_local/", re.M)
 ROUTES = "crates/http_routes/src/routes.rt"
-# To be deleted with the path there, which is one of a route of ROUTES.
-KNOWN_ROUTES = ("crates/http_front/src/rousing.rt",)
 NO_CLAUSE = os.path.join("tests", "library", "no_clause.noted")
 NOT_CLAIMED = "## What is not claimed"
 
@@ -69,11 +67,8 @@ def functions(root: str, *crates: str) -> Iterator[Function]:
 def routes(root: str) -> Iterator[str]:
     """Places beside the table of routes that have the path of one."""
     for _, path, text in sources(root):
-        if path not in (ROUTES, *KNOWN_ROUTES) and ROUTE.search(text):
+        if path != ROUTES and ROUTE.search(text):
             yield f"{path} has a route's path, which stands in {ROUTES} alone"
-    for path in KNOWN_ROUTES:
-        if not ROUTE.search(text_of(root, path)):
-            yield f"{path} has no route's path any more: delete it from KNOWN_ROUTES"
 
 
 def reasons(root: str) -> Dict[str, str]:

@@ -210,14 +210,14 @@ class MustFail(Case):
         self.check("and it is written anew", [*refusals.known(self.root)], ["a/e"])
 
     def test_costs_of_crates(self) -> None:
-        busy = "import os, time\nends = time.time() + 1.5\nos.fork()\nwhile time.time() < ends: pass\nos.wait()"
+        busy = "import os, time\nit = os.fork()\nwhile time.process_time() < 0.5: pass\nit and os.wait()\ntime.sleep(1)"
         ran = subprocess.Popen(["sh", "-c", '"$@" & wait', "sh", sys.executable, "-c", busy, "--crate-name", "b"],
                                stderr=subprocess.DEVNULL)
         followed = gate_record.CrateSeconds(ran.pid)
         followed.start()
         ran.wait()
         seconds = followed.end()
-        self.check("the CPU seconds of what a command starts", [*seconds] == ["b"] and 0.2 < seconds["b"] < 3.2,
+        self.check("the CPU seconds of what a command starts", [*seconds] == ["b"] and 0.8 < seconds["b"] < 2,
                    shown=seconds)
         record = "commit 1\ncrate_seconds a 5, b 620, c 30\ngate 1 passed, 0 failed\n"
         page = f"# Costs\n{gate_record.MARK}`a` 1\n\nmore\n"

@@ -89,13 +89,9 @@ class PageChecks(Case):
     def test_paths_of_routes(self) -> None:
         self.put(source_facts.ROUTES, 'add(router, "/_local/stop");\n')
         self.put("crates/a/src/lib.rt", '//! `"/_local/stop"`\n    ensures stop { codes "/_local/stop" }\n')
-        with mock.patch.object(source_facts, "KNOWN_ROUTES", ()):
-            self.check("comments and clauses may have one", [*source_facts.routes(self.root)], [])
-            self.put("crates/http_front/src/front.rt", 'const STOP: &str = "/_local/stop";\n')
-            self.check("code may not", "front.rt has a route's" in "".join(source_facts.routes(self.root)))
-        with mock.patch.object(source_facts, "KNOWN_ROUTES", ("crates/a/src/rings.rt",)):
-            self.check("an exception that is none any more",
-                       "rings.rt has no route's path any more" in "".join(source_facts.routes(self.root)))
+        self.check("comments and clauses may have one", [*source_facts.routes(self.root)], [])
+        self.put("crates/http_front/src/front.rt", 'const STOP: &str = "/_local/stop";\n')
+        self.check("code may not", "front.rt has a route's path" in "".join(source_facts.routes(self.root)))
 
     def test_dead_lemmas(self) -> None:
         self.put("crates/a/proofs/It.antt", PROOF)

@@ -1,7 +1,9 @@
 """Checks /_local/trace of a service that runs: each follower gets the line of each entry once, in order, from its
 ticket on, and in the end what `lambda_local trace` writes of the history; also a follower that reads late, beside one
-that goes, and from a ticket that no entry has yet. A service that is followed ends as fast as another. The program is
-LAMBDA_LOCAL_PROGRAM, else ./lambda_local. Ends with 'N passed, M failed'."""
+that goes, and from a ticket that no entry has yet. A service that is followed ends as fast as another. At most 64
+connections follow it, beside which it is counted and stopped; readers that do not read hold little memory. The program
+is LAMBDA_LOCAL_PROGRAM, else ./lambda_local. Ends with 'N passed, M failed'."""
+import json
 import socket
 import subprocess
 import threading
@@ -18,6 +20,11 @@ CONFIGURATION = {"account": "123456789012", "region": "us-east-2",
                  "functions": [{"name": name, "ports": [0], "timeout": 600} for name in "fg"]}
 PATIENCE = 60  # seconds until something has to come, on a machine that does much else
 FOLLOWED = "/_local/trace?follow=1"
+MOST_FOLLOWERS = 64
+TURNED_AWAY = {"errorMessage": "64 connections follow the trace, as many as may at once",
+               "errorType": "TooManyFollowers"}
+READERS, LARGE = 200, 5 << 20
+SHARE = 320 << 10  # of each reader: 128 KiB of text, its thread, and what memory rounds up
 
 
 def chunks_of(file):
@@ -113,6 +120,43 @@ def is_over_in(followers):
         service.kill()
 
 
+def asking(port, path):
+    """A connection that has asked for a path, whose answer nobody has read."""
+    connection = socket.create_connection(("127.0.0.1", port), PATIENCE)
+    connection.setsockopt(socket.SOL_SOCKET, socket.SO_RCVBUF, 4096)
+    connection.sendall(f"GET {path} HTTP/1.1\r\nHost: localhost\r\n\r\n".encode())
+    return connection
+
+
+def head_of(connection):
+    """The head that came on a connection, and what came with it."""
+    came = b""
+    while b"\r\n\r\n" not in came:
+        part = connection.recv(4096)
+        if not part:
+            break
+        came += part
+    return came
+
+
+def resident(process):
+    """How many bytes of a process are in memory."""
+    with open(f"/proc/{process.pid}/status", encoding="utf-8") as file:
+        return next(int(line.split()[1]) << 10 for line in file if line.startswith("VmRSS"))
+
+
+def answer_large(service, byte):
+    """One invocation whose output is large, and all of one byte, which is escaped in a history and in its trace."""
+    runtime_port = service.configuration["functions"][0]["ports"][0]
+    caller = threading.Thread(target=ask, args=(service.port, "POST", "/2015-03-31/functions/f/invocations", b"{}"),
+                              kwargs={"timeout": PATIENCE})
+    caller.start()
+    _, headers, _ = ask(runtime_port, "GET", RUNTIME + "invocation/next", timeout=PATIENCE)
+    ask(runtime_port, "POST", f"{RUNTIME}invocation/{headers['lambda-runtime-aws-request-id']}/response", byte * LARGE,
+        timeout=PATIENCE)
+    caller.join(PATIENCE)
+
+
 class TraceFollowed(Case):
     def test_follows(self):
         service = Service(CONFIGURATION)
@@ -178,3 +222,52 @@ class TraceFollowed(Case):
         self.check("a service that is followed ends as fast", taken < alone + 0.03,
                    shown=f"{1000 * taken:.1f} ms, alone {1000 * alone:.1f} ms")
         print(f"      (it took {1000 * taken:.1f} ms, alone {1000 * alone:.1f} ms)")
+
+    def test_has_few_followers(self):
+        """Further ones are turned away, until one has gone. The counts and the stop have a place."""
+        service = Service(CONFIGURATION)
+        try:
+            each = [asking(service.port, FOLLOWED) for _ in range(MOST_FOLLOWERS)]
+            heads = [head_of(connection) for connection in each]
+            self.check("64 follow", all(head.startswith(b"HTTP/1.1 200 ") for head in heads))
+            refused = [ask(service.port, "GET", FOLLOWED, timeout=PATIENCE) for _ in range(3)]
+            self.check("further ones get 503", [status for status, _, _ in refused], [503] * 3)
+            self.check("and are told why", [json.loads(body) for _, _, body in refused], [TURNED_AWAY] * 3)
+            self.check("who does not follow reads it", ask(service.port, "GET", "/_local/trace")[0], 200)
+            self.check("the counts come", service.stats()["entries"], 0)
+            each.pop().close()
+            deadline = time.monotonic() + PATIENCE
+            while time.monotonic() < deadline:
+                each.append(asking(service.port, FOLLOWED))
+                if head_of(each[-1]).startswith(b"HTTP/1.1 200 "):
+                    break
+                each.pop().close()
+                time.sleep(0.1)
+            self.check("one that goes makes room", len(each), MOST_FOLLOWERS)
+            self.check("a stop ends it", ask(service.port, "POST", "/_local/stop")[0], 202)
+            wait_for(service.process, PATIENCE)
+            for connection in each:
+                connection.close()
+        finally:
+            service.kill()
+
+    def test_holds_little_for_readers(self):
+        """After one large output, of bytes that are escaped, many readers that do not read on."""
+        for path in "/_local/history", "/_local/trace", FOLLOWED:
+            for byte in b"\x01", b"\xff":
+                service = Service(CONFIGURATION)
+                try:
+                    answer_large(service, byte)
+                    before = resident(service.process)
+                    count = MOST_FOLLOWERS if path == FOLLOWED else READERS
+                    each = [asking(service.port, path) for _ in range(count)]
+                    self.check(f"each begins with {path}",
+                               all(head_of(one).startswith(b"HTTP/1.1 200 ") for one in each))
+                    time.sleep(1)
+                    held = resident(service.process) - before
+                    self.check(f"readers of {path} hold little", held < count * SHARE,
+                               shown=f"{held >> 10} KiB for {count} readers")
+                    for connection in each:
+                        connection.close()
+                finally:
+                    service.kill()

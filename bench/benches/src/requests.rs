@@ -10,7 +10,7 @@ use bytes::Bytes;
 use call_model::{Call, Ticket};
 use http::request::Parts;
 use http::{Method, Request, Uri};
-use http_routes::{Decision, Side};
+use http_routes::{Decision, Received, Side};
 use lambda_wire::{PayloadScratch, read_config};
 use service_port::Port;
 use std::alloc::Global;
@@ -70,7 +70,7 @@ fn decide<R: Clock>(
     size: u64,
     count: u64,
 ) -> Option<Made> {
-    let body = body(alloc, size)?;
+    let body = Received::whole(body(alloc, size)?);
     let parts = head(alloc, target)?;
     let mut scratch = PayloadScratch::new();
     let begun = now(rt);

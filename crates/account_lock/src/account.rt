@@ -1,7 +1,7 @@
 //! The account: a desk that threads share.
 
 ghost use Rattle.std.specs.Prelude.{◌≡◌, ◌≢◌, ◌⊎◌, [], ◌+◌, ◌<◌, ◌≤◌, ◌^◌, ◌↔◌, true, false, is_some};
-ghost use Rattle.std.specs.Prelude.{length, option_map, IfOk, IfErr, IfSome, IfNone, IsErrOf};
+ghost use Rattle.std.specs.Prelude.{length, IfOk, IfErr, IfSome, IfNone, IsErrOf};
 ghost use Rattle.std.specs.Arc.{arc_value};
 ghost use Rattle.std.specs.List.{list_all};
 ghost use Rattle.arn_ids.specs.Environments.{owners};
@@ -81,16 +81,6 @@ fn ring_out<B: Bell>(step: Step<B>) -> Ticket
     let Step { ticket, rings } = step;
     rings.ring();
     ticket
-}
-
-/// Returns the text of an entry that was drafted under the lock.
-fn finish(draft: Option<Draft>) -> Result<Option<Vec<u8>>, AllocError>
-    ensures { IfOk result (λ text. option_map (λ bytes. bytes.items) text ≡ draft) }
-{
-    match draft {
-        None => Ok(None),
-        Some(draft) => Ok(Some(draft.finish()?)),
-    }
 }
 
 impl<S: Identity, B: Bell> Account<S, B> {
@@ -342,7 +332,7 @@ impl<S: Identity, B: Bell> Account<S, B> {
     }
 
     /// Returns the text of the entry with a ticket, in the history as it is, which the token has then seen;
-    /// `None` past the end. The entry's bodies are escaped after the lock is released.
+    /// `None` past the end. The entry's bodies are escaped as the text is taken, after the lock is released.
     ///
     /// It fails only if an allocation fails.
     pub fn history(
@@ -350,17 +340,14 @@ impl<S: Identity, B: Bell> Account<S, B> {
         rt: &impl Wait,
         token: &mut Token<S>,
         ticket: Ticket,
-    ) -> Result<Option<Vec<u8>>, AllocError>
+    ) -> Result<Option<Draft>, AllocError>
         ensures seen { Sees S.config S.most token.old token.new }
-        ensures text { IfOk result (λ text.
-            IsTextOf S.config S.salt ticket (option_map (λ bytes. bytes.items) text) token.new) }
+        ensures text { IfOk result (λ text. IsTextOf S.config S.salt ticket text token.new) }
     {
-        let draft = self
-            .locked
+        self.locked
             .lock(rt)
             .read(&self.spine, token)
-            .history(ticket);
-        finish(draft?)
+            .history(ticket)
     }
 
     /// Adds up the shares of all tallies, and compares what they keep with the history. It needs the account

@@ -1,11 +1,12 @@
 //! The trace of an account's history, as it grows.
 
-ghost use Rattle.std.specs.Prelude.{◌≡◌, [], true, is_some, option_map, IfOk, OnErr};
+ghost use Rattle.std.specs.Prelude.{◌≡◌, [], true, is_some, IfOk, OnErr};
 ghost use Rattle.account_book.specs.Books.{life};
 ghost use Rattle.account_lock.specs.Shown.{Sees};
 ghost use Rattle.account_lock.specs.Trails.{GoesOn, IsLineOf, is_off};
 
 use crate::{Account, Bell, Identity, Trail};
+use script::Draft;
 use std::alloc::{AllocError, Global};
 use std::sync::Wait;
 
@@ -21,8 +22,8 @@ impl<S: Identity, B: Bell> Account<S, B> {
 
     /// Returns the trace's line of the entry that comes next on a trail, in the history as it is, which the
     /// trail has then seen: the entry's JSON object, with payloads, outputs and reports if `bodies`, and a
-    /// line feed; `None` past the end. Under the lock the entry is followed; its line is written after the
-    /// lock is released.
+    /// line feed; `None` past the end. Under the lock the entry is followed; its line is made after the lock is
+    /// released, and its bodies are written as it is taken.
     ///
     /// It fails only if an allocation fails. The trail has then passed the entry.
     pub fn trace(
@@ -30,10 +31,9 @@ impl<S: Identity, B: Bell> Account<S, B> {
         rt: &impl Wait,
         trail: &mut Trail<S>,
         bodies: bool,
-    ) -> Result<Option<Vec<u8>>, AllocError>
+    ) -> Result<Option<Draft>, AllocError>
         ensures seen { Sees S.config S.most trail.old.seen trail.new.seen }
-        ensures line { IfOk result (λ line. IsLineOf S.config S.salt bodies trail.old.next
-            (option_map (λ bytes. bytes.items) line) trail.new.seen) }
+        ensures line { IfOk result (λ line. IsLineOf S.config S.salt bodies trail.old.next line trail.new.seen) }
         ensures next { IfOk result (λ line. GoesOn (is_some line) trail.old trail.new) }
         ensures passed { OnErr result (GoesOn true trail.old trail.new) }
     {
@@ -41,7 +41,7 @@ impl<S: Identity, B: Bell> Account<S, B> {
         let Some(object) = object? else {
             return Ok(None);
         };
-        Ok(Some(object.finish()?))
+        Ok(Some(object.line()?))
     }
 
     /// Lets a trail pass the entry that comes next, in the history as it is, which the trail has then seen.

@@ -1,7 +1,7 @@
 -- What is seen of connections, which are looked at once a second, and what follows from it.
-use Rattle.std.specs.Prelude.{ℕ, ◌+◌, ◌-◌, ◌/◌, ◌^◌, ◌==◌, min, Bool, ◌&&◌, nat_lt, if◌then◌else◌, Option}
-use Rattle.std.specs.Prelude.{Some, None, ◌||◌, option_map}
-use Rattle.connection_state.specs.Pulses.{is_unserved, is_between, is_same, is_in_stage_of}
+use Rattle.std.specs.Prelude.{ℕ, ◌+◌, ◌-◌, ◌*◌, ◌/◌, ◌^◌, ◌==◌, min, Bool, ◌&&◌, nat_lt, if◌then◌else◌, Option}
+use Rattle.std.specs.Prelude.{Some, None, ◌||◌, not, option_map}
+use Rattle.connection_state.specs.Pulses.{is_unserved, is_between, is_lingering, is_same, is_in_stage_of}
 use Rattle.connection_state.specs.Limits.{has_outstayed}
 use Rattle.connection_state.specs.declared.pulse.Told.{Told}
 use Rattle.connection_places.specs.declared.observation.Observation.{Observation}
@@ -34,8 +34,13 @@ seen_later seen told looks = record {
 abbrev pub is_over : Observation → Bool
 is_over seen = has_outstayed seen.port seen.told seen.still seen.whole
 
+-- Whether a connection lingers, and anything has come from one look at it to the next.
+abbrev pub is_sent_more : Observation → Observation → Bool
+is_sent_more before seen = is_lingering seen.told.awaited && not (is_same seen.told before.told)
+
 -- For how many looks a connection has been without a complete request; `None` if it may not make room for a newcomer
--- at its own port. It may if it is between two requests, or if it was already sending one at an earlier look.
+-- at its own port. It may if it is between two requests or lingers, or if it was already sending a request at an earlier
+-- look.
 abbrev pub spare_looks : Observation → Option ℕ
 spare_looks seen =
     if is_between seen.told.awaited || (is_unserved seen.told.awaited && nat_lt 0 seen.unasked) then Some seen.unasked
@@ -62,9 +67,10 @@ offered_at newcomer (Environment own) seen =
 abbrev pub looks_of_environment : ℕ → Observation → Option (ℕ × ℕ)
 looks_of_environment newcomer seen = offered_at newcomer seen.port seen
 
--- The number of places that are kept for the account's port: one in sixteen, up to 64.
+-- The number of places that are kept for the account's port: one in sixteen, up to 64; and of 1,024 or more, 64 further
+-- ones, since as many connections may follow the trace there.
 abbrev pub reserve_of : ℕ → ℕ
-reserve_of most = min (most / 16) 64
+reserve_of most = min (most / 16) 64 + min (most / 1024 * 64) 64
 
 -- The better of two connections to make room: the one that has been longer without a complete request, or the earlier
 -- of equal ones.

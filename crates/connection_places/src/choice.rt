@@ -55,11 +55,12 @@ fn fuller(best: Option<Spare>, spare: Option<Spare>) -> Option<Spare>
     }
 }
 
-/// Returns how many of `most` places are kept for the account's port.
+/// Returns how many of `most` places are kept for the account's port: one in sixteen, up to 64; and of 1,024 or more, 64
+/// further ones, since as many connections may follow the trace there, of which none makes room.
 pub(crate) fn reserve_of(most: usize) -> usize
     ensures { result ≡ spec.reserve_of most }
 {
-    (most / 16).min(64)
+    (most / 16).min(64) + (most / 1024 * 64).min(64)
 }
 
 /// Returns for how many looks the connection of a place has been without a complete request; `None`

@@ -48,6 +48,13 @@ impl Observation {
         }
     }
 
+    /// Returns how many responses its service has given (modulo 2^16).
+    pub(crate) fn answers(self) -> u16
+        ensures { result ≡ self.told.answers }
+    {
+        self.told.answers
+    }
+
     /// Returns whether the connection has reached one of its limits.
     pub(crate) fn has_outstayed(self) -> bool
         ensures { result ≡ spec.is_over self }
@@ -55,9 +62,16 @@ impl Observation {
         has_outstayed(self.port, self.told, self.still, self.whole)
     }
 
+    /// Returns whether the connection lingers, and anything has come since this other look at it.
+    pub(crate) fn is_sent_more_than(self, before: Observation) -> bool
+        ensures { result ≡ spec.is_sent_more before self }
+    {
+        self.told.is_lingering() && !self.told.is_same(before.told)
+    }
+
     /// Returns for how many looks the connection has been without a complete request; `None` if it
-    /// may not make room for a newcomer at its own port. It may if it either is between two requests,
-    /// or was already sending one at an earlier look.
+    /// may not make room for a newcomer at its own port. It may if it is not within an exchange, as
+    /// between two requests, or was already sending a request at an earlier look.
     fn spare_looks(self) -> Option<u32>
         ensures { result ≡ spec.spare_looks self }
     {

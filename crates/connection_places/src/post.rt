@@ -1,7 +1,8 @@
 //! A place of connections, as its thread sees it.
 
 use crate::mailbox::Mailbox;
-use std::sync::{Arc, Mutex, Wait};
+use std::alloc::{AllocError, Global};
+use std::sync::{Arc, Condvar, Mutex, Wait};
 use std::thread::{JoinHandle, Threads};
 use std::time::{Clock, Duration};
 
@@ -15,8 +16,66 @@ pub(crate) struct End {
     pub(crate) has_left: bool,
 }
 
-/// The connections that have ended.
-pub(crate) type Ended = Mutex<Vec<End>>;
+/// What threads and the keeper of the places tell each other.
+#[derive(Drop)]
+struct Notes {
+    ends: Vec<End>,
+    // Whether the keeper waits for the next one.
+    is_awaited: bool,
+}
+
+/// The connections that have ended, and the wait for the next one.
+#[derive(Drop)]
+pub(crate) struct Ended {
+    notes: Mutex<Notes>,
+    noted: Condvar,
+}
+
+impl Ended {
+    /// Makes it, without a connection. It allocates nothing.
+    pub(crate) fn new(alloc: Global) -> Ended {
+        let notes = Notes {
+            ends: Vec::new(alloc),
+            is_awaited: false,
+        };
+        Ended {
+            notes: Mutex::new(notes),
+            noted: Condvar::new(),
+        }
+    }
+
+    /// Makes room for the notes of `count` places.
+    pub(crate) fn reserve(&self, rt: &impl Wait, count: usize) -> Result<(), AllocError> {
+        self.notes.lock(rt).ends.reserve(count)
+    }
+
+    /// Notes that a connection has ended, and wakes the keeper if it waits for that. (There is room for
+    /// the note.)
+    fn push(&self, rt: &impl Wait, end: End) {
+        let mut notes = self.notes.lock(rt);
+        let _ = notes.ends.push(end);
+        let is_awaited = notes.is_awaited;
+        drop(notes);
+        if is_awaited {
+            self.noted.notify_one();
+        }
+    }
+
+    /// Takes out the note of a connection that has ended.
+    pub(crate) fn pop(&self, rt: &impl Wait) -> Option<End> {
+        self.notes.lock(rt).ends.pop()
+    }
+
+    /// Waits until there is a note, for up to this time.
+    pub(crate) fn wait<R: Wait + Clock>(&self, rt: &R, time: Duration) {
+        let mut notes = self.notes.lock(rt);
+        notes.is_awaited = true;
+        let (mut notes, _) = self
+            .noted
+            .wait_timeout_while(rt, notes, time, |notes| notes.ends.is_empty());
+        notes.is_awaited = false;
+    }
+}
 
 /// What the thread of a place knows of it: its number, the tally of its connections, the mailbox
 /// into which the next one is put, and the list in which the thread notes that one has ended.
@@ -31,14 +90,13 @@ pub struct Post<Y, V> {
 }
 
 impl<Y, V: Drop> Post<Y, V> {
-    /// Notes that the connection of the place has ended, and whether the thread leaves. (There is
-    /// room for the note.)
+    /// Notes that the connection of the place has ended, and whether the thread leaves.
     fn tell(&self, rt: &impl Wait, has_left: bool) {
         let end = End {
             at: self.at,
             has_left,
         };
-        let _ = self.ended.lock(rt).push(end);
+        self.ended.push(rt, end);
     }
 
     /// Notes that the connection of the place has ended, and waits for the next one. If it returns

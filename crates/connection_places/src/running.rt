@@ -10,9 +10,10 @@ use std::sync::Arc;
 pub struct Running {
     // `None` once the connection was signalled to end at once.
     ender: Option<Ender>,
-    // Which signals were sent.
+    // Whether the soft signal was sent.
     has_sent_soft: bool,
-    has_sent_room: bool,
+    // How many responses its service had given when it was last asked to make room.
+    asked_after: Option<u16>,
     pulse: Arc<Pulse>,
     pub(crate) seen: Observation,
 }
@@ -23,7 +24,7 @@ impl Running {
         Running {
             ender: Some(ender),
             has_sent_soft: false,
-            has_sent_room: false,
+            asked_after: None,
             seen: Observation::first(port, pulse.told()),
             pulse,
         }
@@ -41,12 +42,25 @@ impl Running {
         }
     }
 
-    /// Signals the connection to end at once if it serves no request.
+    /// Signals the connection to end at once if it serves no request. It is signalled again only after a
+    /// further response: it may have been serving one before.
     pub(crate) fn ask_for_room(&mut self) {
+        let asked = Some(self.seen.answers());
         if let Some(ender) = &self.ender
-            && !self.has_sent_room
+            && self.asked_after != asked
+            && ender.send(Signal::Room)
         {
-            self.has_sent_room = ender.send(Signal::Room);
+            self.asked_after = asked;
+        }
+    }
+
+    /// Looks at the connection again, and ends it at once unless it lingers, and more has come since the
+    /// last look.
+    pub(crate) fn end_if_still(&mut self) {
+        let before = self.seen;
+        self.look(0);
+        if !self.seen.is_sent_more_than(before) {
+            self.tell(true);
         }
     }
 

@@ -12,6 +12,7 @@ use std::alloc::{AllocError, Global};
 use std::marker::Model;
 use std::sync::{Arc, Mutex, Wait};
 use std::thread::Threads;
+use std::time::{Clock, Duration};
 
 /// A place of one connection after another, which all count in its tally: so no tally is lost, and
 /// there are no more tallies than the greatest number of connections that were open at once. Its
@@ -97,7 +98,7 @@ impl<Y: Drop, V: Drop> Slots<Y, V> {
             most: most as usize,
             slots: Vec::new(alloc),
             free: Vec::new(alloc),
-            ended: Arc::new(alloc, Mutex::new(Vec::new(alloc)))?,
+            ended: Arc::new(alloc, Ended::new(alloc))?,
             gathered: Vec::with_capacity(alloc, 2)?,
         })
     }
@@ -134,7 +135,7 @@ impl<Y: Drop, V: Drop> Slots<Y, V> {
         };
         if self.slots.reserve(1).is_err()
             || self.free.reserve(room).is_err()
-            || self.ended.lock(rt).reserve(room).is_err()
+            || self.ended.reserve(rt, room).is_err()
             || self.gathered.reserve(tallies).is_err()
         {
             return Err(tally);
@@ -231,11 +232,16 @@ impl<Y: Drop, V: Drop> Slots<Y, V> {
         ensures { self.new ≡ self.old }
     {
         for _ in 0..self.slots.len() {
-            let Some(end) = self.ended.lock(rt).pop() else {
+            let Some(end) = self.ended.pop(rt) else {
                 return;
             };
             self.see_out(end);
         }
+    }
+
+    /// Waits until a connection has ended that is to be removed, for up to this time.
+    pub fn await_end<R: Wait + Clock>(&self, rt: &R, time: Duration) {
+        self.ended.wait(rt, time);
     }
 
     /// Joins the threads that have ended because no connection came.
@@ -294,6 +300,18 @@ impl<Y: Drop, V: Drop> Slots<Y, V> {
         }
     }
 
+    /// Looks at each connection, and ends at once those that do not linger, or have got nothing since the
+    /// last look.
+    pub fn end_the_still(&mut self)
+        ensures { self.new ≡ self.old }
+    {
+        for slot in self.slots.iter_mut() {
+            if let Some(running) = &mut slot.running {
+                running.end_if_still();
+            }
+        }
+    }
+
     /// Looks at each connection, and ends at once those that have reached one of their limits, so
     /// that no peer keeps a place without asking for something. It is called once a second.
     pub fn end_the_idle(&mut self)
@@ -310,13 +328,13 @@ impl<Y: Drop, V: Drop> Slots<Y, V> {
     }
 
     /// Returns whether a newcomer at this port may have a place that no connection has:
-    /// one in sixteen, up to 64, are kept for the account's port.
+    /// one in sixteen, up to 64, and of 1,024 or more 64 further ones are kept for the account's port.
     pub fn admits(&self, port: Port) -> bool {
         admits(self.most, port, self.slots.as_slice())
     }
 
     /// Looks at each connection, without counting this as a look.
-    fn look_again(&mut self)
+    pub fn look_again(&mut self)
         ensures { self.new ≡ self.old }
     {
         for slot in self.slots.iter_mut() {

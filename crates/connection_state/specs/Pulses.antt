@@ -30,7 +30,7 @@ stage_of Answer = 2
 stage_of Taking = 3
 stage_of End = 4
 
--- Whether a connection waits for its peer to send a request or the rest of one.
+-- Whether a connection waits for its peer to send a request or the rest of one, or to end.
 abbrev pub is_unserved : Awaited → Bool
 is_unserved Answer = false
 is_unserved First = true
@@ -38,9 +38,9 @@ is_unserved Head = true
 is_unserved Body = true
 is_unserved Taking = false
 is_unserved Next = true
-is_unserved End = false
+is_unserved End = true
 
--- Whether a connection is between two requests.
+-- Whether a connection is between two requests, or after the last one.
 abbrev pub is_between : Awaited → Bool
 is_between Answer = false
 is_between First = false
@@ -48,7 +48,17 @@ is_between Head = false
 is_between Body = false
 is_between Taking = false
 is_between Next = true
-is_between End = false
+is_between End = true
+
+-- Whether a connection lingers: it waits for its peer's end.
+abbrev pub is_lingering : Awaited → Bool
+is_lingering Answer = false
+is_lingering First = false
+is_lingering Head = false
+is_lingering Body = false
+is_lingering Taking = false
+is_lingering Next = false
+is_lingering End = true
 
 -- Whether nothing happened between two published states.
 abbrev pub is_same : Told → Told → Bool

@@ -3,7 +3,7 @@
 
 ghost use Rattle.std.specs.Prelude.{◌≡◌, ◌<◌, ◌^◌};
 ghost use Rattle.connection_state.specs.Pulses.{number_of, told_of, stage_of, is_unserved, is_between};
-ghost use Rattle.connection_state.specs.Pulses.{is_same, is_in_stage_of};
+ghost use Rattle.connection_state.specs.Pulses.{is_lingering, is_same, is_in_stage_of};
 ghost use Rattle.connection_state.specs.declared.pulse.Told.{Told};
 
 use std::sync::atomic::AtomicU64;
@@ -103,21 +103,29 @@ impl Told {
         }
     }
 
-    /// Returns whether the connection waits for its peer to send a request, and so serves none.
+    /// Returns whether the connection waits for its peer to send a request or to end, and so serves
+    /// none.
     pub fn is_unserved(self) -> bool
         ensures { result ≡ is_unserved self.awaited }
     {
         matches!(
             self.awaited,
-            Awaited::First | Awaited::Head | Awaited::Body | Awaited::Next
+            Awaited::First | Awaited::Head | Awaited::Body | Awaited::Next | Awaited::End
         )
     }
 
-    /// Returns whether the connection is between two requests.
+    /// Returns whether the connection is between two requests, or after the last one.
     pub fn is_between(self) -> bool
         ensures { result ≡ is_between self.awaited }
     {
-        matches!(self.awaited, Awaited::Next)
+        matches!(self.awaited, Awaited::Next | Awaited::End)
+    }
+
+    /// Returns whether the connection lingers: it waits for its peer's end.
+    pub fn is_lingering(self) -> bool
+        ensures { result ≡ is_lingering self.awaited }
+    {
+        matches!(self.awaited, Awaited::End)
     }
 
     /// Returns whether nothing has happened since the other state was published.

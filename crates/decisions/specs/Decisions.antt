@@ -23,6 +23,8 @@ IsAllowed config (Submit call) = IsWithin config call
 IsAllowed config (Reply reply) = Unit {0}
 IsAllowed config (Show shown) = IsThere config shown
 
--- The decision is that on every body that is longer than a body may be.
-abbrev pub IsForTooLong : (List ℕ → Decision → Type 0) → Decision → Type 0
-IsForTooLong decides decision = (body : List ℕ) → longest_body < length body → decides body decision
+-- The decision is that on this body; if the body is too long, it is that on every body that is too long.
+abbrev pub IsOn : (List ℕ → Decision → Type 0) → List ℕ → Decision → Type 0
+IsOn decides body decision =
+    decides body decision
+    × (longest_body < length body → (other : List ℕ) → longest_body < length other → decides other decision)

@@ -4,10 +4,10 @@ ghost use Rattle.std.specs.Prelude.{ℕ, List, IfOk};
 ghost use Rattle.http.specs.declared.request.Parts.{Parts as Head};
 ghost use Rattle.arn_ids.specs.declared.config.Config.{Config};
 ghost use Rattle.decisions.specs.declared.decide.Decision.{Decision as Decided};
-ghost use Rattle.decisions.specs.Decisions.{IsAllowed, IsForTooLong};
+ghost use Rattle.decisions.specs.Decisions.{IsAllowed, IsOn};
 
+use crate::Received;
 use arn_ids::FnNo;
-use bytes::Bytes;
 use call_types::{Call, Ticket};
 use http::request::Parts;
 use lambda_wire::{PayloadScratch, Reply};
@@ -61,21 +61,16 @@ pub trait Decide {
     ghost decides_for: { Self → Config };
 
     /// Returns what is done with a request with this head and body. A call shares the bytes of the body.
-    /// A payload is read in the scratch space. The only error is lack of memory.
+    /// All bodies that are too long are decided alike, so such a body need not be kept. A payload is read in
+    /// the scratch space. The only error is lack of memory.
     fn decide(
         &self,
         alloc: Global,
         scratch: &mut PayloadScratch,
         parts: &Parts,
-        body: &Bytes,
+        body: &Received,
     ) -> Result<Decision, AllocError>
-        ensures decision { IfOk result (λ decision. decides self.now parts.now body.now decision) }
+        ensures decision { IfOk result (IsOn (decides self.now parts.now) body.now) }
         // A call is within the limits of the configuration, and a function that is shown exists.
         ensures allowed { IfOk result (IsAllowed (decides_for self.now)) };
-
-    /// Returns what is done with a request with this head, whose body is longer than 6,291,456 bytes,
-    /// whatever these are. The only error is lack of memory.
-    fn decide_too_long(&self, alloc: Global, parts: &Parts) -> Result<Decision, AllocError>
-        ensures decision_too_long { IfOk result (IsForTooLong (decides self.now parts.now)) }
-        ensures allowed_too_long { IfOk result (IsAllowed (decides_for self.now)) };
 }

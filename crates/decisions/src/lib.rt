@@ -2,5 +2,7 @@
 #![tactic(auto)]
 
 mod decide;
+mod received;
 
 pub use decide::{Decide, Decision, Shown};
+pub use received::Received;

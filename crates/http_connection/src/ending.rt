@@ -47,17 +47,20 @@ impl<C: Drop> Ending<C> {
 }
 
 impl<C> Ending<C> {
-    /// Returns whether the soft signal has come, or its sender was dropped, once the connection has
-    /// ended by itself.
-    fn is_told(&mut self, cx: &mut Context<'_>) -> bool
+    /// Returns whether a signal ends the connection at once that has ended by itself, and only lingers:
+    /// its place is needed, or the sender was dropped. Notes whether the soft signal has come.
+    fn is_sent_away(&mut self, cx: &mut Context<'_>) -> bool
         ensures same { self.new.conn ≡ self.old.conn }
         ensures kept { Keeps cx.old cx.new }
     {
-        self.is_soft
-            || matches!(
-                self.signals.poll_next(cx),
-                Poll::Ready(None | Some(Signal::Soft))
-            )
+        match self.signals.poll_next(cx) {
+            Poll::Pending => false,
+            Poll::Ready(None | Some(Signal::Room)) => true,
+            Poll::Ready(Some(Signal::Soft)) => {
+                self.is_soft = true;
+                false
+            }
+        }
     }
 }
 
@@ -100,8 +103,9 @@ impl<C: Turns> Ending<C> {
 
 /// A connection that also ends if its peer does while a request is parked, even with unread bytes
 /// after that request, or if its place is needed while it serves no request. Once it has ended by
-/// itself, it lets its peer read the answer before the socket is closed. It publishes its state,
-/// and gives its IO, and its outcome if it ended by itself.
+/// itself, it lingers: it lets its peer read the answer, and throws away what the peer still sends,
+/// before the socket is closed. It publishes its state, and gives its IO, and its outcome if it ended
+/// by itself.
 #[derive(Drop)]
 pub(crate) struct Watched<C, O> {
     // `None` once it has given what it gives.
@@ -135,8 +139,8 @@ impl<C, O> Watched<C, O> {
     }
 
     /// Lets the peer of a connection that has ended by itself read its answer, and then gives the
-    /// outcome, or gives it at once if a signal has come. (Not inlined, so that no other turn of a
-    /// connection takes steps for it.)
+    /// outcome. It gives it at once if its place is needed, and after the soft signal if the peer is not
+    /// sending. (Not inlined, so that no other turn of a connection takes steps for it.)
     #[inline(never)]
     fn poll_end(
         &mut self,
@@ -149,14 +153,14 @@ impl<C, O> Watched<C, O> {
         ensures registered { OnPending result (IsArmed cx.new) }
         ensures kept { Keeps cx.old cx.new }
     {
-        if ending.is_told(cx) {
+        if ending.is_sent_away(cx) {
             return Poll::Ready(self.outcome.take());
         }
         let drained = self.peer.poll_drained(cx);
         self.peer.await_end(&self.pulse);
         match drained {
-            Poll::Ready(()) => Poll::Ready(self.outcome.take()),
-            Poll::Pending => Poll::Pending,
+            Poll::Pending if !ending.is_soft || self.peer.is_sending() => Poll::Pending,
+            _ => Poll::Ready(self.outcome.take()),
         }
     }
 }

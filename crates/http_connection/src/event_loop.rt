@@ -28,6 +28,9 @@ use std::random::RandomSource;
 use std::sync::{Arc, Wait};
 use std::time::Clock;
 
+/// How much of the output of a connection is kept before no more of a body is asked for: as much as the longest head has.
+const KEPT: usize = 65_536;
+
 /// The event loop of a thread, and the settings of connections. A thread opens it once and serves
 /// all its connections with it, since opening it takes more system calls than a short connection.
 #[derive(Drop)]
@@ -65,6 +68,8 @@ impl EventLoop {
         http.half_close(true);
         // It has no clock, so it adds no `date`; otherwise it looks for one in each response.
         http.auto_date_header(false);
+        // Of a body that is streamed to a peer that does not read, less than this is kept, and the piece behind it.
+        http.max_buf_size(KEPT);
         Ok(EventLoop { socket_loop, http })
     }
 

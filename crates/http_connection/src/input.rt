@@ -283,6 +283,20 @@ impl Input {
         part
     }
 
+    /// Skips bytes that are thrown away: those of the present body, or of something that does not end.
+    pub(crate) fn skip(&mut self, count: u64) {
+        if self.rest < count {
+            self.line = Line::Other;
+        }
+        self.rest = self.rest.saturating_sub(count);
+    }
+
+    /// Returns whether the position is within a request: not at the beginning of a head. (That of a
+    /// chunked body, which is not recognized, counts as one.)
+    pub(crate) fn is_within_request(&self) -> bool {
+        self.rest > 0 || self.is_empty || !matches!(self.line, Line::Name(0))
+    }
+
     /// Returns how many of these bytes are handed on at once: those up to the end of a request, or
     /// all.
     pub(crate) fn take(&mut self, bytes: &[u8]) -> usize

@@ -65,6 +65,11 @@ impl<T: Drop> Socket<T> {
         count
     }
 
+    /// Returns whether the stream is at a place within a request.
+    pub(crate) fn is_within_request(&self) -> bool {
+        self.input.is_within_request()
+    }
+
     /// Keeps the bytes that were read past the end of a request. Returns how many bytes are left to
     /// hand on: all of them if an allocation fails, since a stream gives them only once.
     fn keep_behind(&mut self, bytes: &[u8]) -> usize
@@ -116,6 +121,7 @@ impl<T: AsyncRead> Socket<T> {
         match self.stream.poll_read(cx, &mut thrown_away) {
             Poll::Ready(Ok(count)) if count > 0 => {
                 self.stand.note_read(small(count));
+                self.input.skip(count as u64);
                 self.drained = self.drained.saturating_add(count as u64);
                 cx.yield_now()
             }

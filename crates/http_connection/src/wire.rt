@@ -135,8 +135,9 @@ impl Holder {
     }
 
     /// Is ready once the peer has ended its side, the socket failed, or 64 MiB have come. What
-    /// comes is discarded. A socket that is closed with unread bytes resets the connection, and the
-    /// peer may then lose an answer that it has not read yet (RFC 9112, section 9.6).
+    /// comes is discarded. A socket that is closed with unread bytes, or to which more is sent,
+    /// resets the connection, and the peer may then lose an answer that it has not read yet (RFC
+    /// 9112, section 9.6).
     pub(crate) fn poll_drained(&self, cx: &mut Context<'_>) -> Poll<()>
         ensures registered { OnPending result (IsArmed cx.new) }
         ensures kept { Keeps cx.old cx.new }
@@ -144,6 +145,14 @@ impl Holder {
         match self.socket.try_borrow_mut() {
             Ok(mut socket) => socket.poll_drained(cx),
             Err(_) => Poll::Ready(()),
+        }
+    }
+
+    /// Returns whether the peer may still be sending: it is within a request.
+    pub(crate) fn is_sending(&self) -> bool {
+        match self.socket.try_borrow_mut() {
+            Ok(socket) => socket.is_within_request(),
+            Err(_) => false,
         }
     }
 

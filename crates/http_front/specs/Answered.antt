@@ -1,6 +1,6 @@
 -- The answer to a request at a port of the service: at a port, in a configuration, with the salt of its identifiers.
 -- `most` is the limit of the account, the greatest number of entries of its history.
-use Rattle.std.specs.Prelude.{◌≡◌, ◌⊎◌, ℕ, Bool, List, [], Option, Result, MatchOption}
+use Rattle.std.specs.Prelude.{◌≡◌, ◌⊎◌, ℕ, Bool, true, List, [], Option, Result, MatchOption}
 use Rattle.account_book.specs.Reached.{IsReached}
 use Rattle.arn_ids.specs.declared.config.Config.{Config}
 use Rattle.call_model.specs.Counts.{stats}
@@ -22,7 +22,7 @@ use Rattle.lambda_wire.specs.declared.reply.Reply.{Reply}
 use Rattle.long_poll.specs.Exchanges.{IsOfBody}
 use Rattle.long_poll.specs.Lengths.{declares_too_long}
 use Rattle.long_poll.specs.Replies.{IsReplyAt}
-use Rattle.long_poll.specs.Views.{stats_reply, environments_reply, reservation_reply}
+use Rattle.long_poll.specs.Views.{stats_reply, environments_reply, followers_reply, reservation_reply}
 use Rattle.long_poll.specs.declared.outcome.Outcome.{Outcome}
 use Rattle.long_poll.specs.declared.outcome.Outcome.TheVariants as outcome
 use Rattle.request_guard.specs.Guarding.{refusal_of}
@@ -31,13 +31,14 @@ use Rattle.trace.specs.EnvironmentObject.{environments_text}
 
 module _ (config : Config) (most salt : ℕ) where
   -- The reply to a decision: that of the call, or of why the call was not taken; the reply that was decided; or what is
-  -- to be shown. The history is the one that it is of, if it is of one.
+  -- to be shown. If a trace is to be followed, it may say that as many connections follow it as may. The history is the
+  -- one that it is of, if it is of one.
   abbrev pub IsReplyTo : Decision → Reply → List Entry → Type 0
   IsReplyTo (decided.Submit call) reply h = IsReplyAt config most salt call reply h
   IsReplyTo (decided.Reply own) reply h = reply ≡ own
   IsReplyTo (decided.Show shown.Stats) reply h = IsReached config most h × (reply ≡ stats_reply (stats config h))
   IsReplyTo (decided.Show (shown.History from)) reply h = ⊥
-  IsReplyTo (decided.Show (shown.Trace from follow bodies)) reply h = ⊥
+  IsReplyTo (decided.Show (shown.Trace from follow bodies)) reply h = (follow ≡ true) × (reply ≡ followers_reply)
   IsReplyTo (decided.Show shown.Environments) reply h =
       IsReached config most h × (reply ≡ environments_reply (environments_text config salt h))
   IsReplyTo (decided.Show (shown.Reservation f)) reply h =

@@ -1,11 +1,12 @@
 -- What the ticker does at a beat.
-use Rattle.std.specs.Prelude.{◌≡◌, ◌⊎◌, ◌+◌, ℕ, Bool, true, false, not, nat_lt, min, List, Option, Some, None}
+use Rattle.std.specs.Prelude.{◌≡◌, ◌⊎◌, ◌+◌, ℕ, Bool, true, false, not, nat_lt, min, List, Option, Some, None, is_some}
 use Rattle.account_book.specs.declared.book.Life.{Life}
 use Rattle.account_book.specs.declared.book.Life.TheVariants.{Open, Stopping, Off}
 use Rattle.account_book.specs.declared.book.Refusal.{Refusal}
 use Rattle.account_book.specs.declared.book.Refusal.TheVariants.{OutOfMemory, JournalFull}
-use Rattle.account_lock.specs.Submits.{Took}
+use Rattle.account_lock.specs.Submits.{Took, IsTurnedAway}
 use Rattle.arn_ids.specs.declared.config.Config.{Config}
+use Rattle.call_model.specs.Next.{due, first}
 use Rattle.call_types.specs.declared.answer.Answer.{Answer}
 use Rattle.call_types.specs.declared.call.Call.TheVariants.{Tick}
 use Rattle.call_types.specs.declared.call.Entry.{Entry}
@@ -13,13 +14,32 @@ use Rattle.call_types.specs.declared.head.Head.{Head}
 use Rattle.usage_ledger.specs.Keeping.{Kept}
 use Rattle.usage_ledger.specs.Tallies.{Held}
 
--- The ticker's tally has counted nothing; or it has counted one call, a Tick, which the history that its token has then
--- seen took last.
-abbrev pub HasTickedAtMostOnce : Config → ℕ → (Kept → ℕ → Answer → Kept → Type 0) → (Kept → ℕ → Head → Kept → Type 0)
-    → Held → List Entry → Held → Type 0
-HasTickedAtMostOnce config most notes makes before seen after =
-    (after ≡ before)
-    ⊎ ((had : List Entry) × (now : ℕ) × (ticket : ℕ) × Took config most notes makes had before now Tick ticket seen after)
+-- What the ticker does in an account, at a moment of which `at_moment` holds, with a tally that held `before` and then
+-- holds `after`, and a token that has then seen `seen`.
+module _ (config : Config) (most : ℕ) (notes : Kept → ℕ → Answer → Kept → Type 0)
+    (makes : Kept → ℕ → Head → Kept → Type 0) (at_moment : ℕ → Type 0) (before : Held) (seen : List Entry)
+    (after : Held) where
+  -- The tally has counted one call, a Tick at such a moment, which the history that the token has then seen took last.
+  abbrev pub HasTicked : Type 0
+  HasTicked =
+      (had : List Entry) × (now : ℕ) × (ticket : ℕ) × at_moment now
+      × Took config most notes makes had before now Tick ticket seen after
+
+  -- The tally has counted nothing, or one such Tick.
+  abbrev pub HasTickedAtMostOnce : Type 0
+  HasTickedAtMostOnce = (after ≡ before) ⊎ HasTicked
+
+  -- The tally has counted nothing, and nothing is due at such a moment.
+  abbrev pub HasNothingToDo : Type 0
+  HasNothingToDo = (after ≡ before) × ((now : ℕ) × at_moment now × (is_some (first (due config seen now)) ≡ false))
+
+  -- A tick was not refused: it was taken, or nothing was due.
+  abbrev pub HasDone : Type 0
+  HasDone = HasTicked ⊎ HasNothingToDo
+
+  -- A tick was refused, and this is why: the tally has counted nothing.
+  abbrev pub HasBeenRefused : Refusal → Type 0
+  HasBeenRefused refusal = (after ≡ before) × ((had : List Entry) × IsTurnedAway config most had Tick refusal seen)
 
 -- For how many beats in a row ticks were refused, after one more tick with this result. A full journal stays full, so
 -- that counts as the most, ten seconds of beats.

@@ -7,5 +7,6 @@ pub mod Notices
 pub mod Exchanged
 pub mod Answered
 pub mod Connections
+pub mod Readings
 pub mod Withdrawn
 pub mod Beats

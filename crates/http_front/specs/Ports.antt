@@ -8,9 +8,9 @@ use Rattle.service_port.specs.declared.port.Port.TheVariants.{Account, Environme
 use Rattle.service_port.specs.declared.port.Port.{Port}
 
 -- The greatest number of connections at once: one for each poll of all environments, each with its runtime and the
--- most extensions, and 64 for callers; at least 1,024. (A configuration has up to 256 environments.)
+-- most extensions, and 128 for callers; at least 1,024. (A configuration has up to 256 environments.)
 abbrev pub places_for : Config → ℕ
-places_for config = max 1024 (min ((most_extensions + 1) * length (owners config) + 64) (2 ^ 32 - 1))
+places_for config = max 1024 (min ((most_extensions + 1) * length (owners config) + 128) (2 ^ 32 - 1))
 
 -- The ports of environments.
 abbrev pub ports_of : List Slot → List ℕ

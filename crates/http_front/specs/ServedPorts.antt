@@ -1,6 +1,6 @@
 -- The ports of a host, and the decider at each.
-use Rattle.std.specs.Prelude.{ℕ, zero, suc, List, [], ◌∷◌, ◌++◌, length, map}
-use Rattle.arn_ids.specs.Environments.{owners}
+use Rattle.std.specs.Prelude.{ℕ, zero, suc, List, [], ◌∷◌, ◌++◌, length, map, Option, Some, None}
+use Rattle.arn_ids.specs.Environments.{owners, function_of}
 use Rattle.arn_ids.specs.declared.config.Config.{Config}
 use Rattle.http_routes.specs.Decisions.{Served}
 use Rattle.service_port.specs.declared.port.Port.{Port}
@@ -10,6 +10,11 @@ use Rattle.http_front.specs.declared.listener.Listener.{Listener}
 -- The decider at the port of a port.
 abbrev pub served : Config → ℕ → Port → Served
 served config salt port = record { config = config; salt = salt; port = port }
+
+-- The function of the environment whose port a port is, `None` at the account's.
+abbrev pub function_at : Config → Port → Option ℕ
+function_at config Account = None
+function_at config (Environment e) = Some (function_of config e)
 
 -- The deciders at the ports of these listeners, in their order.
 abbrev pub all_served : {S : Type 0} → List (Listener S) → List Served

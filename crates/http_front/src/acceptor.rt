@@ -20,25 +20,27 @@ use std::alloc::AllocError;
 use std::sync::{Arc, Wait};
 use std::thread::Threads;
 use std::time::Duration;
-use std::{io, thread, time};
+use std::{io, time};
 use usage_ledger::{Keep, Tally};
 
-/// How many milliseconds pass between two attempts.
+/// For how many milliseconds a listener waits for a descriptor before it tries again.
 const PAUSE: u64 = 1;
 
 /// The most connections that a listener accepts before it is another port's turn.
 const MOST_IN_A_TURN: u32 = 8;
 
-/// How many times, a pause apart, it is checked whether a connection has made room. (Its thread may
-/// have to wait for a processor.)
-const LOOKS_FOR_ROOM: u32 = 250;
+/// For how many milliseconds a newcomer waits for a connection that makes room. (Its thread may have to
+/// wait for a processor.)
+const FOR_ROOM: u64 = 250;
 
 /// How many seconds pass between two checks of the connections' time limits.
 const BETWEEN_ROUNDS: u64 = 1;
 
-/// How many times, a pause apart, it is checked whether all connections have ended softly: that takes
-/// half a second.
-const LOOKS: u32 = 500;
+/// How many milliseconds pass between two looks at the connections that end with the service.
+const BETWEEN_LOOKS: u64 = 250;
+
+/// How many looks are taken at them: after two seconds all are ended at once.
+const LOOKS: u32 = 8;
 
 /// Returns whether accepting failed because of the connection itself, which has left again or was
 /// closed for want of memory, or because the call was interrupted: others may still wait.
@@ -118,7 +120,7 @@ impl<R: Machine, S: Identity + Drop, N: Drop, K: Keep> Acceptor<R, S, N, K> {
         self.spare = None;
         listener.turn_away();
         self.spare = Poll::new(&self.rt).ok();
-        thread::sleep(&self.rt, Duration::from_millis(PAUSE));
+        self.slots.await_end(&self.rt, Duration::from_millis(PAUSE));
         self.slots.reap(&self.rt);
     }
 }
@@ -177,20 +179,37 @@ impl<R: Wait + Threads + time::Clock + Copy + Drop, S: Identity + Drop, N: Drop,
         }
     }
 
+    /// Returns how much is left of this many milliseconds since a moment of the monotonic clock; nothing
+    /// if the clock fails.
+    fn left_of(&self, milliseconds: u64, since: Duration) -> Duration {
+        match self.rt.monotonic() {
+            Ok(now) => Duration::from_millis(milliseconds).saturating_sub(now.saturating_sub(
+                since,
+            )),
+            Err(_fault) => Duration::ZERO,
+        }
+    }
+
     /// Takes a place for a new connection at this port, once a connection that makes room for
     /// it has ended.
     fn cleared_place(&mut self, port: Port) -> Option<usize> {
         if !self.slots.ask_for_room(port) {
             return None;
         }
-        for _ in 0..LOOKS_FOR_ROOM {
-            self.slots.reap(&self.rt);
+        let rt = self.rt;
+        let asked = rt.monotonic().unwrap_or(Duration::ZERO);
+        for _ in rt.forever() {
+            self.slots.reap(&rt);
             if let Some(at) = self.open_place(port) {
                 return Some(at);
             }
-            thread::sleep(&self.rt, Duration::from_millis(PAUSE));
+            let left = self.left_of(FOR_ROOM, asked);
+            if left.is_zero() {
+                return None;
+            }
+            self.slots.await_end(&rt, left);
         }
-        None
+        unreachable!()
     }
 
     /// Takes a place for a new connection at this port.
@@ -239,25 +258,56 @@ impl<R: Wait + Threads + time::Clock + Copy + Drop, S: Identity + Drop, N: Drop,
         }
     }
 
-    /// Ends every connection: softly those that are idle or have been answered, and half a second
-    /// later the others at once.
-    fn end_connections(&mut self) {
-        self.slots.tell(false);
-        for _ in 0..LOOKS {
-            self.slots.reap(&self.rt);
+    /// Waits until every connection has ended, until the next look at most. Returns whether they have.
+    fn have_ended(&mut self) -> bool {
+        let rt = self.rt;
+        let looked = rt.monotonic().unwrap_or(Duration::ZERO);
+        for _ in rt.forever() {
+            self.slots.reap(&rt);
             if self.slots.is_idle() {
-                return;
+                return true;
             }
-            thread::sleep(&self.rt, Duration::from_millis(PAUSE));
+            let left = self.left_of(BETWEEN_LOOKS, looked);
+            if left.is_zero() {
+                return false;
+            }
+            self.slots.await_end(&rt, left);
+        }
+        unreachable!()
+    }
+
+    /// Ends every connection softly: those that are idle or have been answered. Half a second later it
+    /// ends at once those that do not linger, and at each look those whose peer sends no more, and after
+    /// two seconds all. Returns whether they have ended before that.
+    fn end_softly(&mut self) -> bool {
+        self.slots.tell(false);
+        for look in 0..LOOKS {
+            if self.have_ended() {
+                return true;
+            }
+            if look == 0 {
+                self.slots.look_again();
+            } else {
+                self.slots.end_the_still();
+            }
+        }
+        false
+    }
+
+    /// Ends every connection, in the end at once.
+    fn end_connections(&mut self) {
+        if self.end_softly() {
+            return;
         }
         self.slots.tell(true);
         let rt = self.rt;
         for _ in rt.forever() {
-            self.slots.reap(&self.rt);
+            self.slots.reap(&rt);
             if self.slots.is_idle() {
                 return;
             }
-            thread::sleep(&self.rt, Duration::from_millis(PAUSE));
+            self.slots
+                .await_end(&rt, Duration::from_millis(BETWEEN_LOOKS));
         }
     }
 

@@ -14,7 +14,7 @@ use http_body::Body;
 use http_body_util::{Either, Full};
 use hyper::body::Incoming;
 use hyper::service;
-use long_poll::{Clock, Connection, Exchange, Service, StreamedBody, declares_too_long};
+use long_poll::{BodyFault, Clock, Connection, Exchange, Service, StreamedBody, declares_too_long};
 use request_guard::{KnownHosts, Refusal};
 use std::alloc::Global;
 use std::sync::{Arc, Wait};
@@ -74,6 +74,7 @@ impl<
     ) -> Option<Box<Exchange<R, A, D, N, B, K, L>>>
     where
         B::Data: Into<Bytes>,
+        B::Error: BodyFault,
         requires { is_too_long ≡ lengths.declares_too_long parts }
         ensures { IfSome result (λ exchange. IsExchangeOf self.now parts body exchange.value) }
     {
@@ -93,14 +94,15 @@ impl<
     fn respond<B: Body>(&self, parts: Parts, body: B) -> Responding<R, A, D, N, B, K, L>
     where
         B::Data: Into<Bytes>,
+        B::Error: BodyFault,
         ensures takes { Takes self.now parts body result }
         ensures begins { IfSome result.exchange (λ exchange. IsExchangeOf self.now parts body exchange.value) }
     {
-        self.rousing.prepare(parts.uri.path());
         let is_unread = declares_too_long(&parts);
         if let Some(refusal) = self.hosts.refusal(&parts) {
             return Responding::refused(self.alloc, self.port, is_unread, refusal);
         }
+        self.rousing.prepare();
         match self.exchange(parts, body, is_unread) {
             Some(exchange) => Responding::exchanging(self.alloc, self.port, is_unread, exchange),
             None => Responding::refused(self.alloc, self.port, is_unread, Refusal::OutOfMemory),

@@ -11,6 +11,7 @@ ghost use Rattle.http_front.specs.declared.host_fault.HostFault.TheVariants.{Con
 use crate::acceptor::Acceptor;
 use crate::ports::Ports;
 use crate::ticker::Ticker;
+use crate::worker::STACK;
 use crate::{Alarm, HostFault, Notices, Plan};
 use account_lock::{Account, Identity};
 use arn_ids::Checked;
@@ -20,14 +21,61 @@ use mio::Poll;
 use request_guard::KnownHosts;
 use std::alloc::AllocError;
 use std::sync::Arc;
+use std::thread::{self, JoinHandle};
+use std::time::Duration;
 use usage_ledger::{Blanks, Keep, Tally};
+
+/// How many threads a service with one connection starts: that of its log, the ticker, and that of the
+/// connection.
+const LEAST_THREADS: usize = 3;
+
+/// For how many seconds a thread at most waits for the others that are tried with it.
+const FOR_OTHERS: u64 = 10;
 
 /// Returns whether enough descriptors are left for one connection: a socket, and the event loop of
 /// its thread.
-fn has_room_for_one<R: Machine>(rt: &R) -> bool {
+fn has_descriptors_for_one<R: Machine>(rt: &R) -> bool {
     let one = EventLoop::open(rt);
     let socket = Poll::new(rt);
     one.is_ok() && socket.is_ok()
+}
+
+/// Starts threads that wait for this gate, as many as a service with one connection has, or fewer if one
+/// is refused. (There is room for all of them.)
+fn start_at<R: Machine>(rt: R, gate: &Arc<Alarm>, started: &mut Vec<JoinHandle<()>>) {
+    for _ in 0..LEAST_THREADS {
+        let Ok(gate) = Arc::try_clone(gate) else {
+            return;
+        };
+        let builder = thread::Builder::new().stack_size(STACK);
+        let wait = move || gate.sleep(&rt, 0, Duration::from_secs(FOR_OTHERS));
+        let Ok(thread) = builder.spawn(&rt, wait) else {
+            return;
+        };
+        let _ = started.push(thread);
+    }
+}
+
+/// Tries whether the threads of a service with one connection can be started, all at once, and joins
+/// them.
+///
+/// # Errors
+/// `TooFewThreads` if not, otherwise `OutOfMemory`.
+fn try_threads<R: Machine>(rt: R) -> Result<(), HostFault>
+    ensures { IfErr result IsOfMachine }
+{
+    let gate = Arc::new(rt.alloc(), Alarm::new()).map_err(AllocError::from)?;
+    let mut started = Vec::with_capacity(rt.alloc(), LEAST_THREADS)?;
+    start_at(rt, &gate, &mut started);
+    gate.ring();
+    let count = started.len();
+    for thread in started {
+        thread.join(&rt);
+    }
+    if count < LEAST_THREADS {
+        return Err(HostFault::TooFewThreads);
+    }
+    Ok(())
 }
 
 /// An account that is served over HTTP/1.1 on 127.0.0.1: on the invoke port for callers, and on a
@@ -69,8 +117,8 @@ impl<
     ///
     /// # Errors
     /// `Config(EntriesOutOfRange)` exactly if not environments + 1 ≤ `max_entries` ≤ 2^32,
-    /// `TooFewDescriptors` if there are too few for the ports and one more connection, `Network` if
-    /// a port cannot be listened on, otherwise `OutOfMemory`. No port is then listened on.
+    /// `TooFewDescriptors` or `TooFewThreads` if there are too few for the ports and one connection,
+    /// `Network` if a port cannot be listened on, otherwise `OutOfMemory`. No port is then listened on.
     pub fn open(
         rt: R,
         plan: Plan,
@@ -151,8 +199,11 @@ impl<
         let Ok(ticker) = acceptor.ticker(Arc::try_clone(&notices)?, waker) else {
             return Err(HostFault::OutOfMemory);
         };
-        if !has_room_for_one(&rt) {
+        if !has_descriptors_for_one(&rt) {
             return Err(HostFault::TooFewDescriptors);
+        }
+        if let Err(fault) = try_threads(rt) {
+            return Err(fault);
         }
         Ok(Host {
             acceptor,
@@ -179,8 +230,8 @@ impl<
     /// are open are ended, and every thread is joined.
     ///
     /// # Errors
-    /// `Network` if the ports fail, `OutOfMemory` if an allocation fails before it begins, or
-    /// `StillShared`. The account and the tallies are then dropped.
+    /// `Network` if the ports fail, `TooFewThreads` if the ticker's is refused, or `StillShared`. The
+    /// account and the tallies are then dropped.
     pub fn run(self) -> Result<Hosted<S, K>, HostFault> {
         let Host {
             mut acceptor,
@@ -190,7 +241,7 @@ impl<
         } = self;
         let rt = ticker.rt;
         let Ok(ticker) = ticker.start() else {
-            return Err(HostFault::OutOfMemory);
+            return Err(HostFault::TooFewThreads);
         };
         let served = acceptor.serve(&mut ports);
         drop(ports);

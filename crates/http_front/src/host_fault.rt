@@ -21,10 +21,13 @@ pub enum HostFault {
     /// The process may not open enough descriptors for the ports and one connection (`ulimit -n`).
     #[error("too few descriptors")]
     TooFewDescriptors,
+    /// The process may not start the threads of a service with one connection (`ulimit -u`).
+    #[error("too few threads")]
+    TooFewThreads,
     /// The account or a tally was still shared when every thread had ended.
     #[error("still shared")]
     StillShared,
-    /// An allocation failed, or a thread was refused.
+    /// An allocation failed.
     #[error("out of memory")]
     OutOfMemory,
 }

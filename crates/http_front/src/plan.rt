@@ -15,8 +15,8 @@ use std::sync::Arc;
 /// The most polls that an environment has open at once: those of its runtime and of its extensions.
 const POLLS_OF_ONE: u32 = MOST_EXTENSIONS as u32 + 1;
 
-/// The number of places for callers, in addition to those for all polls.
-const FOR_CALLERS: u32 = 64;
+/// The number of places for callers, of which 64 may follow the trace, in addition to those for all polls.
+const FOR_CALLERS: u32 = 128;
 
 /// The least number of places.
 const LEAST_PLACES: u32 = 1_024;
@@ -64,7 +64,7 @@ impl Plan {
     }
 
     /// Returns the greatest number of connections at once: one for each poll of all environments,
-    /// each with its runtime and the most extensions, and 64 for callers; at least 1,024.
+    /// each with its runtime and the most extensions, and 128 for callers; at least 1,024.
     pub fn places(&self) -> u32
         ensures { result ≡ places_for (arc_value self.now.config) }
     {

@@ -13,7 +13,7 @@ use http::Response;
 use http_body::Body;
 use http_body_util::{Either, Full};
 use lambda_wire::HeaderMaps;
-use long_poll::{Clock, Exchange, ExchangeFault, Outcome, Service, StreamedBody};
+use long_poll::{BodyFault, Clock, Exchange, ExchangeFault, Outcome, Service, StreamedBody};
 use request_guard::{Refusal, refusal_reply};
 use std::alloc::Global;
 use std::sync::Wait;
@@ -85,6 +85,7 @@ impl<
 > Future for Responding<R, A, D, N, B, K, L>
 where
     B::Data: Into<Bytes>,
+    B::Error: BodyFault,
 {
     ghost use Rattle.std.specs.Prelude.{IfOk, IfSome, IsSomeAnd, MatchOption};
     ghost use Rattle.http_front.specs.Responses.{IsAnswerTo, IsRefusal};

@@ -6,11 +6,8 @@ use std::sync::{Arc, Wait};
 /// The greatest lag behind the time of day, in milliseconds, at which the clock is not set forward.
 pub(crate) const MOST_LAG: u64 = 1_000;
 
-/// The path of the request that stops the service.
-const STOP: &str = "/_local/stop";
-
-/// What the front of a connection does before each request: it sees to it that the clock is not
-/// behind the time of day, and that a stop is noticed at once.
+/// What the front of a connection does before each exchange: it sees to it that the clock is not
+/// behind the time of day.
 #[derive(Drop)]
 pub struct Rousing<R, N> {
     rt: R,
@@ -24,14 +21,11 @@ impl<R: Wait, N: Clock> Rousing<R, N> {
         Rousing { rt, clock, beat }
     }
 
-    /// Prepares for a request with this path. If the ticker rests, and the clock is behind, as after
-    /// the machine has slept, the ticker first gets the time to set it forward.
-    pub(crate) fn prepare(&self, path: &str) {
+    /// Prepares for an exchange. If the ticker rests, and the clock is behind, as after the machine has
+    /// slept, the ticker first gets the time to set it forward.
+    pub(crate) fn prepare(&self) {
         if self.beat.rests() && self.clock.lag() > MOST_LAG {
             self.beat.await_look(&self.rt);
-        }
-        if path == STOP {
-            self.beat.note_stop();
         }
     }
 }

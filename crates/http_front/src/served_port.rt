@@ -2,6 +2,7 @@
 
 ghost use Rattle.std.specs.Prelude.{◌≡◌, IfOk, IsTrue};
 ghost use Rattle.std.specs.Arc.{arc_value};
+ghost use Rattle.http_front.specs.ServedPorts.{function_at};
 ghost use Rattle.http_routes.specs.Decisions.{IsPortOf};
 
 use crate::{Port, Side};
@@ -58,7 +59,9 @@ impl<S: Identity> ServedPort<S> {
     }
 
     /// Returns the function of the environment whose port this is, `None` at the account's.
-    pub(crate) fn function(&self) -> Option<FnNo> {
+    pub(crate) fn function(&self) -> Option<FnNo>
+        ensures { result ≡ function_at self.now.config self.now.port }
+    {
         match self.port {
             Port::Account => None,
             Port::Environment(environment) => Some(self.config.function_of(environment)),

@@ -1,7 +1,8 @@
 //! The thread that lets time pass in the account.
 
-ghost use Rattle.std.specs.Prelude.{◌≡◌};
-ghost use Rattle.http_front.specs.Beats.{has_ended, refused_after, HasTickedAtMostOnce};
+ghost use Rattle.std.specs.Prelude.{◌≡◌, IfNone, IfSome};
+ghost use Rattle.http_front.specs.Beats.{has_ended, refused_after, HasBeenRefused, HasDone, HasTickedAtMostOnce};
+ghost use Rattle.http_front.specs.Readings.{IsRead, IsReadAhead};
 
 use crate::common::Common;
 use crate::rousing::MOST_LAG;
@@ -43,7 +44,8 @@ fn catch_up<S: Identity, N: Clock, K: Keep>(
     tally: &mut Tally<K, S>,
     token: &mut Token<S>,
 )
-    ensures { HasTickedAtMostOnce S.config S.most K.notes K.makes tally.old.held token.new tally.new.held }
+    ensures { HasTickedAtMostOnce S.config S.most K.notes K.makes (IsReadAhead N.Clock clock.now)
+        tally.old.held token.new tally.new.held }
 {
     let lag = clock.lag();
     if lag <= MOST_LAG {
@@ -63,16 +65,19 @@ fn tick<S: Identity, N: Clock, K: Keep>(
     tally: &mut Tally<K, S>,
     token: &mut Token<S>,
 ) -> Option<Refusal>
-    ensures { HasTickedAtMostOnce S.config S.most K.notes K.makes tally.old.held token.new tally.new.held }
+    ensures done { IfNone result (HasDone S.config S.most K.notes K.makes (IsRead N.Clock clock.now)
+        tally.old.held token.new tally.new.held) }
+    ensures refused { IfSome result (HasBeenRefused S.config S.most K.notes K.makes (IsRead N.Clock clock.now)
+        tally.old.held token.new tally.new.held) }
 {
     let now = moment(clock);
     if !account.due(rt, token, now) {
         return None;
     }
-    match account.submit(rt, tally, token, now, Call::Tick, None) {
-        Ok(_) => None,
-        Err(refused) => Some(refused.refusal),
-    }
+    let Err(refused) = account.submit(rt, tally, token, now, Call::Tick, None) else {
+        return None;
+    };
+    Some(refused.refusal)
 }
 
 /// Returns for how many beats in a row ticks were refused, after one more tick with this result. A

@@ -8,6 +8,7 @@ ghost use Rattle.http_connection.specs.Wires.{IsFresh, name_of};
 ghost use Rattle.http_connection.specs.Written.{Written, outcome_of};
 ghost use Rattle.http_front.specs.Connections.{IsServed};
 ghost use Rattle.http_front.specs.Exchanged.{IsAnswer};
+ghost use Rattle.http_front.specs.Readings.{IsRead};
 ghost use Rattle.http_front.specs.Withdrawn.{IsWithdrawn};
 ghost use Rattle.socket_loop.specs.Halves.{name_of_accepted, name_of_unused};
 
@@ -36,7 +37,7 @@ use std::{io, thread, time};
 use usage_ledger::{Keep, Ledgers, Tally, Token};
 
 /// The stack of a thread, in bytes. The deepest chain of calls takes some 80 KB.
-const STACK: usize = 512 * 1024;
+pub(crate) const STACK: usize = 512 * 1024;
 
 /// The note of a connection's open Next, or that the trace that it sends waits for an entry, by which its
 /// socket's end is watched.
@@ -370,7 +371,8 @@ impl<
     /// # Errors
     /// If that is refused. The Next then stays pending.
     fn withdraw(&self, token: &mut Token<S>, ticket: Ticket) -> Result<(), Refusal>
-        ensures taken { OnOk result (IsWithdrawn S.config S.most token.old ticket token.new) }
+        ensures taken { OnOk result (IsWithdrawn S.config S.most
+            (IsRead N.Clock (arc_value self.now.common.clock)) token.old ticket token.new) }
         ensures refused { IfErr result (λ refusal.
             IsTurnedAway S.config S.most token.old (Withdraw ticket) refusal token.new) }
     {

@@ -9,7 +9,7 @@ use Rattle.arn_ids.specs.declared.config.Config.{Config}
 use Rattle.call_types.specs.declared.call.Call.{Call}
 use Rattle.lambda_wire.specs.Requests.{read_payload, read_count, read_events}
 use Rattle.lambda_wire.specs.declared.fault.WireFault.TheVariants.{TooLong}
-use Rattle.decisions.specs.Decisions.{IsForTooLong}
+use Rattle.decisions.specs.Decisions.{IsOn}
 use Rattle.decisions.specs.declared.decide.Decision.{Decision}
 use Rattle.http_routes.specs.Routes.{environment_rows, account_rows, route_in, is_put}
 use Rattle.http_routes.specs.Refusals.{refused}
@@ -33,17 +33,20 @@ use Rattle.service_port.specs.declared.port.Port.TheVariants as port
 long : (body : List ℕ) → longest_body < length body → nat_lt longest_body (length body) ≡ true
 long body h = grind (arith, nat_tests)
 
-payload_long : (body : List ℕ) → longest_body < length body → read_payload body ≡ Err TooLong
+pub payload_long : (body : List ℕ) → longest_body < length body → read_payload body ≡ Err TooLong
 unfolding read_payload
 payload_long body h = rw (long body h) refl
 
-count_long : (body : List ℕ) → longest_body < length body → read_count body ≡ Err TooLong
+pub count_long : (body : List ℕ) → longest_body < length body → read_count body ≡ Err TooLong
 unfolding read_count
 count_long body h = rw (long body h) refl
 
-events_long : (body : List ℕ) → longest_body < length body → read_events body ≡ Err TooLong
+pub events_too_long : (body : List ℕ) → nat_lt longest_body (length body) ≡ true → read_events body ≡ Err TooLong
 unfolding read_events
-events_long body h = rw (long body h) refl
+events_too_long body h = rw h refl
+
+events_long : (body : List ℕ) → longest_body < length body → read_events body ≡ Err TooLong
+events_long body h = events_too_long body (long body h)
 
 submitted_long : (body : List ℕ) (made : Call) → longest_body < length body → submitted body made ≡ refused TooLarge
 submitted_long body made h = rw (long body h) refl
@@ -124,7 +127,16 @@ module _ (a b : List ℕ) (la : longest_body < length a) (lb : longest_body < le
   alike side p = on_alike side.config side.salt side.port p
 
 -- what is decided of one of them is what is decided of each
-pub as_alike : {E : Type 0} (result : Result Decision E) (side : Served) (p : Parts) (a : List ℕ) → longest_body < length a
-    → IfOk result (λ d. d ≡ decision side p a) → IfOk result (IsForTooLong (λ body d. d ≡ decision side p body))
-as_alike (Ok d) side p a la h = λ body lb. h ∙ alike a body la lb side p
-as_alike (Err e) side p a la h = tt
+pub as_alike : {E : Type 0} (result : Result Decision E) (side : Served) (p : Parts) (a : List ℕ)
+    → IfOk result (λ d. d ≡ decision side p a)
+    → IfOk result (λ d. longest_body < length a → (other : List ℕ) → longest_body < length other → d ≡ decision side p other)
+as_alike (Ok d) side p a h = λ la other lo. h ∙ alike a other la lo side p
+as_alike (Err e) side p a h = tt
+
+-- so what is decided of a body is what is decided on it
+pub as_on : {E : Type 0} (result : Result Decision E) (side : Served) (p : Parts) (a : List ℕ)
+    → IfOk result (λ d. d ≡ decision side p a)
+    → IfOk result (λ d. longest_body < length a → (other : List ℕ) → longest_body < length other → d ≡ decision side p other)
+    → IfOk result (IsOn (λ body d. d ≡ decision side p body) a)
+as_on (Ok d) side p a h g = (h, g)
+as_on (Err e) side p a h g = tt

@@ -13,20 +13,20 @@ use crate::path::{asked_of, from_of, path_part};
 use crate::refusals::{Cause, refused, wrong_method};
 use crate::routes::{AccountRoute, account_route};
 use arn_ids::{Checked, EnvNo, FnNo, read_environment, read_number};
-use bytes::Bytes;
 use call_types::Call;
-use decisions::{Decision, Shown};
+use decisions::{Decision, Received, Shown};
 use http::request::Parts;
 use lambda_wire::{PayloadScratch, WireFault, read_invoke_body, read_reservation};
 use matchit::Router;
 use std::alloc::{AllocError, Global};
 
 /// Decides an Invoke of a function, with the body as its payload.
+#[tactic(auto, using(crate::proofs::TooLong::payload_long))]
 fn invoke(
     alloc: Global,
     scratch: &mut PayloadScratch,
     parts: &Parts,
-    body: &Bytes,
+    body: &Received,
     function: FnNo,
     qualified: bool,
 ) -> Result<Decision, AllocError>
@@ -35,7 +35,10 @@ fn invoke(
     if !is_synchronous(parts) {
         return refused(alloc, Cause::WrongInvocationType);
     }
-    match read_invoke_body(alloc, scratch, body) {
+    let Some(bytes) = body.bytes() else {
+        return refused(alloc, Cause::PayloadTooLarge);
+    };
+    match read_invoke_body(alloc, scratch, bytes) {
         Ok(body) => Ok(Decision::Submit(Call::Invoke {
             function,
             qualified,
@@ -51,10 +54,14 @@ fn invoke(
 }
 
 /// Decides a PutFunctionConcurrency, given the count that its body asks for.
-fn reserve(alloc: Global, body: &Bytes, function: FnNo) -> Result<Decision, AllocError>
+#[tactic(auto, using(crate::proofs::TooLong::count_long))]
+fn reserve(alloc: Global, body: &Received, function: FnNo) -> Result<Decision, AllocError>
     ensures { IfOk result (λ d. d ≡ spec.reserve function (read_count body.now)) }
 {
-    match read_reservation(alloc, body.as_slice()) {
+    let Some(bytes) = body.bytes() else {
+        return refused(alloc, Cause::PayloadTooLarge);
+    };
+    match read_reservation(alloc, bytes.as_slice()) {
         Ok(count) => Ok(Decision::Submit(Call::Reserve {
             function,
             count: Some(count),
@@ -73,7 +80,7 @@ fn on_invoke(
     scratch: &mut PayloadScratch,
     config: &Checked,
     parts: &Parts,
-    body: &Bytes,
+    body: &Received,
 ) -> Result<Decision, AllocError>
     ensures { IfOk result (λ d. d
         ≡ spec.about (names.invoked config.now (paths.name_of parts.now) (paths.qualifier_of parts.now))
@@ -95,7 +102,7 @@ fn on_concurrency(
     alloc: Global,
     config: &Checked,
     parts: &Parts,
-    body: &Bytes,
+    body: &Received,
 ) -> Result<Decision, AllocError>
     ensures { IfOk result (λ d. d
         ≡ spec.about (names.reserved config.now (paths.name_of parts.now))
@@ -221,7 +228,7 @@ fn on_route(
     scratch: &mut PayloadScratch,
     config: &Checked,
     parts: &Parts,
-    body: &Bytes,
+    body: &Received,
     route: AccountRoute,
 ) -> Result<Decision, AllocError>
     ensures { IfOk result (λ d. d ≡ spec.at_account config.now parts.now body.now (Some route)) }
@@ -253,7 +260,7 @@ pub(crate) fn account_decision(
     router: &Router<AccountRoute>,
     config: &Checked,
     parts: &Parts,
-    body: &Bytes,
+    body: &Received,
 ) -> Result<Decision, AllocError>
     requires { router.now ≡ account_rows }
     ensures { IfOk result (λ d. d ≡ spec.account_decision config.now parts.now body.now) }

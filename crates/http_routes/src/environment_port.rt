@@ -1,6 +1,6 @@
 //! The decision on a request on an environment's port.
 
-ghost use Rattle.std.specs.Prelude.{◌≡◌, IfOk};
+ghost use Rattle.std.specs.Prelude.{◌≡◌, true, false, IfOk, MatchOption};
 ghost use Rattle.call_types.specs.Within.{IsEnv};
 ghost use Rattle.call_types.specs.declared.call.Call.TheVariants as calls;
 ghost use Rattle.http_routes.specs.EnvironmentDecisions as spec;
@@ -13,7 +13,7 @@ use crate::routes::{EnvironmentRoute, environment_route};
 use arn_ids::{Checked, EnvNo, LONGEST_BODY, Text};
 use bytes::Bytes;
 use call_types::Call;
-use decisions::Decision;
+use decisions::{Decision, Received};
 use http::request::Parts;
 use lambda_wire::{WireFault, read_register};
 use matchit::Router;
@@ -28,27 +28,32 @@ pub(crate) enum Report {
     ExitError,
 }
 
-fn is_too_long(body: &Bytes) -> bool
-    ensures { result ≡ spec.is_too_long body.now }
+/// Returns the bytes of a body, `None` if it is too long.
+fn within(body: &Received) -> Option<&Bytes>
+    ensures { MatchOption result (spec.is_too_long body.now ≡ true)
+        (λ bytes. (bytes.now ≡ body.now) × (spec.is_too_long body.now ≡ false)) }
 {
-    body.len() > LONGEST_BODY
+    match body.bytes() {
+        Some(bytes) if bytes.len() <= LONGEST_BODY => Some(bytes),
+        _ => None,
+    }
 }
 
 /// Submits a call that carries no bytes, if the body is not too long.
-fn submitted(alloc: Global, body: &Bytes, call: Call) -> Result<Decision, AllocError>
+fn submitted(alloc: Global, body: &Received, call: Call) -> Result<Decision, AllocError>
     ensures { IfOk result (λ d. d ≡ spec.submitted body.now call) }
 {
-    if is_too_long(body) {
-        return refused(alloc, Cause::TooLarge);
+    match within(body) {
+        Some(_) => Ok(Decision::Submit(call)),
+        None => refused(alloc, Cause::TooLarge),
     }
-    Ok(Decision::Submit(call))
 }
 
 /// Decides an Invocation response.
 fn response(
     alloc: Global,
     env: EnvNo,
-    body: &Bytes,
+    body: &Received,
     id: Option<u64>,
 ) -> Result<Decision, AllocError>
     ensures { IfOk result (λ d. d ≡ spec.response env body.now id) }
@@ -56,44 +61,50 @@ fn response(
     let Some(id) = id else {
         return refused(alloc, Cause::WrongRequest);
     };
-    if is_too_long(body) {
+    let Some(bytes) = within(body) else {
         return Ok(Decision::Submit(Call::ResponseTooLarge { env, id }));
-    }
-    let body = body.clone()?;
+    };
+    let body = bytes.clone()?;
     Ok(Decision::Submit(Call::Response { env, id, body }))
 }
 
 /// Decides an Invocation error.
-fn failure(alloc: Global, env: EnvNo, body: &Bytes, id: Option<u64>) -> Result<Decision, AllocError>
+fn failure(
+    alloc: Global,
+    env: EnvNo,
+    body: &Received,
+    id: Option<u64>,
+) -> Result<Decision, AllocError>
     ensures { IfOk result (λ d. d ≡ spec.failure env body.now id) }
 {
     let Some(id) = id else {
         return refused(alloc, Cause::WrongRequest);
     };
-    if is_too_long(body) {
+    let Some(bytes) = within(body) else {
         return refused(alloc, Cause::TooLarge);
-    }
-    let body = body.clone()?;
+    };
+    let body = bytes.clone()?;
     Ok(Decision::Submit(Call::Failure { env, id, body }))
 }
 
 /// Decides an Initialization error.
-fn init_failure(alloc: Global, env: EnvNo, body: &Bytes) -> Result<Decision, AllocError>
+fn init_failure(alloc: Global, env: EnvNo, body: &Received) -> Result<Decision, AllocError>
     ensures { IfOk result (λ d. d ≡ spec.submitted body.now (calls.InitFailure env body.now)) }
 {
-    if is_too_long(body) {
+    let Some(bytes) = within(body) else {
         return refused(alloc, Cause::TooLarge);
-    }
-    let body = body.clone()?;
+    };
+    let body = bytes.clone()?;
     Ok(Decision::Submit(Call::InitFailure { env, body }))
 }
 
 /// Decides a Register, given the events that its body asks for.
+#[tactic(auto, using(crate::proofs::TooLong::events_too_long))]
 fn register(
     alloc: Global,
     env: EnvNo,
     account: bool,
-    body: &Bytes,
+    body: &Received,
     name: Option<Text>,
 ) -> Result<Decision, AllocError>
     ensures { IfOk result (λ d. d ≡ spec.register env account body.now name) }
@@ -101,7 +112,10 @@ fn register(
     let Some(name) = name else {
         return refused(alloc, Cause::MissingHeader);
     };
-    match read_register(alloc, body.as_slice()) {
+    let Some(bytes) = within(body) else {
+        return refused(alloc, Cause::TooLarge);
+    };
+    match read_register(alloc, bytes.as_slice()) {
         Ok(events) => Ok(Decision::Submit(Call::Register {
             env,
             name,
@@ -123,7 +137,7 @@ fn register(
 fn ext_next(
     alloc: Global,
     env: EnvNo,
-    body: &Bytes,
+    body: &Received,
     ext: Option<u64>,
 ) -> Result<Decision, AllocError>
     ensures { IfOk result (λ d. d ≡ spec.ext_next env body.now ext) }
@@ -150,7 +164,7 @@ fn ext_report(
     env: EnvNo,
     report: Report,
     has_type: bool,
-    body: &Bytes,
+    body: &Received,
     ext: Option<u64>,
 ) -> Result<Decision, AllocError>
     ensures { IfOk result (λ d. d ≡ spec.ext_report has_type body.now (λ x. spec.reported report env x body.now) ext) }
@@ -161,10 +175,10 @@ fn ext_report(
     if !has_type {
         return refused(alloc, Cause::MissingHeader);
     }
-    if is_too_long(body) {
+    let Some(bytes) = within(body) else {
         return refused(alloc, Cause::TooLarge);
-    }
-    let body = body.clone()?;
+    };
+    let body = bytes.clone()?;
     Ok(Decision::Submit(reported(report, env, ext, body)))
 }
 
@@ -176,7 +190,7 @@ fn on_route(
     salt: u64,
     env: EnvNo,
     parts: &Parts,
-    body: &Bytes,
+    body: &Received,
     route: EnvironmentRoute,
 ) -> Result<Decision, AllocError>
     requires { IsEnv config.now env }
@@ -235,7 +249,7 @@ pub(crate) fn environment_decision(
     salt: u64,
     env: EnvNo,
     parts: &Parts,
-    body: &Bytes,
+    body: &Received,
 ) -> Result<Decision, AllocError>
     requires routes { router.now ≡ environment_rows }
     requires env { IsEnv config.now env }

@@ -12,5 +12,5 @@ mod refusals;
 mod routes;
 mod side;
 
-pub use decisions::{Decision, Shown};
+pub use decisions::{Decision, Received, Shown};
 pub use side::Side;

@@ -1,18 +1,17 @@
 //! One port of the service, and the decision on its requests.
 
-ghost use Rattle.std.specs.Prelude.{◌≡◌, ◌<◌, length, IfOk};
+ghost use Rattle.std.specs.Prelude.{◌≡◌, ◌<◌, ℕ, List, length, IfOk};
 ghost use Rattle.std.specs.Arc.{arc_value};
 ghost use Rattle.arn_ids.specs.Limits.{longest_body};
 ghost use Rattle.http_routes.specs.Decisions.{IsPortOf, decision};
 ghost use Rattle.http_routes.specs.Sides.{AreRoutesOf};
-ghost use Rattle.decisions.specs.Decisions.{IsAllowed, IsForTooLong};
+ghost use Rattle.decisions.specs.Decisions.{IsAllowed};
 
 use crate::account_port::account_decision;
 use crate::environment_port::environment_decision;
 use crate::routes::{AccountRoute, EnvironmentRoute, account_routes, environment_routes};
-use arn_ids::{Checked, EnvNo, LONGEST_BODY};
-use bytes::Bytes;
-use decisions::{Decide, Decision};
+use arn_ids::{Checked, EnvNo};
+use decisions::{Decide, Decision, Received};
 use http::request::Parts;
 use lambda_wire::PayloadScratch;
 use matchit::Router;
@@ -63,15 +62,6 @@ impl Model for Side {
     ghost invariant = { λ s. IsPortOf (arc_value s.config) (port_of s.routes) × AreWhole s.routes };
 }
 
-/// Makes a body that is too long.
-fn long_body(alloc: Global) -> Result<Bytes, AllocError>
-    ensures { IfOk result (λ body. longest_body < length body) }
-{
-    let mut bytes = Vec::new(alloc);
-    bytes.resize(LONGEST_BODY + 1, 0)?;
-    Ok(Bytes::from_vec(bytes)?)
-}
-
 impl Side {
     /// Opens a port of the configuration, with the salt of its identifiers: the account's port, or
     /// that of an environment from 1 to `Checked::environments`. Its routes are made here, once. It
@@ -95,15 +85,18 @@ impl Side {
 
     /// Decides a request by its head and body: to `Submit` its call, to `Reply` with the first
     /// refusal that holds, or to `Show` what is asked for. The call shares the body, which is not
-    /// copied. A payload is read in the scratch's room. It fails only if an allocation fails.
+    /// copied. Bodies of more than 6,291,456 bytes are decided alike, so none of their bytes is needed.
+    /// A payload is read in the scratch's room. It fails only if an allocation fails.
     pub fn decide(
         &self,
         alloc: Global,
         scratch: &mut PayloadScratch,
         parts: &Parts,
-        body: &Bytes,
+        body: &Received,
     ) -> Result<Decision, AllocError>
         ensures decision { IfOk result (λ d. d ≡ decision self.now parts.now body.now) }
+        ensures alike { IfOk result (λ d. longest_body < length body.now → (other : List ℕ) → longest_body < length other
+            → d ≡ decision self.now parts.now other) }
         // A call is one that the account's book takes, and a function that is shown is configured.
         ensures allowed { IfOk result (IsAllowed self.now.config) }
     {
@@ -129,19 +122,6 @@ impl Side {
     }
 }
 
-impl Side {
-    /// Decides a request with this head whose body is longer than 6,291,456 bytes. The decision is
-    /// the same for each such body, so it is made with one of them. It fails only if an allocation
-    /// fails.
-    pub fn decide_too_long(&self, alloc: Global, parts: &Parts) -> Result<Decision, AllocError>
-        ensures decision_too_long { IfOk result (IsForTooLong (λ body d. d ≡ decision self.now parts.now body)) }
-        ensures allowed_too_long { IfOk result (IsAllowed self.now.config) }
-    {
-        let body = long_body(alloc)?;
-        self.decide(alloc, &mut PayloadScratch::new(), parts, &body)
-    }
-}
-
 impl Decide for Side {
     ghost use Rattle.std.specs.Prelude.{◌≡◌};
     ghost use Rattle.http_routes.specs.Decisions.{decision};
@@ -155,12 +135,8 @@ impl Decide for Side {
         alloc: Global,
         scratch: &mut PayloadScratch,
         parts: &Parts,
-        body: &Bytes,
+        body: &Received,
     ) -> Result<Decision, AllocError> {
         Side::decide(self, alloc, scratch, parts, body)
-    }
-
-    fn decide_too_long(&self, alloc: Global, parts: &Parts) -> Result<Decision, AllocError> {
-        Side::decide_too_long(self, alloc, parts)
     }
 }

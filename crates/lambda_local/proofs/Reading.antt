@@ -8,7 +8,7 @@ use Rattle.lambda_wire.specs.declared.fault.WireFault.TheVariants.{TooLong}
 use Rattle.lambda_wire.specs.declared.setup.Setup.{Setup}
 use Rattle.lambda_local.specs.Explaining.{IsSetupOf}
 use Rattle.lambda_local.specs.declared.serve_fault.ServeFault.{ServeFault}
-use Rattle.lambda_local.specs.declared.serve_fault.ServeFault.TheVariants.{Config, Wire, Settlement, Read, Write, Network, TooFewDescriptors, OutOfMemory}
+use Rattle.lambda_local.specs.declared.serve_fault.ServeFault.TheVariants.{Config, Wire, Settlement, Read, Write, Network, TooFewDescriptors, TooFewThreads, OutOfMemory}
 
 too_long : (text : List ℕ) → 20000000 < length text → read_setup text ≡ Err TooLong
 unfolding read_setup
@@ -32,6 +32,7 @@ same_setup text input (Err Read) same is = is
 same_setup text input (Err Write) same is = is
 same_setup text input (Err Network) same is = is
 same_setup text input (Err TooFewDescriptors) same is = is
+same_setup text input (Err TooFewThreads) same is = is
 same_setup text input (Err OutOfMemory) same is = is
 
 -- what the text says, the input says

@@ -9,7 +9,7 @@ use Rattle.http_front.specs.declared.host_fault.HostFault.{HostFault}
 use Rattle.http_front.specs.declared.host_fault.HostFault.TheVariants as host
 use Rattle.lambda_local.specs.declared.serve_fault.ServeFault.{ServeFault}
 use Rattle.lambda_local.specs.declared.serve_fault.ServeFault.TheVariants.{Config, Wire, Settlement, Read, Network}
-use Rattle.lambda_local.specs.declared.serve_fault.ServeFault.TheVariants.{TooFewDescriptors, OutOfMemory}
+use Rattle.lambda_local.specs.declared.serve_fault.ServeFault.TheVariants.{TooFewDescriptors, TooFewThreads, OutOfMemory}
 
 -- The fault for an error of this kind while a configuration is read.
 abbrev pub of_input : ErrorKind → ServeFault
@@ -26,6 +26,7 @@ abbrev pub of_host : HostFault → ServeFault
 of_host (host.Config fault) = Config fault
 of_host host.Network = Network
 of_host host.TooFewDescriptors = TooFewDescriptors
+of_host host.TooFewThreads = TooFewThreads
 of_host host.StillShared = Settlement settling.TallyMissing
 of_host host.OutOfMemory = OutOfMemory
 

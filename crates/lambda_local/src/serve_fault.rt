@@ -38,6 +38,9 @@ pub enum ServeFault {
     /// The process may not open enough descriptors for the ports and one connection.
     #[error("network: too few descriptors (ulimit -n)")]
     TooFewDescriptors,
+    /// The process may not start the threads of a service with one connection.
+    #[error("too few threads (ulimit -u)")]
+    TooFewThreads,
     /// An allocation failed.
     #[error("out of memory")]
     OutOfMemory,
@@ -56,6 +59,7 @@ impl ServeFault {
             | ServeFault::Write
             | ServeFault::Network
             | ServeFault::TooFewDescriptors
+            | ServeFault::TooFewThreads
             | ServeFault::OutOfMemory => 4,
         }
     }
@@ -115,6 +119,7 @@ impl From<HostFault> for ServeFault {
             HostFault::Config(fault) => ServeFault::Config(fault),
             HostFault::Network => ServeFault::Network,
             HostFault::TooFewDescriptors => ServeFault::TooFewDescriptors,
+            HostFault::TooFewThreads => ServeFault::TooFewThreads,
             // The account lacks the tally of a thread that never ended.
             HostFault::StillShared => ServeFault::Settlement(SettleFault::TallyMissing),
             HostFault::OutOfMemory => ServeFault::OutOfMemory,

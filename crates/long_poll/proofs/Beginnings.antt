@@ -200,7 +200,9 @@ module _ {R S D N K L T : Type 0} {service : Service.Ghosts S K L T} {decider : 
         → (r : Result (Outcome (StreamedBody R S T K L) L) ExchangeFault)
         → MatchResult r (IsTraceOf service s (Trace from follow bodies)) (λ fault. fault ≡ OutOfMemory)
         → GivesFrom connection clock yields reads (IsStreamOf service s) stage r
-    gives_trace (Collecting parts collecting declared) from follow bodies h (Ok (outcome.Reply reply token)) is = absurd is
+    gives_trace (Collecting parts collecting declared) from follow bodies h (Ok (outcome.Reply reply token)) is =
+        of_body reads (yields collecting.body) parts collecting.held _ _
+        (λ body b. (decision.Show (Trace from follow bodies), b, is)) h
     gives_trace (Collecting parts collecting declared) from follow bodies h (Ok (outcome.History body)) is = absurd is
     gives_trace (Collecting parts collecting declared) from follow bodies h (Ok (outcome.Trace body)) is =
         of_body reads (yields collecting.body) parts collecting.held _ _ (λ body b. (from, follow, bodies, b, is)) h

@@ -1,5 +1,6 @@
 -- What is read of a body, one frame more at a time.
 mod Frames
+mod Pieces
 -- What an exchange gives, from where it stands.
 mod Beginnings
 -- The compact text of the counts' value.

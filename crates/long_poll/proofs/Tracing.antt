@@ -1,27 +1,21 @@
 -- What a body that shows a trace yields, one step at a time.
-use Rattle.std.proofs.Common.{◌≡◌, ℕ, suc, Bool, false, List, [], ◌∷◌, Option, Some, None, Result, Ok, Err, IfOk, is_some, option_map, refl, sym, ap, ◌∙◌}
+use Rattle.std.proofs.Common.{◌≡◌, ℕ, suc, Bool, false, List, [], ◌∷◌, Option, Some, None, Result, Ok, Err, refl, sym, ap, subst, ◌∙◌}
 use Rattle.std.specs.Arc.{arc_value}
 use Rattle.futures.specs.Poll.{OnPending}
 use Rattle.futures.specs.declared.task.Poll.{Poll}
 use Rattle.futures.specs.declared.task.Poll.TheVariants.{Ready, Pending}
 use Rattle.http_body.specs.declared.frame.Frame.{Frame}
-use Rattle.long_poll.specs.TraceFrames.{Moves, Misses, Shows, Stops, Frames, Yields}
+use Rattle.long_poll.specs.TraceFrames.{Finds, IsPieceFound, Moves, Misses, Shows, ShowsOf, Stops, Frames, Yields}
 use Rattle.long_poll.specs.declared.service.Service as Service
 use Rattle.long_poll.specs.declared.trace_body.Course.{Course}
+use Rattle.long_poll.specs.declared.trace_body.Found.{Found}
+use Rattle.long_poll.specs.declared.trace_body.Found.TheVariants.{Piece, Passed, Nothing}
 use Rattle.long_poll.specs.declared.trace_body.TraceBody.{TraceBody}
 
 -- what two facts give that hold while it is pending
 pub while_both : {O X Y Z : Type 0} (r : Poll O) → (X → Y → Z) → OnPending r X → OnPending r Y → OnPending r Z
 while_both (Ready o) f h k = tt
 while_both Pending f h k = f h k
-
--- what is known of a line, and whether there is one, whatever is seen of it
-pub traced : {A B E : Type 0} (f : A → B) (r : Result (Option A) E) (Seen : Type 0) (IsLine : Option B → Type 0) (Goes : Bool → Type 0)
-    → Seen → IfOk r (λ line. IsLine (option_map f line)) → IfOk r (λ line. Goes (is_some line))
-    → IfOk r (λ line. Seen × IsLine (option_map f line) × Goes (is_some (option_map f line)))
-traced f (Ok None) Seen IsLine Goes seen is goes = (seen, is, goes)
-traced f (Ok (Some line)) Seen IsLine Goes seen is goes = (seen, is, goes)
-traced f (Err e) Seen IsLine Goes seen is goes = tt
 
 module _ {S K L T E : Type 0} (service : Service.Ghosts S K L T) (s : S) (bodies : Bool) where
   -- what comes after a step may come before it
@@ -41,6 +35,28 @@ module _ {S K L T E : Type 0} (service : Service.Ghosts S K L T) (s : S) (bodies
       → (xs : List (Result (Frame (List ℕ)) E)) (last : Option (Result (Frame (List ℕ)) E))
       → Frames service s bodies b xs last → Frames service s bodies a (Ok frame ∷ xs) last
   shown_first a b frame h xs last rest = (0, a, refl, (b, h, rest))
+
+module _ {S K L T : Type 0} (service : Service.Ghosts S K L T) (s : S) (bodies : Bool) where
+  -- the next piece of what was left of a line
+  pub shown_on : (a b : Course T) (line : List ℕ) (found : Found) → a.rest ≡ Some line → IsPieceFound line b.rest found
+      → b ≡ record a { rest = b.rest } → Finds service s bodies a found b
+  shown_on a b line (Piece frame) is piece same = subst (λ (r : Option (List ℕ)). ShowsOf service s bodies r a frame b) (sym is) (piece, same)
+  shown_on a b line Passed is piece same = absurd piece
+  shown_on a b line Nothing is piece same = absurd piece
+
+  -- the first piece of the line of the next entry
+  pub shown_next : (a b : Course T) (u : T) (line : List ℕ) (found : Found) → a.rest ≡ None → a.left ≡ 0
+      → service.traces s a.trail bodies (Some line) u → IsPieceFound line b.rest found
+      → b ≡ record a { trail = u; rest = b.rest } → Finds service s bodies a found b
+  shown_next a b u line (Piece frame) is first traced piece same =
+      let here : b.trail ≡ u = ap (λ (c : Course T). c.trail) same in
+      subst (λ (r : Option (List ℕ)). ShowsOf service s bodies r a frame b) (sym is) (
+        first,
+        same ∙ ap (λ (t : T). record a { trail = t; rest = b.rest }) (sym here),
+        (line, piece, subst (λ (t : T). service.traces s a.trail bodies (Some line) t) (sym here) traced),
+      )
+  shown_next a b u line Passed is first traced piece same = absurd piece
+  shown_next a b u line Nothing is first traced piece same = absurd piece
 
 module _ {S K L T : Type 0} (E : Type 0) (service : Service.Ghosts S K L T) (s : S) (bodies : Bool) where
   -- a line

@@ -19,7 +19,7 @@ use Rattle.long_poll.specs.UnlessPremature.{CameBack}
 use Rattle.long_poll.specs.Ringing.{rings_at, hears_at}
 use Rattle.call_types.specs.Calls.{is_invoke}
 use Rattle.long_poll.specs.Refusals.{refusal_reply}
-use Rattle.long_poll.specs.Views.{stats_reply, environments_reply, reservation_reply}
+use Rattle.long_poll.specs.Views.{stats_reply, environments_reply, followers_reply, reservation_reply}
 use Rattle.long_poll.specs.declared.bell.Heard.{Heard}
 use Rattle.long_poll.specs.declared.bell.OneShotBell.{OneShotBell}
 use Rattle.long_poll.specs.declared.clock.Clock as Clock
@@ -101,11 +101,12 @@ module _ {R S D N K L T : Type 0} {service : Service.Ghosts S K L T} {decider : 
   Reserves f count then = (seen : List Entry) × service.reserves (arc_value connection.service) seen f count then
 
   -- The reply shows what is asked for, as the account gives it to a token that has then seen this history. A history
-  -- and its trace are shown by a body that is streamed, never by a reply.
+  -- and its trace are shown by a body that is streamed, never by a reply; but if a trace is to be followed, the reply may
+  -- say that as many connections follow it as may.
   abbrev pub IsView : Shown → Reply → List Entry → Type 0
   IsView Stats reply then = (stats : _) × Counts stats then × (reply ≡ stats_reply stats)
   IsView (History from) reply then = ⊥
-  IsView (Trace from follow bodies) reply then = ⊥
+  IsView (Trace from follow bodies) reply then = (follow ≡ true) × (reply ≡ followers_reply)
   IsView Environments reply then = (text : List ℕ) × Lists text then × (reply ≡ environments_reply text)
   IsView (Reservation f) reply then = (count : Option ℕ) × Reserves f count then × (reply ≡ reservation_reply count)
 

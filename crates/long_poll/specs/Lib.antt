@@ -12,6 +12,7 @@ pub mod Reads
 -- and its trace in pieces.
 pub mod Views
 pub mod Refusals
+pub mod Pieces
 pub mod HistoryFrames
 pub mod TraceFrames
 -- The length of a request's body and its first bytes, and the moment at which its call is submitted.

@@ -1,21 +1,31 @@
 -- The bodies that show a history and its trace.
-use Rattle.std.specs.Prelude.{◌≡◌, ℕ, Option}
+use Rattle.std.specs.Prelude.{◌≡◌, ℕ, true, Option, None}
 use Rattle.std.specs.Arc.{arc_value}
 use Rattle.decisions.specs.declared.decide.Shown.{Shown}
 use Rattle.decisions.specs.declared.decide.Shown.TheVariants as shown
+use Rattle.lambda_wire.specs.declared.reply.Reply.{Reply as Replied}
 use Rattle.long_poll.specs.HistoryFrames.{first_stage}
 use Rattle.long_poll.specs.TraceFrames.{IsTraceFrom}
+use Rattle.long_poll.specs.Views.{followers_reply}
 use Rattle.long_poll.specs.declared.history_body.HistoryBody.{HistoryBody}
 use Rattle.long_poll.specs.declared.outcome.Outcome.{Outcome}
 use Rattle.long_poll.specs.declared.outcome.Outcome.TheVariants.{Reply, History, Trace}
 use Rattle.long_poll.specs.declared.service.Service as Service
 use Rattle.long_poll.specs.declared.streamed_body.StreamedBody.{StreamedBody}
 use Rattle.long_poll.specs.declared.streamed_body.StreamedBody.TheVariants as streamed
-use Rattle.usage_ledger.specs.declared.keep.Keep as Keep
 
 -- The body shows a service's history, whole or from the entry of a ticket on.
 abbrev pub ShowsFrom : {R S K L : Type 0} → S → Option ℕ → HistoryBody R S K L → Type 0
-ShowsFrom s from body = (arc_value body.service ≡ s) × (body.stage ≡ first_stage from)
+ShowsFrom s from body =
+    (arc_value body.service ≡ s) × (body.stage ≡ first_stage from) × (body.rest ≡ None)
+
+-- The reply turns away a request to follow the trace.
+abbrev pub IsFull : Shown → Replied → Type 0
+IsFull (shown.History from) reply = ⊥
+IsFull (shown.Trace from follow bodies) reply = (follow ≡ true) × (reply ≡ followers_reply)
+IsFull shown.Stats reply = ⊥
+IsFull shown.Environments reply = ⊥
+IsFull (shown.Reservation f) reply = ⊥
 
 module _ {R S K L T : Type 0} (service : Service.Ghosts S K L T) (s : S) where
   -- The body shows the history, or its trace, as is asked for. Nothing else is streamed.
@@ -35,8 +45,9 @@ module _ {R S K L T : Type 0} (service : Service.Ghosts S K L T) (s : S) where
   IsHistoryOf from (History body) = IsStreamOf (shown.History from) body
   IsHistoryOf from (Trace body) = ⊥
 
-  -- The outcome is a body that shows the trace.
+  -- The outcome is a body that shows the trace; or, if it is to be followed, the reply that as many connections follow it
+  -- as may.
   abbrev pub IsTraceOf : Shown → Outcome (StreamedBody R S T K L) L → Type 0
-  IsTraceOf asked (Reply reply token) = ⊥
+  IsTraceOf asked (Reply reply token) = IsFull asked reply
   IsTraceOf asked (History body) = ⊥
   IsTraceOf asked (Trace body) = IsStreamOf asked body

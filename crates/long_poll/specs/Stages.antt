@@ -1,5 +1,5 @@
 -- The stages of an exchange, and what it may return from each.
-use Rattle.std.specs.Prelude.{◌≡◌, ℕ, Bool, List, Option, Result, Ok, Err}
+use Rattle.std.specs.Prelude.{◌≡◌, ℕ, Bool, List, Result, Ok, Err}
 use Rattle.futures.specs.Runs.{Runs}
 use Rattle.http.specs.declared.request.Parts.{Parts}
 use Rattle.http_body.specs.declared.frame.Frame.{Frame}

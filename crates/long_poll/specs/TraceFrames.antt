@@ -4,7 +4,7 @@ use Rattle.std.specs.Prelude.{Option, Some, None, Result, Ok, Err}
 use Rattle.std.specs.Arc.{arc_value}
 use Rattle.futures.specs.Runs.{Runs, EndsIf}
 use Rattle.http_body.specs.declared.frame.Frame.{Frame}
-use Rattle.http_body.specs.Frame.{data_frame}
+use Rattle.long_poll.specs.Pieces.{IsPiece}
 use Rattle.long_poll.specs.Ringing.{hears_at}
 use Rattle.long_poll.specs.declared.bell.Heard.{Heard}
 use Rattle.long_poll.specs.declared.service.Service as Service
@@ -19,6 +19,12 @@ Stops a None = a.follow ≡ false
 Stops a (Some (Ok frame)) = ⊥
 Stops a (Some (Err e)) = ⊤
 
+-- What was found is the first piece of a line, of which this is left.
+abbrev pub IsPieceFound : List ℕ → Option (List ℕ) → Found → Type 0
+IsPieceFound line left (found.Piece frame) = IsPiece line frame left
+IsPieceFound line left found.Passed = ⊥
+IsPieceFound line left found.Nothing = ⊥
+
 module _ {S K L T : Type 0} (service : Service.Ghosts S K L T) (s : S) where
   -- It was asked whether the service is off: if it is, the history is followed no more.
   abbrev pub Asks : Course T → Course T → Type 0
@@ -32,13 +38,15 @@ module _ {S K L T : Type 0} (service : Service.Ghosts S K L T) (s : S) (bodies :
   Missed zero t u = service.traces s t bodies None u
   Missed (suc left) t u = service.passes s t false u
 
-  -- A look found no further entry.
+  -- A look found no further entry, and nothing was left of a line.
   abbrev pub Misses : Course T → Course T → Type 0
-  Misses a b = Missed a.left a.trail b.trail × (b ≡ record a { trail = b.trail })
+  Misses a b = Missed a.left a.trail b.trail × (b ≡ record a { trail = b.trail }) × (a.rest ≡ None)
 
   -- An entry that comes before the first line was passed.
   abbrev pub Passes : Course T → Course T → Type 0
-  Passes a b = (a.left ≡ suc b.left) × service.passes s a.trail true b.trail × (b.follow ≡ a.follow)
+  Passes a b =
+      (a.left ≡ suc b.left) × service.passes s a.trail true b.trail × (b.follow ≡ a.follow)
+      × (a.rest ≡ None) × (b.rest ≡ None)
 
   -- A step without a frame.
   abbrev pub Moves : Course T → Course T → Type 0
@@ -49,28 +57,34 @@ module _ {S K L T : Type 0} (service : Service.Ghosts S K L T) (s : S) (bodies :
   Comes zero a b = b ≡ a
   Comes (suc n) a b = (c : Course T) × Moves a c × Comes n c b
 
-  -- The frame is the line of the entry that comes next, which is passed.
+  -- The frame is the next piece of what was left of a line; if nothing was, the first piece of the line of the entry that
+  -- comes next, which is passed.
+  abbrev pub ShowsOf : Option (List ℕ) → Course T → Frame (List ℕ) → Course T → Type 0
+  ShowsOf (Some line) a frame b = IsPiece line frame b.rest × (b ≡ record a { rest = b.rest })
+  ShowsOf None a frame b =
+      (a.left ≡ 0) × (b ≡ record a { trail = b.trail; rest = b.rest })
+      × ((line : List ℕ) × IsPiece line frame b.rest × service.traces s a.trail bodies (Some line) b.trail)
+
+  -- The same, where it is the course that has what is left.
   abbrev pub Shows : Course T → Frame (List ℕ) → Course T → Type 0
-  Shows a frame b =
-      (a.left ≡ 0) × (b ≡ record a { trail = b.trail })
-      × ((line : List ℕ) × (frame ≡ data_frame line) × service.traces s a.trail bodies (Some line) b.trail)
+  Shows a frame b = ShowsOf a.rest a frame b
 
   -- What a look found.
   abbrev pub Finds : Course T → Found → Course T → Type 0
-  Finds a (found.Line frame) b = Shows a frame b
+  Finds a (found.Piece frame) b = Shows a frame b
   Finds a found.Passed b = Passes a b
   Finds a found.Nothing b = Misses a b
 
   module _ {E : Type 0} where
-    -- One answer of a poll: a line; the end, only if the history is not followed any more and there is no further entry;
-    -- or a failure.
+    -- One answer of a poll: a piece of a line; the end, only if the history is not followed any more, nothing is left of a
+    -- line, and there is no further entry; or a failure.
     abbrev pub Answers : Course T → Option (Result (Frame (List ℕ)) E) → Type 0
     Answers a None = (a.follow ≡ false) × ((b : Course T) × Misses a b)
     Answers a (Some (Ok frame)) = (b : Course T) × Shows a frame b
     Answers a (Some (Err e)) = ⊤
 
-    -- The frames, and one more answer: the lines of the entries, each of which comes next after those that were passed
-    -- before it. Nothing follows a failure.
+    -- The frames, and one more answer: joined, they are the lines of the entries, each of which comes next after those that
+    -- were passed before it. Nothing follows a failure.
     abbrev pub Frames : Course T → Runs (Result (Frame (List ℕ)) E)
     Frames a [] next = (n : ℕ) × (b : Course T) × Comes n a b × Answers b next
     Frames a (Ok frame ∷ frames) next =
@@ -92,4 +106,5 @@ module _ {R S T K L : Type 0} (service : Service.Ghosts S K L T) where
   abbrev pub IsTraceFrom : S → ℕ → Bool → Bool → TraceBody R S T K L → Type 0
   IsTraceFrom s from follow bodies body =
       (arc_value body.service ≡ s) × (body.bodies ≡ bodies) × (body.is_ended ≡ false)
-      × (body.course.left ≡ from) × (body.course.follow ≡ follow) × service.begins s body.course.trail
+      × (body.course.left ≡ from) × (body.course.rest ≡ None) × (body.course.follow ≡ follow)
+      × service.begins s body.course.trail

@@ -5,6 +5,7 @@ use Rattle.serde_json.specs.Data.{Data, number, unsigned, object, member, no_mem
 use Rattle.http_header.specs.FieldValue.{FieldValue}
 use Rattle.lambda_wire.specs.Bodies.{reservation_text}
 use Rattle.lambda_wire.specs.Headers.{header, json_headers, text_headers}
+use Rattle.lambda_wire.specs.Replies.{fault_reply}
 use Rattle.lambda_wire.specs.declared.reply.Reply.{Reply}
 
 -- The counts of an account as a JSON value.
@@ -42,3 +43,8 @@ trace_headers = header (codes "content-type") (codes "application/x-ndjson") ∷
 -- The reply that shows a function's reservation (Lambda API, GetFunctionConcurrency).
 abbrev pub reservation_reply : Option ℕ → Reply
 reservation_reply count = record { status = 200; headers = json_headers; body = reservation_text count }
+
+-- The reply to a connection that asks to follow a trace if as many follow one as may at once (this project's own).
+abbrev pub followers_reply : Reply
+followers_reply =
+    fault_reply 503 (codes "64 connections follow the trace, as many as may at once") (codes "TooManyFollowers")

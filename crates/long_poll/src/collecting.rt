@@ -3,8 +3,8 @@
 ghost use Rattle.std.specs.Prelude.{◌≡◌, ◌==◌, ◌≤◌, [], length, IfOk, MatchResult, OnOk};
 ghost use Rattle.long_poll.specs.Bodies.{Collects, IsDataOf, Takes, most_bytes};
 
-use crate::ExchangeFault;
 use crate::first_bytes::FirstBytes;
+use crate::{BodyFault, ExchangeFault};
 use bytes::Bytes;
 use futures::future::Future;
 use futures::ready;
@@ -77,6 +77,7 @@ where
 impl<B: Body> Future for Collecting<B>
 where
     B::Data: Into<Bytes>,
+    B::Error: BodyFault,
 {
     type Output = Result<Bytes, ExchangeFault>;
 
@@ -90,7 +91,12 @@ where
         for _ in 0..FRAMES_PER_POLL {
             let frame = match ready!(self.body.poll_frame(cx)) {
                 None => return Poll::Ready(self.collected()),
-                Some(Err(_)) => return Poll::Ready(Err(ExchangeFault::BodyFailed)),
+                Some(Err(fault)) => {
+                    if fault.is_out_of_memory() {
+                        return Poll::Ready(Err(ExchangeFault::OutOfMemory));
+                    }
+                    return Poll::Ready(Err(ExchangeFault::BodyFailed));
+                }
                 Some(Ok(frame)) => frame,
             };
             match self.take_frame(frame) {

@@ -11,18 +11,18 @@ ghost use Rattle.futures.specs.Poll.{IfReady, OnPending};
 
 use crate::beat::Beat;
 use crate::clock::moment;
+use crate::followers::FollowerPlace;
 use crate::line::{Line, Place};
 use crate::refusal::refusal_reply;
-use crate::views::{environments_reply, reservation_reply, stats_reply};
+use crate::views::{environments_reply, followers_reply, reservation_reply, stats_reply};
 use crate::{
     Clock, ExchangeFault, Heard, HistoryBody, OneShotBell, OpenPoll, Outcome, Service,
     StreamedBody, TraceBody,
 };
 use account_lock::{NotTaken, Refused};
 use arn_ids::FnNo;
-use bytes::Bytes;
 use call_model::{Call, Stats, Ticket};
-use decisions::{Decide, Decision, Shown};
+use decisions::{Decide, Decision, Received, Shown};
 use futures::future::Future;
 use futures::task::{Context, Poll};
 use http::request::Parts;
@@ -113,6 +113,28 @@ enum Attempt<L: Ledgers> {
     NotMade(Call, OneShotBell),
 }
 
+/// What a call is for the connection that submits it.
+#[derive(Clone, Copy)]
+enum Sort {
+    /// A Next (Runtime API, Next invocation; Extensions API, Next), whose answer may come late.
+    Next,
+    /// The stop of the service.
+    Stop,
+    /// Another call.
+    Other,
+}
+
+impl Sort {
+    /// Returns what a call is.
+    fn of(call: &Call) -> Sort {
+        match call {
+            Call::RuntimeNext { .. } | Call::ExtNext { .. } => Sort::Next,
+            Call::Stop => Sort::Stop,
+            _ => Sort::Other,
+        }
+    }
+}
+
 /// Returns the function that a call invokes, `None` if it is no Invoke.
 fn invoked(call: &Call) -> Option<FnNo> {
     match call {
@@ -136,6 +158,7 @@ impl<
     ghost use Rattle.long_poll.specs.TraceFrames.{IsTraceFrom};
     ghost use Rattle.long_poll.specs.declared.outcome.Outcome.TheVariants.{Reply as replied};
     ghost use Rattle.long_poll.specs.Pending.{KeepsTo};
+    ghost use Rattle.long_poll.specs.Views.{followers_reply as full_reply};
 
     /// Returns a connection to this account, whose requests are decided for the same configuration. Each
     /// submit locks the connection's tally, and then the account. The token is shown the history at each
@@ -311,11 +334,15 @@ impl<
         }
     }
 
-    /// Does what follows from a call that was taken, which is a step: the ticker is woken if it rests; a Next is
-    /// noted as open, and may make an environment ready; a call that was held back leaves the line.
-    fn taken(&self, is_next: bool, ticket: Ticket, place: Option<Place>) {
+    /// Does what follows from a call that was taken, which is a step: the ticker is woken if it rests; from a Stop
+    /// on, each step wakes it; a Next is noted as open, and may make an environment ready; a call that was held back
+    /// leaves the line.
+    fn taken(&self, sort: Sort, ticket: Ticket, place: Option<Place>) {
+        if let Sort::Stop = sort {
+            self.beat.note_stop();
+        }
         self.beat.note_step(&self.rt);
-        if is_next {
+        if let Sort::Next = sort {
             self.open.note(ticket);
             if let Some(function) = self.function {
                 self.line.call(&self.rt, function);
@@ -341,7 +368,7 @@ impl<
             left,
             place,
         } = held;
-        let is_next = matches!(call, Call::RuntimeNext { .. } | Call::ExtNext { .. });
+        let sort = Sort::of(&call);
         let is_invoke = call.is_invoke();
         let left = self.pause(left, &place);
         let readies = self.line.readies();
@@ -362,7 +389,7 @@ impl<
                 Ok(Begun::Replied(reply, seen))
             }
             Attempt::Made(Ok((ticket, token))) => {
-                self.taken(is_next, ticket, place);
+                self.taken(sort, ticket, place);
                 Ok(Begun::Parked {
                     ticket,
                     heard,
@@ -372,24 +399,16 @@ impl<
         }
     }
 
-    /// Decides a request, and does what is decided.
-    pub(crate) fn begin(&self, parts: &Parts, body: &Bytes) -> Result<Begun<L>, ExchangeFault>
+    /// Decides a request, and does what is decided. Of a body that is too long none of the bytes matters.
+    pub(crate) fn begin(&self, parts: &Parts, body: &Received) -> Result<Begun<L>, ExchangeFault>
         ensures ok { IfOk result (HasBegun self.now N.Clock parts.now body.now) }
+        ensures alike { longest_body < length body.now → IfOk result
+            (λ begun. (other : List ℕ) → longest_body < length other → HasBegun self.now N.Clock parts.now other begun) }
         ensures err { IfErr result (λ fault. fault ≡ ExchangeFault.OutOfMemory) }
     {
         let mut scratch = self.scratch.take();
         let decided = self.decider.decide(self.alloc, &mut scratch, parts, body);
         self.scratch.set(scratch);
-        self.carry_out(decided?)
-    }
-
-    /// Decides a request whose body is too long, which is not read, and does what is decided.
-    pub(crate) fn begin_too_long(&self, parts: &Parts) -> Result<Begun<L>, ExchangeFault>
-        ensures ok { IfOk result
-            (λ begun. (body : List ℕ) → longest_body < length body → HasBegun self.now N.Clock parts.now body begun) }
-        ensures err { IfErr result (λ fault. fault ≡ ExchangeFault.OutOfMemory) }
-    {
-        let decided = self.decider.decide_too_long(self.alloc, parts);
         self.carry_out(decided?)
     }
 
@@ -483,6 +502,7 @@ impl<
     /// with bodies or without.
     pub(crate) fn trace(
         &self,
+        place: Option<FollowerPlace>,
         from: Ticket,
         follow: bool,
         bodies: bool,
@@ -494,9 +514,21 @@ impl<
         let open = Arc::try_clone(&self.open)?;
         let beat = Arc::try_clone(&self.beat)?;
         let body = TraceBody::new(
-            self.rt, self.alloc, service, open, beat, from, follow, bodies,
+            self.rt, self.alloc, service, open, beat, place, from, follow, bodies,
         )?;
         Box::new(self.alloc, body).map_err(AllocError::from)
+    }
+
+    /// Takes a place among those who follow the history, `None` if none is left.
+    pub(crate) fn follower_place(&self) -> Result<Option<FollowerPlace>, AllocError> {
+        FollowerPlace::take(&self.beat)
+    }
+
+    /// Returns the reply to a request to follow the history for which no place is left.
+    pub(crate) fn turned_away(&self) -> Result<(Reply, Token<L>), AllocError>
+        ensures { IfOk result (λ replied. replied.0 ≡ full_reply) }
+    {
+        Ok((followers_reply(self.alloc)?, self.another_token()))
     }
 
     /// Renders the answer to a ticket, and takes back the note of a Next.

@@ -13,10 +13,10 @@ ghost use Rattle.long_poll.specs.declared.fault.ExchangeFault.TheVariants.{OutOf
 
 use crate::collecting::Collecting;
 use crate::connection::{Begun, Connection, HeldBackCall};
-use crate::{Clock, ExchangeFault, Heard, Outcome, Service, StreamedBody};
+use crate::{BodyFault, Clock, ExchangeFault, Heard, Outcome, Service, StreamedBody};
 use bytes::Bytes;
 use call_model::Ticket;
-use decisions::Decide;
+use decisions::{Decide, Received};
 use futures::future::Future;
 use futures::ready;
 use futures::task::{Context, Poll};
@@ -68,6 +68,7 @@ impl<
 > Exchange<R, S, D, N, B, K, L>
 where
     B::Data: Into<Bytes>,
+    B::Error: BodyFault,
 {
     ghost use Rattle.long_poll.specs.Stages.{CanGoOn, IsStarting, IsHolding, IsWaiting, WaitsFor};
     ghost use Rattle.long_poll.specs.Standing.{Holds, Starts};
@@ -132,11 +133,13 @@ where
                 parts,
                 is_too_long: true,
                 ..
-            } => Poll::Ready(self.connection.begin_too_long(parts)),
+            } => Poll::Ready(self.connection.begin(parts, &Received::too_long())),
             Stage::Collecting { parts, body, .. } => match body.poll(cx) {
                 Poll::Pending => Poll::Pending,
                 Poll::Ready(Err(fault)) => Poll::Ready(Err(fault)),
-                Poll::Ready(Ok(bytes)) => Poll::Ready(self.connection.begin(parts, &bytes)),
+                Poll::Ready(Ok(bytes)) => {
+                    Poll::Ready(self.connection.begin(parts, &Received::whole(bytes)))
+                }
             },
         }
     }
@@ -165,7 +168,8 @@ where
         Ok(Outcome::History(StreamedBody::History(self.connection.history(from)?)))
     }
 
-    /// Returns the trace of the account's history, from the entry of a ticket on.
+    /// Returns the trace of the account's history, from the entry of a ticket on; or a reply if it is to be followed, and
+    /// as many connections follow it as may.
     fn trace(
         &self,
         from: Ticket,
@@ -176,7 +180,16 @@ where
             (IsTraceOf S.Service (arc_value (arc_value self.now.connection).service) (Trace from follow bodies))
             (λ fault. fault ≡ OutOfMemory) }
     {
-        Ok(Outcome::Trace(StreamedBody::Trace(self.connection.trace(from, follow, bodies)?)))
+        let mut place = None;
+        if follow {
+            place = self.connection.follower_place()?;
+            if place.is_none() {
+                let (reply, token) = self.connection.turned_away()?;
+                return Ok(Outcome::Reply(reply, token));
+            }
+        }
+        let body = self.connection.trace(place, from, follow, bodies)?;
+        Ok(Outcome::Trace(StreamedBody::Trace(body)))
     }
 
     /// Waits for the answer, and renders it.
@@ -260,6 +273,7 @@ impl<
 > Future for Exchange<R, S, D, N, B, K, L>
 where
     B::Data: Into<Bytes>,
+    B::Error: BodyFault,
 {
     ghost use Rattle.long_poll.specs.Stages.{CanGoOn, WaitsFor};
     ghost use Rattle.long_poll.specs.Standing.{Holds, Gives};

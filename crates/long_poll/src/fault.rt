@@ -27,3 +27,15 @@ impl From<AllocError> for ExchangeFault {
         ExchangeFault::OutOfMemory
     }
 }
+
+/// What the failure of a request's body says of itself.
+pub trait BodyFault {
+    /// Returns whether an allocation failed, so that the client is not at fault.
+    fn is_out_of_memory(&self) -> bool;
+}
+
+impl BodyFault for hyper::Error {
+    fn is_out_of_memory(&self) -> bool {
+        hyper::Error::is_out_of_memory(self)
+    }
+}

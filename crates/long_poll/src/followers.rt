@@ -1,12 +1,50 @@
 //! Who follows the history as it grows, and is woken after a step.
 
-use crate::{Heard, OneShotBell};
+ghost use Rattle.std.specs.Prelude.{◌≡◌, nat_lt};
+
+use crate::{Beat, Heard, OneShotBell};
 use account_lock::Bell;
 use std::alloc::{AllocError, Global};
 use std::mem;
-use std::sync::atomic::AtomicBool;
 use std::sync::atomic::Ordering::SeqCst;
-use std::sync::{Mutex, Wait};
+use std::sync::atomic::{AtomicBool, AtomicU64};
+use std::sync::{Arc, Mutex, Wait};
+
+/// How many connections follow the history at once, at most.
+const MOST_FOLLOWERS: u64 = 64;
+
+/// Returns whether one more may follow the history, where so many do.
+fn has_place(followers: u64) -> bool
+    ensures { result ≡ nat_lt followers 64 }
+{
+    followers < MOST_FOLLOWERS
+}
+
+/// The place of one who follows the history. It is given back when it is dropped.
+pub(crate) struct FollowerPlace {
+    beat: Arc<Beat>,
+}
+
+impl Drop for FollowerPlace {
+    fn drop(self) {
+        self.beat.followers.leave();
+        let FollowerPlace { beat: _ } = self;
+    }
+}
+
+impl FollowerPlace {
+    /// Takes a place, `None` if as many follow the history as may.
+    ///
+    /// # Errors
+    /// If an allocation fails.
+    pub(crate) fn take(beat: &Arc<Beat>) -> Result<Option<FollowerPlace>, AllocError> {
+        let beat = Arc::try_clone(beat)?;
+        if !beat.followers.enter() {
+            return Ok(None);
+        }
+        Ok(Some(FollowerPlace { beat }))
+    }
+}
 
 /// The bells of those who follow the history and wait for its next entry. A follower gives its bell here, and
 /// then looks once more for an entry; a thread makes its step, and then looks whether a bell is here. So
@@ -17,6 +55,8 @@ pub struct Followers {
     // Whether there is a bell: it is read without the lock.
     is_awaited: AtomicBool,
     bells: Mutex<Vec<OneShotBell>>,
+    // How many places are taken.
+    taken: AtomicU64,
 }
 
 impl Followers {
@@ -26,7 +66,22 @@ impl Followers {
             alloc,
             is_awaited: AtomicBool::new(false),
             bells: Mutex::new(Vec::new(alloc)),
+            taken: AtomicU64::new(0),
         }
+    }
+
+    /// Takes a place. Returns false if none is left.
+    fn enter(&self) -> bool {
+        let may = has_place(self.taken.fetch_add(1, SeqCst));
+        if !may {
+            self.leave();
+        }
+        may
+    }
+
+    /// Gives a place back.
+    fn leave(&self) {
+        self.taken.fetch_sub(1, SeqCst);
     }
 
     /// Returns a future that is ready after the next step. The bells of followers that are gone are dropped.
@@ -43,7 +98,7 @@ impl Followers {
     }
 
     /// Takes out all bells.
-    fn taken(&self, rt: &impl Wait) -> Vec<OneShotBell> {
+    fn take_bells(&self, rt: &impl Wait) -> Vec<OneShotBell> {
         let mut bells = self.bells.lock(rt);
         self.is_awaited.store(false, SeqCst);
         mem::replace(&mut *bells, Vec::new(self.alloc))
@@ -54,7 +109,7 @@ impl Followers {
         if !self.is_awaited.load(SeqCst) {
             return;
         }
-        for bell in self.taken(rt) {
+        for bell in self.take_bells(rt) {
             bell.ring();
         }
     }

@@ -11,6 +11,7 @@ use account_lock::{Account, Identity, Look, NotTaken, Refused, Trail};
 use arn_ids::FnNo;
 use call_model::{Call, Stats, Ticket};
 use lambda_wire::Reply;
+use script::Draft;
 use std::alloc::{AllocError, Global};
 use std::sync::Wait;
 use usage_ledger::{Keep, Tally, Token};
@@ -102,7 +103,7 @@ impl<S: Identity + Drop, K: Keep> Service<K, S> for Account<S, OneShotBell> {
         rt: &R,
         token: &mut Token<S>,
         ticket: Ticket,
-    ) -> Result<Option<Vec<u8>>, AllocError> {
+    ) -> Result<Option<Draft>, AllocError> {
         Account::history(self, rt, token, ticket)
     }
 
@@ -115,7 +116,7 @@ impl<S: Identity + Drop, K: Keep> Service<K, S> for Account<S, OneShotBell> {
         rt: &R,
         trail: &mut Trail<S>,
         bodies: bool,
-    ) -> Result<Option<Vec<u8>>, AllocError> {
+    ) -> Result<Option<Draft>, AllocError> {
         Account::trace(self, rt, trail, bodies)
     }
 

@@ -1,6 +1,6 @@
 //! What a connection asks of an account.
 
-ghost use Rattle.std.specs.Prelude.{◌≡◌, ◌<◌, ◌^◌, ℕ, Bool, List, Option, IfOk, option_map};
+ghost use Rattle.std.specs.Prelude.{◌≡◌, ◌<◌, ◌^◌, ℕ, Bool, List, Option, IfOk};
 ghost use Rattle.arn_ids.specs.declared.config.Config.{Config};
 ghost use Rattle.call_types.specs.declared.call.Call.{Call as Called};
 ghost use Rattle.call_types.specs.declared.call.Entry.{Entry};
@@ -17,6 +17,7 @@ use account_lock::{Look, NotTaken, Refused};
 use arn_ids::FnNo;
 use call_model::{Call, Stats, Ticket};
 use lambda_wire::Reply;
+use script::Draft;
 use std::alloc::{AllocError, Global};
 use std::sync::Wait;
 use usage_ledger::{Keep, Ledgers, Tally, Token};
@@ -150,9 +151,8 @@ pub trait Service<K: Keep, L: Ledgers>: Drop {
         rt: &R,
         token: &mut Token<L>,
         ticket: Ticket,
-    ) -> Result<Option<Vec<u8>>, AllocError>
-        ensures { IfOk result (λ text.
-            tells self.now token.old ticket (option_map (λ bytes. bytes.items) text) token.new) };
+    ) -> Result<Option<Draft>, AllocError>
+        ensures { IfOk result (λ text. tells self.now token.old ticket text token.new) };
 
     /// Makes a trail that has passed no entry. The only error is `AllocError`.
     fn trail<R: Wait>(&self, rt: &R, alloc: Global) -> Result<Self::Trail, AllocError>
@@ -165,9 +165,8 @@ pub trait Service<K: Keep, L: Ledgers>: Drop {
         rt: &R,
         trail: &mut Self::Trail,
         bodies: bool,
-    ) -> Result<Option<Vec<u8>>, AllocError>
-        ensures { IfOk result (λ line.
-            traces self.now trail.old bodies (option_map (λ bytes. bytes.items) line) trail.new) };
+    ) -> Result<Option<Draft>, AllocError>
+        ensures { IfOk result (λ line. traces self.now trail.old bodies line trail.new) };
 
     /// Lets a trail pass the entry that comes next. Returns whether there was one.
     fn pass<R: Wait>(&self, rt: &R, trail: &mut Self::Trail) -> bool

@@ -1,24 +1,32 @@
 //! The trace of a history as the body of a response.
 
-ghost use Rattle.std.specs.Prelude.{◌≡◌, ◌≢◌, true, IfOk};
+ghost use Rattle.std.specs.Prelude.{◌≡◌, ◌≢◌, true, None, IfOk};
 ghost use Rattle.std.specs.Arc.{arc_value};
 ghost use Rattle.futures.specs.Poll.{IfReady, OnPending};
 ghost use Rattle.futures.specs.Task.{Covers, Keeps};
-ghost use Rattle.long_poll.specs.TraceFrames.{Asks, Finds, IsTraceFrom, Stops, Waits};
+ghost use Rattle.long_poll.specs.TraceFrames.{Asks, Finds, IsPieceFound, IsTraceFrom, Stops, Waits};
 
+use crate::followers::FollowerPlace;
+use crate::piece::first_piece;
 use crate::{Beat, Heard, OpenPoll, Service};
 use bytes::Bytes;
 use call_model::Ticket;
 use futures::future::Future;
 use futures::task::{Context, Poll};
 use http_body::{Body, Frame};
+use script::Draft;
 use std::alloc::{AllocError, Global};
 use std::marker::PhantomData;
 use std::sync::{Arc, Wait};
+use std::thread::Parker;
+use std::time::Duration;
 use usage_ledger::{Keep, Ledgers, Tally};
 
 /// How many entries one poll passes at most, so that a long history does not keep other futures waiting.
 const PASSED_PER_POLL: u32 = 128;
+
+/// For how many milliseconds a follower rests after a step before it looks.
+const REST: u64 = 1;
 
 /// How far a trace has come.
 #[derive(Drop)]
@@ -27,6 +35,8 @@ pub(crate) struct Course<T> {
     trail: T,
     // How many entries are still to be passed before the first line.
     left: Ticket,
+    // What is left of a line whose first pieces were shown.
+    rest: Option<Draft>,
     // Whether it goes on at the end of the history.
     follow: bool,
 }
@@ -34,23 +44,17 @@ pub(crate) struct Course<T> {
 /// What a look found.
 #[derive(Drop)]
 enum Found {
-    /// The line of an entry.
-    Line(Frame<Bytes>),
+    /// A piece of the line of an entry.
+    Piece(Frame<Bytes>),
     /// Entries to be passed, and there may be more of them.
     Passed,
     /// No further entry.
     Nothing,
 }
 
-/// Makes a piece of a body from bytes, without a copy.
-fn piece(bytes: Vec<u8>) -> Result<Bytes, AllocError>
-    ensures { IfOk result (λ piece. piece ≡ bytes.items) }
-{
-    Ok(Bytes::from_vec(bytes).map_err(AllocError::from)?)
-}
-
 /// The trace of a history, streamed: the line of each entry, from that of a ticket on to that of the last one.
-/// Each is a frame of its own, and no more than one is in memory. If it follows the history, it then waits for
+/// Each frame is a piece of a line, and no more than one is in memory: what is left of a line shares its bodies with
+/// the history. If it follows the history, it then waits for
 /// each further entry, and ends only once the service is off. If an allocation fails, the body ends with an error.
 #[derive(Drop)]
 pub struct TraceBody<R, S, T, K: Keep, L: Ledgers> {
@@ -62,8 +66,12 @@ pub struct TraceBody<R, S, T, K: Keep, L: Ledgers> {
     beat: Arc<Beat>,
     bodies: bool,
     course: Course<T>,
+    // Its place among those who follow the history.
+    place: Option<FollowerPlace>,
     // What hears the next step after a look that found nothing.
     heard: Option<Heard>,
+    // Where its thread rests after a step.
+    parker: Parker,
     is_ended: bool,
     of: PhantomData<Tally<K, L>>,
 }
@@ -86,6 +94,7 @@ impl<R: Wait + Drop, S: Service<K, L, Trail = T>, T: Drop, K: Keep, L: Ledgers> 
         service: Arc<S>,
         open: Arc<OpenPoll>,
         beat: Arc<Beat>,
+        place: Option<FollowerPlace>,
         from: Ticket,
         follow: bool,
         bodies: bool,
@@ -102,9 +111,12 @@ impl<R: Wait + Drop, S: Service<K, L, Trail = T>, T: Drop, K: Keep, L: Ledgers> 
             course: Course {
                 trail,
                 left: from,
+                rest: None,
                 follow,
             },
+            place,
             heard: None,
+            parker: Parker::new(),
             is_ended: false,
             of: PhantomData,
         })
@@ -112,7 +124,8 @@ impl<R: Wait + Drop, S: Service<K, L, Trail = T>, T: Drop, K: Keep, L: Ledgers> 
 
     /// Passes an entry that comes before the first line, if there is one.
     fn pass(&mut self) -> Found
-        requires { self.old.course.left ≢ 0 }
+        requires before { self.old.course.left ≢ 0 }
+        requires none { self.old.course.rest ≡ None }
         ensures found { Finds S.Service (arc_value self.old.service) self.old.bodies
             self.old.course result self.new.course }
         ensures same { (self.new.service ≡ self.old.service) × (self.new.bodies ≡ self.old.bodies)
@@ -125,8 +138,22 @@ impl<R: Wait + Drop, S: Service<K, L, Trail = T>, T: Drop, K: Keep, L: Ledgers> 
         Found::Passed
     }
 
+    /// Shows the first piece of a line.
+    fn show(&mut self, line: Draft) -> Result<Found, AllocError>
+        requires { self.old.course.rest ≡ None }
+        ensures found { IfOk result (IsPieceFound line self.new.course.rest) }
+        ensures course { self.new.course ≡ record self.old.course { rest = self.new.course.rest } }
+        ensures same { (self.new.service ≡ self.old.service) × (self.new.bodies ≡ self.old.bodies)
+            × (self.new.is_ended ≡ self.old.is_ended) }
+    {
+        let (frame, rest) = first_piece(line)?;
+        self.course.rest = rest;
+        Ok(Found::Piece(frame))
+    }
+
     /// Looks for the entry that comes next.
-    fn look(&mut self) -> Result<Found, AllocError>
+    fn look_on(&mut self) -> Result<Found, AllocError>
+        requires { self.old.course.rest ≡ None }
         ensures found { IfOk result (λ found. Finds S.Service (arc_value self.old.service) self.old.bodies
             self.old.course found self.new.course) }
         ensures same { (self.new.service ≡ self.old.service) × (self.new.bodies ≡ self.old.bodies)
@@ -140,8 +167,21 @@ impl<R: Wait + Drop, S: Service<K, L, Trail = T>, T: Drop, K: Keep, L: Ledgers> 
             .trace(&self.rt, &mut self.course.trail, self.bodies)?
         {
             None => Ok(Found::Nothing),
-            Some(line) => Ok(Found::Line(Frame::data(piece(line)?))),
+            Some(line) => self.show(line),
         }
+    }
+
+    /// Looks for the next piece: of what is left of a line, or of the entry that comes next.
+    fn look(&mut self) -> Result<Found, AllocError>
+        ensures found { IfOk result (λ found. Finds S.Service (arc_value self.old.service) self.old.bodies
+            self.old.course found self.new.course) }
+        ensures same { (self.new.service ≡ self.old.service) × (self.new.bodies ≡ self.old.bodies)
+            × (self.new.is_ended ≡ self.old.is_ended) }
+    {
+        if let Some(rest) = self.course.rest.take() {
+            return self.show(rest);
+        }
+        self.look_on()
     }
 
     /// Asks whether the service is off, after which the history is not followed any more.
@@ -156,7 +196,8 @@ impl<R: Wait + Drop, S: Service<K, L, Trail = T>, T: Drop, K: Keep, L: Ledgers> 
         is_off
     }
 
-    /// Waits for the next step: until its bell rings, or it first gives one, after which it looks again.
+    /// Waits for the next step: until its bell rings, and then for a rest, in which further steps wake no one; or it
+    /// first gives a bell. Then it looks again.
     fn poll_step(&mut self, cx: &mut Context<'_>) -> Poll<AllocError>
         ensures same { (self.new.service ≡ self.old.service) × (self.new.bodies ≡ self.old.bodies)
             × (self.new.course ≡ self.old.course) × (self.new.is_ended ≡ self.old.is_ended) }
@@ -179,6 +220,8 @@ impl<R: Wait + Drop, S: Service<K, L, Trail = T>, T: Drop, K: Keep, L: Ledgers> 
             }
             Poll::Ready(()) => {
                 self.heard = None;
+                self.parker
+                    .park_timeout(&self.rt, Duration::from_millis(REST));
                 cx.yield_now()
             }
         }
@@ -237,7 +280,7 @@ impl<R: Wait + Drop, S: Service<K, L, Trail = T>, T: Drop, K: Keep, L: Ledgers> 
                     self.is_ended = true;
                     return Poll::Ready(Some(Err(refused)));
                 }
-                Ok(Found::Line(line)) => return Poll::Ready(Some(Ok(line))),
+                Ok(Found::Piece(piece)) => return Poll::Ready(Some(Ok(piece))),
                 Ok(Found::Nothing) => return self.poll_on(cx),
                 Ok(Found::Passed) => {}
             }

@@ -5,7 +5,7 @@ ghost use Rattle.serde_json.specs.View.{view};
 ghost use Rattle.long_poll.specs.Views as spec;
 
 use call_model::Stats;
-use lambda_wire::{Headers, Reply, json_headers, text_headers, write_reservation};
+use lambda_wire::{Headers, Reply, fault_reply, json_headers, text_headers, write_reservation};
 use serde_json::{Value, json};
 use std::alloc::{AllocError, Global};
 
@@ -56,4 +56,16 @@ pub fn reservation_reply(alloc: Global, count: Option<u32>) -> Result<Reply, All
     ensures { IfOk result (λ reply. reply ≡ spec.reservation_reply count) }
 {
     Reply::of(200, json_headers(alloc), write_reservation(alloc, count))
+}
+
+/// Makes the reply to a connection that asks to follow a trace if as many follow one as may at once.
+pub(crate) fn followers_reply(alloc: Global) -> Result<Reply, AllocError>
+    ensures { IfOk result (λ reply. reply ≡ spec.followers_reply) }
+{
+    fault_reply(
+        alloc,
+        503,
+        "64 connections follow the trace, as many as may at once",
+        "TooManyFollowers",
+    )
 }

@@ -6,6 +6,7 @@ mod WithinLemmas
 mod NumberLemmas
 mod SplitLemmas
 mod Fronts
+mod Coded
 pub mod ReadAgain
 pub mod WordBounds
 pub mod LineBounds

@@ -1,32 +1,37 @@
-//! The text of an entry before its bodies are escaped.
+//! A text before its bodies are written, which is taken in pieces.
 
-ghost use Rattle.std.specs.Prelude.{◌≡◌, [], IfOk};
+ghost use Rattle.std.specs.Prelude.{◌≡◌, ◌<◌, ◌↔◌, ◌++◌, [], length, IsTrue, OnOk, OnErr, IfOk};
 ghost use Rattle.std.specs.List.{flat_map};
-ghost use Rattle.script.specs.Drafts.{part_text};
-ghost use Rattle.script.specs.Writing.{Adds};
+ghost use Rattle.script.specs.Drafts.{coded, part_text, slice_of};
 
+use crate::coding::{Coding, push_coded};
 use crate::sink::Sink;
-use crate::words::{escaped_length, push_escaped};
+use crate::words::push_escaped;
 use bytes::Bytes;
 use std::alloc::{AllocError, Global};
+use std::collections::VecDeque;
 use std::marker::Model;
 use std::mem;
+
+/// Up to so many bytes are one piece, if they are all that is left.
+const PIECE: usize = 65_536;
 
 /// A text, and the body that follows it.
 #[derive(Drop)]
 pub(crate) struct Part {
     text: Vec<u8>,
+    coding: Coding,
     body: Bytes,
 }
 
-/// The text of an entry in which no body is escaped yet: short texts, and between them the bodies, which
-/// it shares with the history. So it takes little time and memory, whatever the length of the bodies: a
-/// caller makes it under a lock, and finishes it after the lock is released. Contracts see the text that
-/// it becomes.
+/// A text in which no body is written yet: short texts, and between them the bodies, which it shares with the
+/// history. So it takes little time and memory, whatever the length of the bodies: a caller makes it under a lock,
+/// and *takes* it piece by piece after the lock is released. A piece has the bodies written out, of which no other
+/// piece is in memory. Contracts see the text that is left.
 #[derive(Drop)]
 pub struct Draft {
     alloc: Global,
-    parts: Vec<Part>,
+    parts: VecDeque<Part>,
     last: Vec<u8>,
 }
 
@@ -40,62 +45,178 @@ impl Model for Draft {
     ghost view = { λ d. flat_map part_text d.parts.items ++ d.last.items };
 }
 
-/// Adds parts, their bodies percent-encoded.
-fn push_parts(out: &mut Vec<u8>, parts: &[Part]) -> Result<(), AllocError>
-    ensures { Adds result (flat_map part_text parts.now) out.old.items out.new.items }
+fn push_part(alloc: Global, out: &mut Vec<u8>, part: &Part) -> Result<(), AllocError>
+    ensures { OnOk result (out.new.items ≡ out.old.items ++ part_text part.now) }
 {
-    for part in parts {
-        push_part(out, part)?;
+    out.extend_from_slice(&part.text)?;
+    push_coded(alloc, out, part.coding, part.body.as_slice())
+}
+
+/// Adds parts, the first one first, until none is left.
+fn push_parts(
+    alloc: Global,
+    out: &mut Vec<u8>,
+    parts: &mut VecDeque<Part>,
+) -> Result<(), AllocError>
+    ensures { OnOk result ((out.new.items ≡ out.old.items ++ flat_map part_text parts.old.items)
+        × (parts.new.items ≡ [])) }
+{
+    while let Some(part) = parts.pop_front() {
+        push_part(alloc, out, &part)?;
     }
     Ok(())
 }
 
-fn push_part(out: &mut Vec<u8>, part: &Part) -> Result<(), AllocError>
-    ensures { Adds result (part_text part.now) out.old.items out.new.items }
+/// Writes a slice of a body.
+fn written(alloc: Global, coding: Coding, body: &Bytes) -> Result<Vec<u8>, AllocError>
+    ensures { IfOk result (λ text. text.items ≡ coded coding body.now) }
 {
-    out.extend_from_slice(&part.text)?;
-    push_escaped(out, part.body.as_slice())
+    let mut text = Vec::new(alloc);
+    text.reserve_exact(coding.most(body.len()))?;
+    push_coded(alloc, &mut text, coding, body.as_slice())?;
+    Ok(text)
 }
 
-/// Returns how much room parts take, their bodies percent-encoded.
-fn room_of(parts: &[Part]) -> usize {
-    let mut room: usize = 0;
-    for part in parts {
-        room = room
-            .saturating_add(part.text.len())
-            .saturating_add(escaped_length(part.body.as_slice()));
+impl Part {
+    /// Returns the most bytes that its text has.
+    fn most(&self) -> usize {
+        self.coding
+            .most(self.body.len())
+            .saturating_add(self.text.len())
     }
-    room
+
+    /// Returns whether its body is too long to be written at once.
+    fn is_long(&self) -> bool
+        ensures { IsTrue result ↔ (slice_of self.now.coding < length self.now.body) }
+    {
+        self.coding.slice() < self.body.len()
+    }
+
+    /// Takes a slice of its body, and writes it.
+    fn take_slice(&mut self, alloc: Global) -> Result<Vec<u8>, AllocError>
+        requires { slice_of self.old.coding < length self.old.body }
+        ensures { IfOk result (λ piece. (self.new.text ≡ self.old.text)
+            × (coded self.old.coding self.old.body ≡ piece.items ++ coded self.new.coding self.new.body)) }
+    {
+        let front = self.body.split_to(self.coding.slice())?;
+        written(alloc, self.coding, &front)
+    }
 }
 
 impl Draft {
     /// Returns an empty text.
-    pub(crate) fn new(alloc: Global) -> Draft
+    pub fn new(alloc: Global) -> Draft
         ensures { result ≡ [] }
+    {
+        Draft::of(alloc, Vec::new(alloc))
+    }
+
+    /// Returns a text that has no body.
+    pub fn of(alloc: Global, text: Vec<u8>) -> Draft
+        ensures { result ≡ text.items }
     {
         Draft {
             alloc,
-            parts: Vec::new(alloc),
-            last: Vec::new(alloc),
+            parts: VecDeque::new(alloc),
+            last: text,
         }
     }
 
-    /// Returns the text. In a body, the bytes below 0x21, `%` and the bytes above 0x7E are
-    /// percent-encoded. It reserves just the memory that the text needs.
+    /// Adds bytes, unchanged.
     ///
     /// # Errors
-    /// Only if memory is refused.
-    pub fn finish(self) -> Result<Vec<u8>, AllocError>
-        ensures { IfOk result (λ text. text.items ≡ self) }
+    /// Only if memory is refused; the text is then as it was.
+    pub fn push(&mut self, bytes: &[u8]) -> Result<(), AllocError>
+        ensures ok { OnOk result (self.new ≡ self.old ++ bytes.now) }
+        ensures err { OnErr result (self.new ≡ self.old) }
     {
+        self.last.extend_from_slice(bytes)
+    }
+
+    /// Adds a body in a coding, and shares it.
+    ///
+    /// # Errors
+    /// Only if memory is refused; the text is then as it was.
+    pub fn share(&mut self, coding: Coding, body: &Bytes) -> Result<(), AllocError>
+        ensures ok { OnOk result (self.new ≡ self.old ++ coded coding body.now) }
+        ensures err { OnErr result (self.new ≡ self.old) }
+    {
+        let body = body.clone()?;
+        self.parts.reserve(1)?;
+        let text = mem::replace(&mut self.last, Vec::new(self.alloc));
+        self.parts.push_back_reserved(Part { text, coding, body });
+        Ok(())
+    }
+
+    /// Returns whether nothing is left.
+    pub fn is_over(&self) -> bool
+        ensures { IsTrue result → self.now ≡ [] }
+    {
+        self.parts.is_empty() && self.last.is_empty()
+    }
+
+    /// Returns the most bytes that are left.
+    fn most(&self) -> usize {
+        let mut most = self.last.len();
+        for part in &self.parts {
+            most = most.saturating_add(part.most());
+        }
+        most
+    }
+
+    /// Takes all that is left.
+    fn take_whole(&mut self) -> Result<Vec<u8>, AllocError>
+        ensures { IfOk result (λ text. (text.items ≡ self.old) × (self.new ≡ [])) }
+    {
+        let most = self.most();
+        let last = mem::replace(&mut self.last, Vec::new(self.alloc));
         if self.parts.is_empty() {
-            return Ok(self.last);
+            return Ok(last);
         }
         let mut text = Vec::new(self.alloc);
-        text.reserve_exact(room_of(&self.parts).saturating_add(self.last.len()))?;
-        push_parts(&mut text, &self.parts)?;
-        text.extend_from_slice(&self.last)?;
+        text.reserve_exact(most)?;
+        push_parts(self.alloc, &mut text, &mut self.parts)?;
+        text.extend_from_slice(&last)?;
         Ok(text)
+    }
+
+    /// Takes the plain text in front of the first body, or behind the last one; or a slice of the first body.
+    fn take_part(&mut self) -> Result<Vec<u8>, AllocError>
+        ensures { IfOk result (λ piece. self.old ≡ piece.items ++ self.new) }
+    {
+        let Some(mut part) = self.parts.pop_front() else {
+            return Ok(mem::replace(&mut self.last, Vec::new(self.alloc)));
+        };
+        if !part.text.is_empty() {
+            let piece = mem::replace(&mut part.text, Vec::new(self.alloc));
+            self.parts.push_front(part).map_err(AllocError::from)?;
+            return Ok(piece);
+        }
+        if !part.is_long() {
+            return written(self.alloc, part.coding, &part.body);
+        }
+        let piece = part.take_slice(self.alloc)?;
+        self.parts.push_front(part).map_err(AllocError::from)?;
+        Ok(piece)
+    }
+
+    /// Takes the first piece of the text that is left: all of it, if that has at most 64 KiB; otherwise a plain text
+    /// between two bodies, or up to 65,520 bytes of a body. It is empty only if nothing is left.
+    ///
+    /// # Errors
+    /// Only if memory is refused. What is then left is not stated.
+    pub fn take(&mut self) -> Result<Vec<u8>, AllocError>
+        ensures joined { IfOk result (λ piece. self.old ≡ piece.items ++ self.new) }
+        ensures some { IfOk result (λ piece. piece.items ≡ [] → self.old ≡ []) }
+    {
+        if self.most() <= PIECE {
+            return self.take_whole();
+        }
+        let piece = self.take_part()?;
+        if piece.is_empty() {
+            return self.take_whole();
+        }
+        Ok(piece)
     }
 }
 
@@ -103,19 +224,14 @@ impl Sink for Draft {
     ghost text = { λ d. d };
 
     fn push_bytes(&mut self, bytes: &[u8]) -> Result<(), AllocError> {
-        self.last.push_bytes(bytes)
+        self.push(bytes)
     }
 
     fn push_escaped(&mut self, bytes: &[u8]) -> Result<(), AllocError> {
         push_escaped(&mut self.last, bytes)
     }
 
-    /// Shares the body.
     fn push_body(&mut self, body: &Bytes) -> Result<(), AllocError> {
-        let body = body.clone()?;
-        self.parts.reserve(1)?;
-        let text = mem::replace(&mut self.last, Vec::new(self.alloc));
-        self.parts.push_reserved(Part { text, body });
-        Ok(())
+        self.share(Coding::Percent, body)
     }
 }

@@ -4,6 +4,7 @@
 mod answer_writer;
 mod call_reader;
 mod call_writer;
+mod coding;
 mod draft;
 mod fields;
 pub mod laws;
@@ -14,4 +15,5 @@ mod words;
 
 pub use answer_writer::{draft_entry, push_answers};
 pub use call_reader::read_call;
+pub use coding::Coding;
 pub use draft::Draft;

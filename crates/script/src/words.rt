@@ -46,15 +46,6 @@ pub(crate) fn push_escaped(out: &mut Vec<u8>, bytes: &[u8]) -> Result<(), AllocE
     push_pieces(out, percent_encode(bytes, ESCAPED))
 }
 
-/// Returns the length of these bytes when they are percent-encoded.
-pub(crate) fn escaped_length(bytes: &[u8]) -> usize {
-    let mut length: usize = 0;
-    for piece in percent_encode(bytes, ESCAPED) {
-        length = length.saturating_add(piece.len());
-    }
-    length
-}
-
 fn push_number<W: Sink>(out: &mut W, number: u64) -> Result<(), AllocError>
     ensures { Adds result (decimal number) (W.text out.old) (W.text out.new) }
 {

@@ -1,5 +1,7 @@
 -- What is told, token by token.
 mod Telling
+-- What is written in one go, and run by run.
+mod Runs
 -- The names of functions.
 mod Names
 -- The history before an entry.

@@ -1,5 +1,5 @@
 -- How an object is told, token by token, and how what was told is written.
-use Rattle.std.specs.Prelude.{◌≡◌, true, false, ℕ, List, [], ◌∷◌, ◌++◌, map, decimal, Option, Some, None, Result, OnOk}
+use Rattle.std.specs.Prelude.{◌≡◌, Bool, true, false, ℕ, List, [], ◌∷◌, ◌++◌, map, decimal, Option, Some, None, Result, OnOk}
 use Rattle.std.specs.List.{flat_map}
 use Rattle.uuid.specs.Text.{hyphenated_text, lower}
 use Rattle.json.specs.Token.{Token, begin_object, end_object, begin_array, end_array, key, string, number, boolean}
@@ -41,6 +41,16 @@ run_tokens run = map part_token run.parts.items ++ inset_tokens run.inset
 -- The tokens of runs, one after the other, and of the parts behind them.
 abbrev pub tokens_of : List Run → List Part → List Token
 tokens_of runs parts = flat_map run_tokens runs ++ map part_token parts
+
+-- The tokens that are written at the beginning, or behind a value: there an empty string takes the value's place.
+abbrev pub primed : Bool → List Token → List Token
+primed false tokens = tokens
+primed true tokens = string [] ∷ tokens
+
+-- The text of the empty string.
+abbrev pub quotes : Bool → List ℕ
+quotes false = []
+quotes true = 34 ∷ 34 ∷ []
 
 -- These tokens were told after those before, unless memory ran out.
 pub record Tells (added : List Token) (old new : Teller) : Type 0 where

@@ -11,9 +11,11 @@ ghost use Rattle.uuid.specs.Text.{hyphenated_text, lower};
 ghost use Rattle.trace.specs.Members.{body_member, text_member};
 ghost use Rattle.trace.specs.Telling.{Adds, inset_tokens, part_token, run_tokens, tokens_of};
 
+use crate::line::line_of;
 use crate::part::{Inset, Part, Run};
 use base64::engine::general_purpose::STANDARD;
 use json::Writer;
+use script::Draft as Text;
 use std::alloc::{AllocError, Global};
 use std::marker::Model;
 use std::{mem, str};
@@ -21,6 +23,9 @@ use uuid::Uuid;
 
 /// Room for the line of most entries without their bodies.
 const LINE: usize = 512;
+
+/// The most bytes of bodies that a line is written with at once.
+const SHORT: usize = 8_192;
 
 /// The object of an entry before it is written: its tokens, and the bodies, which it shares with the
 /// history. So it takes little time and memory, whatever the length of the bodies: a caller makes it under
@@ -96,7 +101,7 @@ fn write_part(writer: &mut Writer, part: &Part) -> Result<(), AllocError>
 }
 
 /// Writes parts, one after the other.
-fn write_parts(writer: &mut Writer, parts: &[Part]) -> Result<(), AllocError>
+pub(crate) fn write_parts(writer: &mut Writer, parts: &[Part]) -> Result<(), AllocError>
     ensures { Adds result (map part_token parts.now) writer.old writer.new }
 {
     for part in parts {
@@ -170,6 +175,30 @@ impl Draft {
         }
         *out = text;
         Ok(())
+    }
+
+    /// Returns whether its bodies are short.
+    fn is_short(&self) -> bool {
+        let mut length: usize = 0;
+        for run in &self.runs {
+            length = length.saturating_add(run.inset.body_len());
+        }
+        length <= SHORT
+    }
+
+    /// Returns the object's line as a text that is taken in pieces: the object, and a line feed. It shares the
+    /// bodies, unless they are short.
+    ///
+    /// # Errors
+    /// Only if memory is refused.
+    pub fn line(self) -> Result<Text, AllocError>
+        ensures { IfOk result (λ line. line ≡ print self ++ 10 ∷ []) }
+    {
+        let alloc = self.alloc;
+        if self.is_short() {
+            return Ok(Text::of(alloc, self.finish()?));
+        }
+        line_of(alloc, &self.runs, &self.parts)
     }
 
     /// Returns the object's line: the object, and a line feed. A reader of JSON reads the object's own

@@ -10,6 +10,7 @@ mod draft;
 mod environment_object;
 mod follower;
 pub mod laws;
+mod line;
 mod listing;
 mod object;
 mod part;

@@ -36,6 +36,16 @@ pub(crate) enum Inset {
     Body(Bytes),
 }
 
+impl Inset {
+    /// Returns how many bytes it shares with the history.
+    pub(crate) fn body_len(&self) -> usize {
+        match self {
+            Inset::Copied(_) => 0,
+            Inset::Body(body) => body.len(),
+        }
+    }
+}
+
 /// Parts, and the inset behind them.
 #[derive(Drop)]
 pub(crate) struct Run {

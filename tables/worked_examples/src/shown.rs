@@ -2,6 +2,8 @@
 
 use case_tables::Given;
 use lambda_wire::Headers;
+use script::Draft;
+use std::alloc::AllocError;
 use std::fmt::Debug;
 
 /// Adds a value as a line.
@@ -27,4 +29,14 @@ pub fn push_headers(given: &mut Given, headers: &Headers) {
         given.push(": ");
         push_line(given, value.as_bytes());
     }
+}
+
+/// Takes a text, piece by piece.
+pub fn taken(mut draft: Draft) -> Result<Vec<u8>, AllocError> {
+    let mut text = draft.take()?;
+    while !draft.is_over() {
+        let piece = draft.take()?;
+        text.extend_from_slice(piece.as_slice())?;
+    }
+    Ok(text)
 }

@@ -10,7 +10,7 @@ use account_lock::{Account, Desk, Identity, Look, Refused};
 use arn_ids::{Checked, FnNo};
 use call_model::{Stats, Ticket};
 use lambda_wire::Reply;
-use script::read_call;
+use script::{Draft, read_call};
 use std::alloc::{AllocError, Global};
 use std::sync::{Arc, Wait};
 use usage_ledger::{Blanks, Keep, Tally, Token, root};
@@ -77,6 +77,19 @@ fn untaken(refused: &Refused<Numbered>) -> Taken {
         (Refusal::JournalFull, true) => Taken::Full,
         (Refusal::JournalFull, false) => Taken::BellGone,
     }
+}
+
+/// Takes the text of an entry, if there is one, piece by piece.
+fn taken(draft: Result<Option<Draft>, AllocError>) -> Result<Option<Vec<u8>>, AllocError> {
+    let Some(mut draft) = draft? else {
+        return Ok(None);
+    };
+    let mut text = draft.take()?;
+    while !draft.is_over() {
+        let piece = draft.take()?;
+        text.extend_from_slice(piece.as_slice())?;
+    }
+    Ok(Some(text))
 }
 
 impl<R: Wait, S: Identity> Place<R, S> {
@@ -158,7 +171,7 @@ impl<R: Wait, S: Identity> Place<R, S> {
             Question::Render(ticket) => Said::Reply(account.render(rt, token, ticket)),
             Question::Environments => Said::Text(account.environments(rt, token)),
             Question::Opening => Said::Text(account.opening(rt)),
-            Question::History(ticket) => Said::Entry(account.history(rt, token, ticket)),
+            Question::History(ticket) => Said::Entry(taken(account.history(rt, token, ticket))),
         }
     }
 }

@@ -8,6 +8,7 @@ use futures::task::{Context, Poll};
 use http::request::Parts;
 use http_body::{Body, Frame};
 use http_uri::{Uri, UriError};
+use long_poll::BodyFault;
 use std::alloc::{AllocError, Global};
 
 /// The most letters in a piece.
@@ -21,12 +22,22 @@ pub struct Pieces {
     is_broken: bool,
 }
 
+/// A body that breaks off. Memory is not what it lacks.
+#[derive(Drop)]
+pub struct BrokenOff;
+
+impl BodyFault for BrokenOff {
+    fn is_out_of_memory(&self) -> bool {
+        false
+    }
+}
+
 impl Body for Pieces {
     type Data = Bytes;
 
-    type Error = ();
+    type Error = BrokenOff;
 
-    fn poll_frame(&mut self, _cx: &mut Context<'_>) -> Poll<Option<Result<Frame<Bytes>, ()>>> {
+    fn poll_frame(&mut self, _cx: &mut Context<'_>) -> Poll<Option<Result<Frame<Bytes>, BrokenOff>>> {
         if self.left > 0 {
             self.left -= 1;
             if let Ok(piece) = self.piece.clone() {
@@ -35,7 +46,7 @@ impl Body for Pieces {
         } else if !self.is_broken {
             return Poll::Ready(None);
         }
-        Poll::Ready(Some(Err(())))
+        Poll::Ready(Some(Err(BrokenOff)))
     }
 }
 

@@ -7,6 +7,7 @@ use call_model::{Answer, Call, Stats, Ticket};
 use case_tables::Given;
 use lambda_wire::{Reply, fault_reply};
 use long_poll::{OneShotBell, Service};
+use script::Draft;
 use std::alloc::{AllocError, Global};
 use std::sync::Wait;
 use std::sync::atomic::AtomicU64;
@@ -60,6 +61,14 @@ impl<S: Identity> Board<S> {
         given.push(" submitted, the last at ");
         given.print(&self.last.load(SeqCst));
         given.push("\n");
+    }
+
+    /// Makes a text without a body.
+    fn text(&self, text: &str) -> Result<Draft, AllocError> {
+        Ok(Draft::of(
+            self.alloc,
+            String::from_str(self.alloc, text)?.into_bytes(),
+        ))
     }
 
     /// Takes a call, or refuses it.
@@ -184,9 +193,9 @@ impl<S: Identity> Service<KeepNone, S> for Board<S> {
         _rt: &R,
         _token: &mut Token<S>,
         ticket: Ticket,
-    ) -> Result<Option<Vec<u8>>, AllocError> {
+    ) -> Result<Option<Draft>, AllocError> {
         match ticket {
-            0 | 1 => Ok(Some(String::from_str(self.alloc, "an entry\n")?.into_bytes())),
+            0 | 1 => Ok(Some(self.text("an entry\n")?)),
             _ => Ok(None),
         }
     }
@@ -200,11 +209,9 @@ impl<S: Identity> Service<KeepNone, S> for Board<S> {
         rt: &R,
         trail: &mut Ticket,
         _bodies: bool,
-    ) -> Result<Option<Vec<u8>>, AllocError> {
+    ) -> Result<Option<Draft>, AllocError> {
         if self.pass(rt, trail) {
-            return Ok(Some(
-                String::from_str(self.alloc, "{\"an\":\"entry\"}\n")?.into_bytes(),
-            ));
+            return Ok(Some(self.text("{\"an\":\"entry\"}\n")?));
         }
         Ok(None)
     }

@@ -9,7 +9,7 @@ use arn_ids::LONGEST_BODY;
 use bytes::Bytes;
 use call_model::{Call, Ticket};
 use case_tables::{CaseFault, value_of};
-use decisions::{Decide, Decision, Shown};
+use decisions::{Decide, Decision, Received, Shown};
 use http::request::Parts;
 use lambda_wire::{PayloadScratch, Reply, fault_reply, json_headers};
 use long_poll::{Clock, Heard, OneShotBell, Service};
@@ -187,9 +187,12 @@ impl<S: Identity> Decide for Rows<S> {
         alloc: Global,
         _scratch: &mut PayloadScratch,
         parts: &Parts,
-        body: &Bytes,
+        body: &Received,
     ) -> Result<Decision, AllocError> {
         let _of = &self.of;
+        let Some(body) = body.bytes() else {
+            return self.replied(fault_reply(alloc, 413, "too large", "TooLarge"));
+        };
         match value_of(&PATHS, parts.uri.path()).unwrap_or(Asked::Length) {
             Asked::Next => Ok(Decision::Submit(Call::RuntimeNext { env: 1 })),
             Asked::Invoke => self.call(alloc, body, false),
@@ -207,9 +210,5 @@ impl<S: Identity> Decide for Rows<S> {
             Asked::Echo => self.replied(echo_of(alloc, body)),
             Asked::Length => self.replied(length_of(alloc, body)),
         }
-    }
-
-    fn decide_too_long(&self, alloc: Global, _parts: &Parts) -> Result<Decision, AllocError> {
-        self.replied(fault_reply(alloc, 413, "too large", "TooLarge"))
     }
 }

@@ -7,6 +7,7 @@ use crate::parts::histories::past::Past;
 use crate::parts::lines::{Calls, LineFault, Words, make_calls};
 use crate::parts::script_calls::call_of;
 use crate::parts::written_answers::answer_of;
+use crate::shown::taken;
 use arn_ids::Checked;
 use call_model::{Answer, Answers, Entry, Ticket};
 use case_tables::{Case, CaseFault, Given};
@@ -43,7 +44,7 @@ fn say_entry(
         past.counts(),
         number as usize,
     )?;
-    let written = draft.finish()?;
+    let written = taken(draft)?;
     given.push_bytes(written.as_slice());
     Ok(())
 }

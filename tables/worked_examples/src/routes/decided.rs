@@ -4,6 +4,7 @@ ghost use Rattle.std.specs.Prelude.{◌≡◌, [], ◌∷◌, IfOk};
 ghost use Rattle.call_model.specs.CallCounts.{request_count};
 
 use crate::routes::port::PortOfCase;
+use crate::shown::taken;
 use arn_ids::Checked;
 use bytes::Bytes;
 use call_model::{Answers, Call, Entry, Ticket};
@@ -11,7 +12,7 @@ use case_tables::Given;
 use entry_blocks::Blocks;
 use http::request::Parts;
 use http_header::HeaderMap;
-use http_routes::{Decision, Shown};
+use http_routes::{Decision, Received, Shown};
 use lambda_wire::{PayloadScratch, Reply};
 use script::draft_entry;
 use std::alloc::{AllocError, Global};
@@ -27,7 +28,7 @@ pub fn decided(
     body: &Bytes,
 ) -> Result<Decision, AllocError> {
     let mut scratch = PayloadScratch::new();
-    port.side.decide(alloc, &mut scratch, head, body)
+    port.side.decide(alloc, &mut scratch, head, &Received::whole(body.clone()?))
 }
 
 /// Returns the count in the request identifier of the only call of a history.
@@ -61,7 +62,7 @@ fn line_of(alloc: Global, config: &Checked, call: Call) -> Result<Vec<u8>, Alloc
     let count = count_of(&entry);
     let entries = row_of(alloc, entry)?;
     let counts = row_of(alloc, count)?;
-    draft_entry(alloc, config, 0, &entries, &counts, 0)?.finish()
+    taken(draft_entry(alloc, config, 0, &entries, &counts, 0)?)
 }
 
 /// Adds a script's line. If it ends with the request's body and that is long, adds the body's

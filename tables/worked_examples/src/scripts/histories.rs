@@ -1,6 +1,7 @@
 //! The text of a history, from a book that took a script.
 
 use crate::scripts::taking::{Unopened, open_book, take};
+use crate::shown::taken;
 use account_book::Book;
 use call_model::Ticket;
 use std::alloc::{AllocError, Global};
@@ -26,7 +27,7 @@ fn take_lines(
 /// Adds the text of the entry with this ticket.
 fn push_entry(text: &mut Vec<u8>, book: &Book, ticket: Ticket) -> Result<(), AllocError> {
     match book.history(ticket) {
-        Ok(Some(draft)) => text.extend_from_slice(draft.finish()?.as_slice()),
+        Ok(Some(draft)) => text.extend_from_slice(taken(draft)?.as_slice()),
         Ok(None) => Ok(()),
         Err(fault) => Err(fault),
     }

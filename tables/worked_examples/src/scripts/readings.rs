@@ -2,7 +2,7 @@
 
 use crate::scripts::questions::Question;
 use crate::scripts::texts::push_bytes;
-use crate::shown::{push_headers, push_line, tell};
+use crate::shown::{push_headers, push_line, taken, tell};
 use account_book::Book;
 use arn_ids::FnNo;
 use call_model::{Answer, Ticket};
@@ -21,7 +21,7 @@ fn push_number(given: &mut Given, number: Option<u64>, behind: &str) {
 
 /// Adds the text of an entry as lines, unless an allocation fails.
 fn push_draft(given: &mut Given, draft: Draft) {
-    match draft.finish() {
+    match taken(draft) {
         Ok(text) => push_bytes(given, text.as_slice()),
         Err(_) => given.cut(),
     }

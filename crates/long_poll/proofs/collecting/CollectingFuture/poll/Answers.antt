@@ -16,7 +16,7 @@ returns-in-None-clause-value g c =
 
 pub returns-in-Some-Err-clause-value : goal.returns-in-Some-Err-clause-value
 returns-in-Some-Err-clause-value g c =
-    c.loop.invariant.2 (Err BodyFailed) (collects_failure g.B.Data.Into.converts (g.B.Body.yields c.loop.self.body) c.loop.self.held c.in-Some-Err.field-0-0 (search rules))
+    c.loop.invariant.2 (Err BodyFailed) (collects_failure g.B.Data.Into.converts (g.B.Body.yields c.loop.self.body) c.loop.self.held c.in-Some-Err.fault (search rules))
 
 pub returns-in-Ok-true-clause-value : goal.returns-in-Ok-true-clause-value
 returns-in-Ok-true-clause-value g c =

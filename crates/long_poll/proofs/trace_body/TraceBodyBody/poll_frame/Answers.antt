@@ -1,5 +1,4 @@
 use Rattle.std.proofs.Common.{rules, inl, inr, ◌∙◌}
-use Rattle.std.specs.Arc.{arc_value}
 use Rattle.std.specs.declared.alloc.AllocError.{AllocError}
 use Rattle.long_poll.proofs.Beginnings.{once_ready}
 use Rattle.long_poll.proofs.Tracing.{while_both, fails_now, stops_now, shows_now, shows_first, later}
@@ -9,17 +8,17 @@ pub returns-in-Err-clause-value : goal.returns-in-Err-clause-value
 returns-in-Err-clause-value g c =
     c.loop.invariant.2 _ _ (fails_now g.S.Service c.loop.self c.loop.self c.loop.invariant.1 c.in-Err.refused)
 
-pub returns-in-Ok-Line-clause-value : goal.returns-in-Ok-Line-clause-value
-returns-in-Ok-Line-clause-value g c =
-    let found = rw c.in-Ok-Line.field-0-is at c.in-Ok-Line.ensures.found in
-    c.loop.invariant.2 _ _ (shows_now AllocError g.S.Service c.loop.self c.look.new.self c.loop.invariant.1 c.in-Ok-Line.line found)
+pub returns-in-Ok-Piece-clause-value : goal.returns-in-Ok-Piece-clause-value
+returns-in-Ok-Piece-clause-value g c =
+    let found = rw c.in-Ok-Piece.field-0-is at c.in-Ok-Piece.ensures.found in
+    c.loop.invariant.2 _ _ (shows_now AllocError g.S.Service c.loop.self c.look.new.self c.loop.invariant.1 c.in-Ok-Piece.piece found)
 
-pub returns-in-Ok-Line-clause-rest : goal.returns-in-Ok-Line-clause-rest
-returns-in-Ok-Line-clause-rest g c = λ xs last rest.
-    let found = rw c.in-Ok-Line.field-0-is at c.in-Ok-Line.ensures.found in
+pub returns-in-Ok-Piece-clause-rest : goal.returns-in-Ok-Piece-clause-rest
+returns-in-Ok-Piece-clause-rest g c = λ xs last rest.
+    let found = rw c.in-Ok-Piece.field-0-is at c.in-Ok-Piece.ensures.found in
     let same = c.look.ensures.same in
     c.loop.invariant.2 _ _ (shows_first g.S.Service c.loop.self c.look.new.self c.loop.invariant.1
-    (same.2 ∙ c.loop.invariant.1) same.0 same.1 c.in-Ok-Line.line found xs last rest)
+    (same.2 ∙ c.loop.invariant.1) same.0 same.1 c.in-Ok-Piece.piece found xs last rest)
 
 pub returns-in-Ok-Nothing-clause-value : goal.returns-in-Ok-Nothing-clause-value
 returns-in-Ok-Nothing-clause-value g c =
