@@ -4,9 +4,9 @@ use Rattle.arn_ids.specs.Limits.{longest_body}
 use Rattle.arn_ids.specs.declared.config.Config.{Config}
 use Rattle.call_types.specs.Within.{IsWithin, IsFunction}
 use Rattle.decisions.specs.declared.decide.Shown.{Shown}
-use Rattle.decisions.specs.declared.decide.Shown.TheVariants.{Stats, History, Trace, Environments, Reservation}
+use Rattle.decisions.specs.declared.decide.Shown.TheVariants.{Stats, History, Trace, Environments, Reservation, Version}
 use Rattle.decisions.specs.declared.decide.Decision.{Decision}
-use Rattle.decisions.specs.declared.decide.Decision.TheVariants.{Submit, Reply, Show}
+use Rattle.decisions.specs.declared.decide.Decision.TheVariants.{Submit, Reply, Show, Clock}
 
 -- What is shown exists: a reservation is that of a function of the configuration.
 abbrev pub IsThere : Config → Shown → Type 0
@@ -15,6 +15,7 @@ IsThere config (History from) = Unit {0}
 IsThere config (Trace from follow bodies) = Unit {0}
 IsThere config Environments = Unit {0}
 IsThere config (Reservation f) = IsFunction config f
+IsThere config Version = Unit {0}
 
 -- A decision that an account can carry out: its call is within the limits of the configuration, as a book requires of
 -- each call, and what it shows exists.
@@ -22,6 +23,7 @@ abbrev pub IsAllowed : Config → Decision → Type 0
 IsAllowed config (Submit call) = IsWithin config call
 IsAllowed config (Reply reply) = Unit {0}
 IsAllowed config (Show shown) = IsThere config shown
+IsAllowed config (Clock request) = Unit {0}
 
 -- The decision is that on this body; if the body is too long, it is that on every body that is too long.
 abbrev pub IsOn : (List ℕ → Decision → Type 0) → List ℕ → Decision → Type 0

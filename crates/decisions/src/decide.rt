@@ -39,6 +39,25 @@ pub enum Shown {
         /// The function's number, from 1.
         function: FnNo,
     },
+    /// The version of the service.
+    Version,
+}
+
+/// What is asked of the clock that gives the moments of calls. It is answered with the clock's reading, and whether
+/// it is running.
+#[derive(Clone, Copy, Debug, PartialEq, Eq)]
+pub enum ClockRequest {
+    /// Only to be shown.
+    Show,
+    /// To be set forward, after which a Tick lets everything that is then due expire.
+    Advance {
+        /// By how many milliseconds, from 1.
+        milliseconds: u64,
+    },
+    /// To stand still. A paused clock is left as it is.
+    Pause,
+    /// To go on from where it stands. A running clock is left as it is.
+    Resume,
 }
 
 /// What is done with a request.
@@ -50,6 +69,8 @@ pub enum Decision {
     Reply(Reply),
     /// Something of the account is shown, without a call.
     Show(Shown),
+    /// Something is asked of the clock.
+    Clock(ClockRequest),
 }
 
 /// Decides requests for one configuration, by a relation that the implementation names.
