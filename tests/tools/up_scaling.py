@@ -85,6 +85,15 @@ class UpScaling(Case):
         self.check("and come again when they are needed", len(processes(at_once(up, 2, sleep=3))), 2)
         self.check("nothing is left of them", up.end(), (0, []))
 
+    def test_one_after_the_other(self):
+        up = scaled({"min": 1, "max": 6})
+        up.until("[up] ready", 60)
+        seen = [up.invoke(patience=0)[0] for _ in range(100)]
+        self.check("a caller that invokes again and again stays with one process", len(processes(seen)), 1)
+        seen = at_once(up, 6, sleep=3)
+        self.check("six callers at once get six processes", len(processes(seen)), 6)
+        self.check("nothing is left of the six", up.end(), (0, []))
+
     def test_from_nothing(self):
         up = scaled({"min": 0, "max": 2})
         self.check("with none at the start it is ready at once", up.until("[up] ready", 60))

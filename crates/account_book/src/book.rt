@@ -376,9 +376,9 @@ impl Book {
     }
 
     /// Whether a call is premature if it is handed in at a moment in milliseconds: it is an Invoke that
-    /// would be throttled, while an environment in its way has answered its invocation and is not ready
-    /// again. No call is premature after a Stop, if the function's reservation is 0, or if an environment
-    /// is due, whose expiry may clear the way.
+    /// would be throttled, or would start an environment, while an environment in its way has answered
+    /// its invocation and is not ready again. No call is premature after a Stop, if the function's
+    /// reservation is 0, or if an environment is due, whose expiry may clear the way.
     #[tactic(auto, unfolding(crate::specs::Premature::premature))]
     pub fn is_premature(&self, now: u64, call: &Call) -> bool
         requires within { IsWithin self.now.config call.now }

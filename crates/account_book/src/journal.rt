@@ -13,7 +13,7 @@ ghost use Rattle.call_model.specs.Answers.{reserve_answer, verdict_answer};
 ghost use Rattle.call_model.specs.Counts.{stats};
 ghost use Rattle.call_model.specs.History.{answer_of, is_expiry, stopped};
 ghost use Rattle.call_model.specs.Life.{phase};
-ghost use Rattle.call_model.specs.Limits.{place_for, reservation, verdict, admitted_to};
+ghost use Rattle.call_model.specs.Limits.{place_for, reservation, verdict, admitted_to, Admits};
 ghost use Rattle.call_model.specs.Next.{IsLegal, Follows, entry_of, entered, due, last_moment, expiries_at, first};
 ghost use Rattle.env_phase.specs.Meeting.{known_at};
 ghost use Rattle.env_phase.specs.Taking.{registered_name, is_off};
@@ -29,9 +29,10 @@ use crate::answering::{answer_call, count_call};
 use crate::fleet::{Arrival, Fleet};
 use crate::ledger::Ledger;
 use crate::opening::open_counts;
+use crate::premature::is_unstarted;
 use crate::room::Roomy;
 use arn_ids::{Checked, EnvNo, FnNo};
-use call_model::{Answer, Call, Entry, Rejection, Stats, Ticket};
+use call_model::{Answer, Call, Entry, Rejection, Stats, Throttle, Ticket};
 use entry_blocks::Blocks;
 use env_phase::Environment;
 use std::alloc::{AllocError, Global};
@@ -292,8 +293,21 @@ impl Journal {
         }
     }
 
-    /// Whether an Invoke of a function would be throttled, while an environment in its way has answered
-    /// its invocation and is not ready again.
+    /// Whether an Invoke of a function that is admitted to this environment would start it, while another
+    /// one of the function has answered its invocation and is not ready again.
+    fn would_start_beside(&self, function: FnNo, env: EnvNo) -> bool
+        requires from_one { 1 ≤ env }
+        requires there { env ≤ length (owners self.now.config) }
+        ensures { result ≡ would_be_premature self.now.config self.now.history function (Admits env) }
+    {
+        is_unstarted(self.environment(env).phase())
+            && self
+                .fleet
+                .has_answered_in_way(Throttle::Environments, function)
+    }
+
+    /// Whether an Invoke of a function would be throttled, or would start an environment, while an
+    /// environment in its way has answered its invocation and is not ready again.
     pub fn would_be_premature(&self, function: FnNo) -> bool
         requires from_one { 1 ≤ function }
         requires there { function ≤ length self.now.config.functions }
@@ -304,7 +318,7 @@ impl Journal {
             return false;
         }
         match self.fleet.admit(function) {
-            Ok(_) => false,
+            Ok(env) => self.would_start_beside(function, env),
             Err(reason) => self.fleet.has_answered_in_way(reason, function),
         }
     }

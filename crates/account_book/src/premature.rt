@@ -5,12 +5,19 @@ ghost use Rattle.std.specs.List.{list_any};
 ghost use Rattle.concurrency_pool.specs.Pools.{usage_at};
 ghost use Rattle.env_phase.specs.Taking.{has_answered};
 ghost use Rattle.account_book.specs.Fleets.{IsOwned};
-ghost use Rattle.account_book.specs.Premature.{in_way};
+ghost use Rattle.account_book.specs.Premature.{in_way, is_unstarted};
 
 use crate::site::Site;
 use arn_ids::FnNo;
-use call_model::Throttle;
+use call_model::{Phase, Throttle};
 use concurrency_pool::Pool;
+
+/// Whether nothing has started an environment in this phase: it is in Init, whose time does not run.
+pub(crate) fn is_unstarted(phase: Phase) -> bool
+    ensures { result ≡ is_unstarted phase }
+{
+    matches!(phase, Phase::Starting { deadline: None, .. })
+}
 
 /// Whether what the function `own` has in flight is in the way of an Invoke of `function` that is refused
 /// for this reason.

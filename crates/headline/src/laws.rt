@@ -17,6 +17,7 @@ ghost use Rattle.call_types.specs.declared.stats.Stats.{Stats};
 ghost use Rattle.call_model.specs.Sample.{one};
 ghost use Rattle.account_book.specs.ReplyText.{reply_text};
 ghost use Rattle.account_lock.specs.Shown.{Sees};
+ghost use Rattle.headline.specs.AnyOutput.{HasOutput, HasPayload, IsSent};
 ghost use Rattle.headline.specs.Headline.{Headline, HasOneFate, IsWithinLimits};
 ghost use Rattle.headline.specs.Refused.{admitted, answered_twice, one_waits, shut, two_wait};
 
@@ -41,6 +42,14 @@ pub fn refuses()
     ensures past { IsWithinLimits shut [] admitted 1 → ⊥ }
     ensures counts { (config : Config) (h : List Entry) (told : Stats) → Headline config h told
         → told ≡ stats config h }
+{}
+
+/// What a response is not held to by being of *some* history that calls led to, which is all that the contract of a
+/// connection says of it: there is one in which an Invoke has whatever output, and one in which a Next gets whatever
+/// payload.
+pub fn any_output()
+    ensures output { (body : List ℕ) → IsSent body → (h : List Entry) × HasOutput body h }
+    ensures payload { (body : List ℕ) → IsSent body → (h : List Entry) × HasPayload body h }
 {}
 
 /// In a configuration without a fault, a function whose reservation is in force is never refused for lack
