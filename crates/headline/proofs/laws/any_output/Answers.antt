@@ -33,8 +33,10 @@ unfolding next added due answers first_answers first_answer second_answer answer
 output body sent = record {
   reached = record {
     calls = answered_with body;
-    taken = ((asks, record { timed = (omega arith, ((omega arith, omega arith), tt, refl)); bytes = tt; room = refl }),
-        record { timed = (omega arith, ((omega arith, omega arith), omega arith, sent.short)); bytes = sent.bytes; room = refl });
+    taken = (
+      (asks, record { timed = (omega arith, ((omega arith, omega arith), tt, refl)); bytes = tt; room = refl }),
+      record { timed = (omega arith, ((omega arith, omega arith), omega arith, sent.short)); bytes = sent.bytes; room = refl },
+    );
     led = refl;
   };
   invoked = refl;

@@ -22,20 +22,20 @@ admit-requires-clause-there c = rw (c.self.invariant.pool_is, many_functions (ar
 pub would_start_beside-requires-clause-from_one : goal.would_start_beside-requires-clause-from_one
 would_start_beside-requires-clause-from_one c =
     let admits : verdict c.args.self.now.config c.args.self.now.history c.args.function ≡ Admits c.in-Ok.env =
-        rw (sym c.self.view_is) (verdict_open (arc_value c.self.inside.config) c.self.inside.ledger.history c.args.function c.self.inside.fleet.pool c.self.inside.fleet.sites c.requires.from_one (rw (ap (λ (p : Pages). length p.config.functions) c.self.view_is) c.requires.there) c.self.invariant.pool_is c.self.invariant.sites_are (sym c.if-is_stopped.ensures) ∙ c.in-Ok.ensures) in
+    rw (sym c.self.view_is) (verdict_open (arc_value c.self.inside.config) c.self.inside.ledger.history c.args.function c.self.inside.fleet.pool c.self.inside.fleet.sites c.requires.from_one (rw (ap (λ (p : Pages). length p.config.functions) c.self.view_is) c.requires.there) c.self.invariant.pool_is c.self.invariant.sites_are (sym c.if-is_stopped.ensures) ∙ c.in-Ok.ensures) in
     (place_for_between c.args.self.now.config c.args.self.now.history (Invoke c.args.function false None []) c.in-Ok.env (ap admitted_to admits)).0
 
 pub would_start_beside-requires-clause-there : goal.would_start_beside-requires-clause-there
 would_start_beside-requires-clause-there c =
     let admits : verdict c.args.self.now.config c.args.self.now.history c.args.function ≡ Admits c.in-Ok.env =
-        rw (sym c.self.view_is) (verdict_open (arc_value c.self.inside.config) c.self.inside.ledger.history c.args.function c.self.inside.fleet.pool c.self.inside.fleet.sites c.requires.from_one (rw (ap (λ (p : Pages). length p.config.functions) c.self.view_is) c.requires.there) c.self.invariant.pool_is c.self.invariant.sites_are (sym c.if-is_stopped.ensures) ∙ c.in-Ok.ensures) in
+    rw (sym c.self.view_is) (verdict_open (arc_value c.self.inside.config) c.self.inside.ledger.history c.args.function c.self.inside.fleet.pool c.self.inside.fleet.sites c.requires.from_one (rw (ap (λ (p : Pages). length p.config.functions) c.self.view_is) c.requires.there) c.self.invariant.pool_is c.self.invariant.sites_are (sym c.if-is_stopped.ensures) ∙ c.in-Ok.ensures) in
     let between = place_for_between c.args.self.now.config c.args.self.now.history (Invoke c.args.function false None []) c.in-Ok.env (ap admitted_to admits) in
     omega (arith, between.1)
 
 pub returns-in-Ok : goal.returns-in-Ok
 returns-in-Ok c =
     let admits : verdict c.args.self.now.config c.args.self.now.history c.args.function ≡ Admits c.in-Ok.env =
-        rw (sym c.self.view_is) (verdict_open (arc_value c.self.inside.config) c.self.inside.ledger.history c.args.function c.self.inside.fleet.pool c.self.inside.fleet.sites c.requires.from_one (rw (ap (λ (p : Pages). length p.config.functions) c.self.view_is) c.requires.there) c.self.invariant.pool_is c.self.invariant.sites_are (sym c.if-is_stopped.ensures) ∙ c.in-Ok.ensures) in
+    rw (sym c.self.view_is) (verdict_open (arc_value c.self.inside.config) c.self.inside.ledger.history c.args.function c.self.inside.fleet.pool c.self.inside.fleet.sites c.requires.from_one (rw (ap (λ (p : Pages). length p.config.functions) c.self.view_is) c.requires.there) c.self.invariant.pool_is c.self.invariant.sites_are (sym c.if-is_stopped.ensures) ∙ c.in-Ok.ensures) in
     c.would_start_beside.ensures ∙ sym (ap (would_be_premature c.args.self.now.config c.args.self.now.history c.args.function) admits)
 
 pub returns-in-Err : goal.returns-in-Err
