@@ -1,8 +1,7 @@
 -- A call that is decided on is within the limits of the configuration, and a function that is shown is there.
-use Rattle.std.proofs.Common.{◌≡◌, ℕ, ◌≤◌, Bool, true, false, cond, nat_lt, List, length, codes, Option, Some, None, Result, Ok, Err, refl}
+use Rattle.std.proofs.Common.{◌≡◌, ℕ, ◌≤◌, Bool, true, false, cond, nat_lt, List, length, codes, bytes_eq, Option, Some, None, option_and_then, Result, Ok, Err, refl}
 use Rattle.std.specs.Result.{IfOk}
 use Rattle.http.specs.Uri.{uri_path}
-use Rattle.http_header.specs.FieldValue.{FieldValue}
 use Rattle.http.specs.declared.request.Parts.{Parts}
 use Rattle.arn_ids.specs.Words.{is_label}
 use Rattle.arn_ids.specs.Environments.{function_of}
@@ -20,8 +19,9 @@ use Rattle.decisions.specs.Decisions.{IsAllowed}
 use Rattle.decisions.specs.declared.decide.Decision.{Decision}
 use Rattle.decisions.specs.declared.decide.Decision.TheVariants.{Submit, Show}
 use Rattle.decisions.specs.declared.decide.Shown.TheVariants as shown
-use Rattle.http_routes.specs.Routes.{environment_rows, account_rows, route_in, is_environment_method, environment_methods, is_account_method, account_methods, is_put}
-use Rattle.http_routes.specs.Paths.{name_of, qualifier_of, from_of, follow_of, bodies_of}
+use Rattle.http_routes.specs.Methods.{Method, put, is_among}
+use Rattle.http_routes.specs.Routes.{environment_rows, account_rows, route_in, environment_methods, account_methods}
+use Rattle.http_routes.specs.Paths.{name_of, qualifier_of, from_of, follow_of, bodies_of, only_of}
 use Rattle.http_routes.specs.Heads.{header, extension_name, trace_of, asks_for_account, is_synchronous}
 use Rattle.http_routes.specs.Identifiers.{request_of, extension_of}
 use Rattle.http_routes.specs.Names.{invoked, reserved}
@@ -30,7 +30,7 @@ use Rattle.lambda_wire.specs.declared.body_writer.InvokeFault.{InvokeFault}
 use Rattle.http_routes.specs.declared.refusals.Cause.{Cause}
 use Rattle.http_routes.specs.declared.refusals.Cause.TheVariants as cause
 use Rattle.http_routes.specs.EnvironmentDecisions.{submitted, response, failure, registered, register, ext_next, ext_report, has_error_type, on_environment_route, at_environment, environment_decision}
-use Rattle.http_routes.specs.AccountDecisions.{about, by_payload, invoke, reserve, set_reservation, show_reservation, show_from, show_history, first_of, is_said, show_trace_with, show_trace, environment_of, with_method, spindown, at_account, account_decision}
+use Rattle.http_routes.specs.AccountDecisions.{about, by_payload, invoke, reserve, set_reservation, show_reservation, show_from, show_history, first_of, is_said, show_trace_with, show_trace, environment_of, with_method, spindown, milliseconds_in, advance, advance_by, at_account, account_decision}
 use Rattle.http_routes.specs.Decisions.{Served, IsPortOf, decision_on, decision}
 use Rattle.http_routes.specs.declared.names.Target.{Target}
 use Rattle.http_routes.specs.declared.names.Target.TheVariants as target
@@ -52,7 +52,7 @@ refused-allowed : (config : Config) (c : Cause) → IsAllowed config (refused c)
 unfolding refused
 refused-allowed config c = reply-allowed config (fault_of c) (refusal_words c)
 
-wrong_method-allowed : (config : Config) (methods : FieldValue) → IsAllowed config (wrong_method methods)
+wrong_method-allowed : (config : Config) (methods : List Method) → IsAllowed config (wrong_method methods)
 unfolding wrong_method
 wrong_method-allowed config methods = tt
 
@@ -127,7 +127,7 @@ on_environment_route-allowed config salt e p body environment.ExtExitFailure env
 at_environment-allowed : (config : Config) (salt e : ℕ) (p : Parts) (body : List ℕ) (o : Option EnvironmentRoute) → IsEnv config e → IsAllowed config (at_environment config salt e p body o)
 at_environment-allowed config salt e p body None env = refused-allowed config cause.NotFound
 at_environment-allowed config salt e p body (Some route) env =
-    decided config (is_environment_method route p.method) (on_environment_route config salt e p body route) (wrong_method (environment_methods route))
+    decided config (is_among (environment_methods route) p.method) (on_environment_route config salt e p body route) (wrong_method (environment_methods route))
     (on_environment_route-allowed config salt e p body route env) (wrong_method-allowed config (environment_methods route))
 
 environment_decision-allowed : (config : Config) (salt e : ℕ) (p : Parts) (body : List ℕ) → IsEnv config e → IsAllowed config (environment_decision config salt e p body)
@@ -169,7 +169,7 @@ about-allowed config target.Unknown then_do h k = refused-allowed config cause.U
 about-allowed config (target.Function f q) then_do h k = k f q h
 
 with_method-allowed : (config : Config) (route : AccountRoute) (p : Parts) (d : Decision) → IsAllowed config d → IsAllowed config (with_method route p d)
-with_method-allowed config route p d h = decided config (is_account_method route p.method) d (wrong_method (account_methods route)) h (wrong_method-allowed config (account_methods route))
+with_method-allowed config route p d h = decided config (is_among (account_methods route) p.method) d (wrong_method (account_methods route)) h (wrong_method-allowed config (account_methods route))
 
 spindown-allowed : (config : Config) (p : Parts) (o : Option ℕ) → Gives o (IsEnv config) → IsAllowed config (spindown p o)
 spindown-allowed config p None h = refused-allowed config cause.NotFound
@@ -189,6 +189,11 @@ show_trace_with-allowed config (Some from) None bare = refused-allowed config ca
 show_trace_with-allowed config (Some from) (Some follow) None = refused-allowed config cause.WrongBodies
 show_trace_with-allowed config (Some from) (Some follow) (Some bare) = tt
 
+advance-allowed : (config : Config) (milliseconds : Option ℕ) → IsAllowed config (advance milliseconds)
+advance-allowed config None = refused-allowed config cause.WrongMilliseconds
+advance-allowed config (Some milliseconds) = tt
+
+-- what the other routes decide needs nothing
 at_account-allowed : (config : Config) (p : Parts) (body : List ℕ) (o : Option AccountRoute) → IsAllowed config (at_account config p body o)
 at_account-allowed config p body None = refused-allowed config cause.NotFound
 at_account-allowed config p body (Some account.Invoke) =
@@ -196,19 +201,20 @@ at_account-allowed config p body (Some account.Invoke) =
     (about-allowed config (invoked config (name_of p) (qualifier_of p)) (invoke p body) (invoked_within config (name_of p) (qualifier_of p)) (invoke-allowed config p body))
 at_account-allowed config p body (Some account.Concurrency) =
     with_method-allowed config account.Concurrency p _
-    (about-allowed config (reserved config (name_of p)) (set_reservation (is_put p.method) body) (reserved_within config (name_of p)) (set_reservation-allowed config (is_put p.method) body))
+    (about-allowed config (reserved config (name_of p)) (set_reservation (bytes_eq p.method put) body) (reserved_within config (name_of p)) (set_reservation-allowed config (bytes_eq p.method put) body))
 at_account-allowed config p body (Some account.ReadConcurrency) =
     with_method-allowed config account.ReadConcurrency p _
     (about-allowed config (reserved config (name_of p)) show_reservation (reserved_within config (name_of p)) (λ f q is_f. is_f))
-at_account-allowed config p body (Some account.Stop) = with_method-allowed config account.Stop p (Submit call.Stop) tt
 at_account-allowed config p body (Some account.Spindown) = spindown-allowed config p (environment_of config p) (environment_within config p)
-at_account-allowed config p body (Some account.Stats) = with_method-allowed config account.Stats p (Show shown.Stats) tt
 at_account-allowed config p body (Some account.History) =
     with_method-allowed config account.History p (show_history (from_of p)) (show_history-allowed config (from_of p))
 at_account-allowed config p body (Some account.Trace) =
     with_method-allowed config account.Trace p (show_trace p)
     (show_trace_with-allowed config (first_of (from_of p)) (is_said (codes "1") (follow_of p)) (is_said (codes "none") (bodies_of p)))
-at_account-allowed config p body (Some account.Environments) = with_method-allowed config account.Environments p (Show shown.Environments) tt
+at_account-allowed config p body (Some account.AdvanceClock) =
+    with_method-allowed config account.AdvanceClock p (advance_by (only_of (codes "ms") p))
+    (advance-allowed config (option_and_then milliseconds_in (only_of (codes "ms") p)))
+at_account-allowed config p body (Some route) = with_method-allowed config route p _ tt
 
 account_decision-allowed : (config : Config) (p : Parts) (body : List ℕ) → IsAllowed config (account_decision config p body)
 unfolding account_decision

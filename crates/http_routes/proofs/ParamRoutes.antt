@@ -9,7 +9,9 @@ use Rattle.matchit.specs.Rows.{param_token}
 use Rattle.matchit.specs.Router.{RouteOf}
 use Rattle.matchit.specs.Seek.{step, seek, param_step, has_slash, segment, cuts}
 use Rattle.matchit.proofs.OnLiterals.{matchit_on_literals}
-use Rattle.http_routes.specs.Routes.{RowsFor, route_in, with_route, with_runtime_rows, with_extension_rows, environment_rows, with_lambda_rows, with_view_rows, with_local_rows, account_rows}
+use Rattle.http_routes.specs.Routes.{RowsFor, route_in, with_route, with_table}
+use Rattle.http_routes.specs.Routes.{runtime_table, extension_table, environment_table, environment_rows}
+use Rattle.http_routes.specs.Routes.{lambda_table, stop_table, view_table, clock_table, account_table, account_rows}
 use Rattle.http_routes.specs.declared.routes.EnvironmentRoute.TheVariants.{Response}
 use Rattle.http_routes.specs.declared.routes.AccountRoute.TheVariants.{Invoke}
 
@@ -112,7 +114,7 @@ module _ {R : Type 0} where
 
 pub invoke_route : (b : ℕ) (xs : List ℕ) → b < 256 → NoSlash (b ∷ xs)
     → route_in account_rows (codes "/2015-03-31/functions/" ++ (b ∷ (xs ++ codes "/invocations"))) ≡ Some Invoke
-unfolding matchit_on_literals account_rows with_local_rows with_view_rows with_lambda_rows with_route
+unfolding matchit_on_literals account_rows account_table lambda_table stop_table view_table clock_table with_table with_route
 invoke_route b xs small h =
     let found = through (codes "/2015-03-31/functions/") account_rows (b ∷ (xs ++ codes "/invocations")) Invoke
     (one (codes "invocations") _ b xs small h (_, refl, refl)) in
@@ -120,7 +122,7 @@ invoke_route b xs small h =
 
 pub response_route : (b : ℕ) (xs : List ℕ) → b < 256 → b ≢ 110 → NoSlash (b ∷ xs)
     → route_in environment_rows (codes "/2018-06-01/runtime/invocation/" ++ (b ∷ (xs ++ codes "/response"))) ≡ Some Response
-unfolding matchit_on_literals environment_rows with_extension_rows with_runtime_rows with_route
+unfolding matchit_on_literals environment_rows environment_table runtime_table extension_table with_table with_route
 response_route b xs small differs h =
     let found = through (codes "/2018-06-01/runtime/invocation/") environment_rows (b ∷ (xs ++ codes "/response")) Response (second _ _ _ b xs small differs h) in
     rw found.1 (ap Some found.2)

@@ -1,5 +1,5 @@
 -- Requests whose bodies are too long are decided by their heads alone.
-use Rattle.std.proofs.Common.{◌≡◌, ℕ, ◌<◌, Bool, true, false, nat_lt, List, length, Option, Some, None, Result, Ok, Err, IfOk, refl, sym, ◌∙◌, arith}
+use Rattle.std.proofs.Common.{◌≡◌, ℕ, ◌<◌, Bool, true, false, nat_lt, List, length, bytes_eq, Option, Some, None, Result, Ok, Err, IfOk, refl, sym, ◌∙◌, arith}
 use Rattle.std.proofs.lemmas.Bool.Decides.{nat_tests}
 use Rattle.http.specs.Uri.{uri_path}
 use Rattle.http.specs.declared.request.Parts.{Parts}
@@ -11,7 +11,8 @@ use Rattle.lambda_wire.specs.Requests.{read_payload, read_count, read_events}
 use Rattle.lambda_wire.specs.declared.fault.WireFault.TheVariants.{TooLong}
 use Rattle.decisions.specs.Decisions.{IsOn}
 use Rattle.decisions.specs.declared.decide.Decision.{Decision}
-use Rattle.http_routes.specs.Routes.{environment_rows, account_rows, route_in, is_put}
+use Rattle.http_routes.specs.Methods.{put}
+use Rattle.http_routes.specs.Routes.{environment_rows, account_rows, route_in}
 use Rattle.http_routes.specs.Refusals.{refused}
 use Rattle.http_routes.specs.declared.refusals.Cause.TheVariants.{TooLarge}
 use Rattle.http_routes.specs.Paths.{name_of, qualifier_of}
@@ -103,19 +104,14 @@ module _ (a b : List ℕ) (la : longest_body < length a) (lb : longest_body < le
   set_alike true f qualified = rw (count_long a la, count_long b lb) refl
   set_alike false f qualified = refl
 
+  -- the bodies of requests on the other routes are ignored
   at_account_alike : (config : Config) (p : Parts) (route : Option AccountRoute) → at_account config p a route ≡ at_account config p b route
   at_account_alike config p None = refl
   at_account_alike config p (Some account.Invoke) =
       rw (about_alike (invoked config (name_of p) (qualifier_of p)) (invoke p a) (invoke p b) (invoke_alike p)) refl
   at_account_alike config p (Some account.Concurrency) =
-      rw (about_alike (reserved config (name_of p)) (set_reservation (is_put p.method) a) (set_reservation (is_put p.method) b) (set_alike (is_put p.method))) refl
-  at_account_alike config p (Some account.ReadConcurrency) = refl
-  at_account_alike config p (Some account.Stop) = refl
-  at_account_alike config p (Some account.Spindown) = refl
-  at_account_alike config p (Some account.Stats) = refl
-  at_account_alike config p (Some account.History) = refl
-  at_account_alike config p (Some account.Trace) = refl
-  at_account_alike config p (Some account.Environments) = refl
+      rw (about_alike (reserved config (name_of p)) (set_reservation (bytes_eq p.method put) a) (set_reservation (bytes_eq p.method put) b) (set_alike (bytes_eq p.method put))) refl
+  at_account_alike config p (Some route) = refl
 
   on_alike : (config : Config) (salt : ℕ) (port : Port) (p : Parts) → decision_on config salt port p a ≡ decision_on config salt port p b
   unfolding account_decision environment_decision

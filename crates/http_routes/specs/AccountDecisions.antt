@@ -5,17 +5,19 @@ use Rattle.std.specs.Prelude.{not, option_and_then}
 use Rattle.http.specs.Uri.{uri_path}
 use Rattle.http.specs.declared.request.Parts.{Parts}
 use Rattle.arn_ids.specs.declared.config.Config.{Config}
-use Rattle.arn_ids.specs.Limits.{greatest_ticket}
-use Rattle.arn_ids.specs.Numbers.{number_in, env_in}
+use Rattle.arn_ids.specs.Limits.{greatest_ticket, greatest_moment}
+use Rattle.arn_ids.specs.Numbers.{number_in, from_one, env_in}
 use Rattle.call_types.specs.declared.call.Call.TheVariants as call
 use Rattle.lambda_wire.specs.Requests.{read_payload, read_count}
 use Rattle.lambda_wire.specs.declared.fault.WireFault.{WireFault}
 use Rattle.lambda_wire.specs.declared.fault.WireFault.TheVariants.{TooLong, NotJson, BadShape, BadEvent, OutOfMemory}
 use Rattle.decisions.specs.declared.decide.Decision.{Decision}
-use Rattle.decisions.specs.declared.decide.Decision.TheVariants.{Submit, Show}
+use Rattle.decisions.specs.declared.decide.Decision.TheVariants.{Submit, Show, Clock}
+use Rattle.decisions.specs.declared.decide.ClockRequest.TheVariants as clock
 use Rattle.decisions.specs.declared.decide.Shown.TheVariants as shown
-use Rattle.http_routes.specs.Routes.{account_rows, route_in, is_account_method, account_methods, is_put}
-use Rattle.http_routes.specs.Paths.{path_part, name_of, qualifier_of, from_of, follow_of, bodies_of}
+use Rattle.http_routes.specs.Methods.{put, is_among}
+use Rattle.http_routes.specs.Routes.{account_rows, route_in, account_methods}
+use Rattle.http_routes.specs.Paths.{path_part, name_of, qualifier_of, from_of, follow_of, bodies_of, only_of}
 use Rattle.http_routes.specs.Heads.{trace_of, is_synchronous}
 use Rattle.http_routes.specs.Names.{invoked, reserved}
 use Rattle.http_routes.specs.Refusals.{refused, wrong_method}
@@ -23,8 +25,7 @@ use Rattle.http_routes.specs.declared.refusals.Cause.TheVariants as cause
 use Rattle.http_routes.specs.declared.names.Target.{Target}
 use Rattle.http_routes.specs.declared.names.Target.TheVariants.{Malformed, Unknown, Function}
 use Rattle.http_routes.specs.declared.routes.AccountRoute.{AccountRoute}
-use Rattle.http_routes.specs.declared.routes.AccountRoute.TheVariants.{Invoke, Concurrency, ReadConcurrency, Stop}
-use Rattle.http_routes.specs.declared.routes.AccountRoute.TheVariants.{Spindown, Stats, History, Trace, Environments}
+use Rattle.http_routes.specs.declared.routes.AccountRoute.TheVariants as account
 
 -- The decision about a function: a malformed or unknown one is refused.
 abbrev pub about : Target → (ℕ → Bool → Decision) → Decision
@@ -71,12 +72,12 @@ environment_of config p = option_and_then (env_in config) (path_part 3 (uri_path
 -- The decision, if the route has the request's method.
 abbrev pub with_method : AccountRoute → Parts → Decision → Decision
 with_method route p decision =
-    if is_account_method route p.method then decision else wrong_method (account_methods route)
+    if is_among (account_methods route) p.method then decision else wrong_method (account_methods route)
 
 -- The spindown of an environment. If there is no environment of this number, the path is not found.
 abbrev pub spindown : Parts → Option ℕ → Decision
 spindown p None = refused cause.NotFound
-spindown p (Some e) = with_method Spindown p (Submit (call.Spindown e))
+spindown p (Some e) = with_method account.Spindown p (Submit (call.Spindown e))
 
 -- The history from a ticket on.
 abbrev pub show_from : Option ℕ → Decision
@@ -110,21 +111,40 @@ show_trace_with (Some from) (Some follow) (Some bare) = Show (shown.Trace from f
 abbrev pub show_trace : Parts → Decision
 show_trace p = show_trace_with (first_of (from_of p)) (is_said (codes "1") (follow_of p)) (is_said (codes "none") (bodies_of p))
 
+-- By how many milliseconds the clock is set forward: a decimal number, without leading zeros, from 1 to 2^53 - 1.
+abbrev pub milliseconds_in : List ℕ → Option ℕ
+milliseconds_in text = option_and_then from_one (number_in greatest_moment text)
+
+-- The clock, set forward by that number.
+abbrev pub advance : Option ℕ → Decision
+advance None = refused cause.WrongMilliseconds
+advance (Some milliseconds) = Clock (clock.Advance milliseconds)
+
+-- The clock, set forward by the query's `ms`, which it has exactly once.
+abbrev pub advance_by : Option (List ℕ) → Decision
+advance_by text = advance (option_and_then milliseconds_in text)
+
 -- The decision on a route. The bodies of requests on this service's own routes are ignored.
 abbrev pub at_account : Config → Parts → List ℕ → Option AccountRoute → Decision
 at_account config p body None = refused cause.NotFound
-at_account config p body (Some Invoke) =
-    with_method Invoke p (about (invoked config (name_of p) (qualifier_of p)) (invoke p body))
-at_account config p body (Some Concurrency) =
-    with_method Concurrency p (about (reserved config (name_of p)) (set_reservation (is_put p.method) body))
-at_account config p body (Some ReadConcurrency) =
-    with_method ReadConcurrency p (about (reserved config (name_of p)) show_reservation)
-at_account config p body (Some Stop) = with_method Stop p (Submit call.Stop)
-at_account config p body (Some Spindown) = spindown p (environment_of config p)
-at_account config p body (Some Stats) = with_method Stats p (Show shown.Stats)
-at_account config p body (Some History) = with_method History p (show_history (from_of p))
-at_account config p body (Some Trace) = with_method Trace p (show_trace p)
-at_account config p body (Some Environments) = with_method Environments p (Show shown.Environments)
+at_account config p body (Some account.Invoke) =
+    with_method account.Invoke p (about (invoked config (name_of p) (qualifier_of p)) (invoke p body))
+at_account config p body (Some account.Concurrency) =
+    with_method account.Concurrency p (about (reserved config (name_of p)) (set_reservation (bytes_eq p.method put) body))
+at_account config p body (Some account.ReadConcurrency) =
+    with_method account.ReadConcurrency p (about (reserved config (name_of p)) show_reservation)
+at_account config p body (Some account.Stop) = with_method account.Stop p (Submit call.Stop)
+at_account config p body (Some account.Spindown) = spindown p (environment_of config p)
+at_account config p body (Some account.Stats) = with_method account.Stats p (Show shown.Stats)
+at_account config p body (Some account.History) = with_method account.History p (show_history (from_of p))
+at_account config p body (Some account.Trace) = with_method account.Trace p (show_trace p)
+at_account config p body (Some account.Environments) = with_method account.Environments p (Show shown.Environments)
+at_account config p body (Some account.Version) = with_method account.Version p (Show shown.Version)
+at_account config p body (Some account.Clock) = with_method account.Clock p (Clock clock.Show)
+at_account config p body (Some account.AdvanceClock) =
+    with_method account.AdvanceClock p (advance_by (only_of (codes "ms") p))
+at_account config p body (Some account.PauseClock) = with_method account.PauseClock p (Clock clock.Pause)
+at_account config p body (Some account.ResumeClock) = with_method account.ResumeClock p (Clock clock.Resume)
 
 -- The decision on a request on the account's port.
 unfoldable pub account_decision : Config → Parts → List ℕ → Decision

@@ -15,7 +15,8 @@ use Rattle.lambda_wire.specs.declared.fault.WireFault.{WireFault}
 use Rattle.lambda_wire.specs.declared.fault.WireFault.TheVariants.{TooLong, NotJson, BadShape, BadEvent, OutOfMemory}
 use Rattle.decisions.specs.declared.decide.Decision.{Decision}
 use Rattle.decisions.specs.declared.decide.Decision.TheVariants.{Submit}
-use Rattle.http_routes.specs.Routes.{environment_rows, route_in, is_environment_method, environment_methods}
+use Rattle.http_routes.specs.Methods.{is_among}
+use Rattle.http_routes.specs.Routes.{environment_rows, route_in, environment_methods}
 use Rattle.http_routes.specs.Heads.{has_header, extension_name, asks_for_account}
 use Rattle.http_routes.specs.Identifiers.{request_of, extension_of}
 use Rattle.http_routes.specs.Refusals.{refused, wrong_method}
@@ -95,7 +96,7 @@ on_environment_route config salt e p body ExtExitFailure =
 abbrev pub at_environment : Config → ℕ → ℕ → Parts → List ℕ → Option EnvironmentRoute → Decision
 at_environment config salt e p body None = refused cause.NotFound
 at_environment config salt e p body (Some route) =
-    if is_environment_method route p.method then on_environment_route config salt e p body route
+    if is_among (environment_methods route) p.method then on_environment_route config salt e p body route
     else wrong_method (environment_methods route)
 
 -- The decision on a request on the port of environment e.

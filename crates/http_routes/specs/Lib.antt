@@ -3,6 +3,7 @@ pub mod Decisions
 pub mod AccountDecisions
 pub mod EnvironmentDecisions
 -- The routes, and what a request names: a path's parts, a function, identifiers, headers.
+pub mod Methods
 pub mod Routes
 pub mod Paths
 pub mod Names

@@ -38,6 +38,21 @@ qualifier_of p = option_and_then qualifier_in (uri_query p.uri)
 abbrev pub asked_of : List ℕ → Parts → Option (List ℕ)
 asked_of name p = option_and_then (λ query. first_named name (raw_pairs query)) (uri_query p.uri)
 
+-- The values of the pairs of this name.
+abbrev pub all_named : List ℕ → List (List ℕ × List ℕ) → List (List ℕ)
+all_named name [] = []
+all_named name (p ∷ ps) = if bytes_eq (text_of p.0) name then text_of p.1 ∷ all_named name ps else all_named name ps
+
+-- The one value, if there is exactly one.
+abbrev pub only : List (List ℕ) → Option (List ℕ)
+only [] = None
+only (value ∷ []) = Some value
+only (value ∷ next ∷ others) = None
+
+-- The value of a name that a request's query has exactly once (operations of this service alone).
+abbrev pub only_of : List ℕ → Parts → Option (List ℕ)
+only_of name p = option_and_then (λ query. only (all_named name (raw_pairs query))) (uri_query p.uri)
+
 -- The first `from` of a request for the history or its trace, and the first `follow` and `bodies` of one for a trace.
 abbrev pub from_of : Parts → Option (List ℕ)
 from_of = asked_of (codes "from")

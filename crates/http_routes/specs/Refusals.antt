@@ -1,15 +1,15 @@
 -- Replies that refuse a request before there is a call.
 use Rattle.std.specs.Prelude.{ℕ, List, codes, Option, Some, None}
-use Rattle.http_header.specs.FieldValue.{FieldValue}
 use Rattle.lambda_wire.specs.Headers.{method_headers}
 use Rattle.lambda_wire.specs.Replies.{fault_reply, invoke_fault_reply}
 use Rattle.lambda_wire.specs.declared.body_writer.InvokeFault.{InvokeFault}
 use Rattle.lambda_wire.specs.declared.body_writer.InvokeFault.TheVariants as fault
 use Rattle.decisions.specs.declared.decide.Decision.{Decision}
 use Rattle.decisions.specs.declared.decide.Decision.TheVariants.{Reply}
+use Rattle.http_routes.specs.Methods.{Method, allow_field}
 use Rattle.http_routes.specs.declared.refusals.Cause.{Cause}
 use Rattle.http_routes.specs.declared.refusals.Cause.TheVariants.{NotFound, WrongTicket, WrongFollow, WrongBodies}
-use Rattle.http_routes.specs.declared.refusals.Cause.TheVariants.{WrongRequest, UnknownExtension}
+use Rattle.http_routes.specs.declared.refusals.Cause.TheVariants.{WrongMilliseconds, WrongRequest, UnknownExtension}
 use Rattle.http_routes.specs.declared.refusals.Cause.TheVariants.{MissingHeader, TooLarge, UnreadableRegistration}
 use Rattle.http_routes.specs.declared.refusals.Cause.TheVariants.{WrongEvent, MalformedName, UnknownFunction}
 use Rattle.http_routes.specs.declared.refusals.Cause.TheVariants.{WrongInvocationType, PayloadTooLarge}
@@ -23,6 +23,8 @@ refusal_words NotFound = (404, codes "NotFound", codes "No such resource")
 refusal_words WrongTicket = (400, codes "InvalidTicket", codes "from is not a ticket")
 refusal_words WrongFollow = (400, codes "InvalidQuery", codes "follow is not 1")
 refusal_words WrongBodies = (400, codes "InvalidQuery", codes "bodies is not none")
+refusal_words WrongMilliseconds =
+    (400, codes "InvalidMilliseconds", codes "ms is not one number from 1 to 9007199254740991")
 refusal_words WrongRequest = (400, codes "InvalidRequestID", codes "Not the open invocation")
 refusal_words UnknownExtension = (403, codes "Extension.UnknownIdentifier", codes "Extension is not registered here")
 refusal_words MissingHeader = (400, codes "MissingHeader", codes "A required header is missing")
@@ -45,6 +47,7 @@ fault_of NotFound = None
 fault_of WrongTicket = None
 fault_of WrongFollow = None
 fault_of WrongBodies = None
+fault_of WrongMilliseconds = None
 fault_of WrongRequest = None
 fault_of UnknownExtension = None
 fault_of MissingHeader = None
@@ -68,6 +71,6 @@ unfoldable pub refused : Cause → Decision
 refused cause = reply_of (fault_of cause) (refusal_words cause)
 
 -- The reply if the route does not have the method. It lists those that the route has (RFC 9110, section 15.5.6).
-unfoldable pub wrong_method : FieldValue → Decision
+unfoldable pub wrong_method : List Method → Decision
 wrong_method methods = Reply (record (fault_reply 405 (codes "Method not allowed") (codes "MethodNotAllowed"))
-    { headers = method_headers methods })
+    { headers = method_headers (allow_field methods) })

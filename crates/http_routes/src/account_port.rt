@@ -1,20 +1,21 @@
 //! The decision on a request on the account's port.
 
-ghost use Rattle.std.specs.Prelude.{◌≡◌, Some, IfOk};
+ghost use Rattle.std.specs.Prelude.{◌≡◌, codes, bytes_eq, Some, IfOk};
 ghost use Rattle.lambda_wire.specs.Requests.{read_count};
 ghost use Rattle.http_routes.specs.AccountDecisions as spec;
 ghost use Rattle.http_routes.specs.Names as names;
 ghost use Rattle.http_routes.specs.Paths as paths;
-ghost use Rattle.http_routes.specs.Routes.{account_rows, is_put};
+ghost use Rattle.http_routes.specs.Methods.{put};
+ghost use Rattle.http_routes.specs.Routes.{account_rows};
 
 use crate::heads::{is_synchronous, trace};
 use crate::names::{Target, invoked, reserved};
-use crate::path::{asked_of, from_of, path_part};
+use crate::path::{asked_of, from_of, only_of, path_part};
 use crate::refusals::{Cause, refused, wrong_method};
 use crate::routes::{AccountRoute, account_route};
-use arn_ids::{Checked, EnvNo, FnNo, read_environment, read_number};
+use arn_ids::{Checked, EnvNo, FnNo, GREATEST_MOMENT, read_environment, read_number};
 use call_types::Call;
-use decisions::{Decision, Received, Shown};
+use decisions::{ClockRequest, Decision, Received, Shown};
 use http::request::Parts;
 use lambda_wire::{PayloadScratch, WireFault, read_invoke_body, read_reservation};
 use matchit::Router;
@@ -106,7 +107,7 @@ fn on_concurrency(
 ) -> Result<Decision, AllocError>
     ensures { IfOk result (λ d. d
         ≡ spec.about (names.reserved config.now (paths.name_of parts.now))
-        (spec.set_reservation (is_put parts.now.method) body.now)) }
+        (spec.set_reservation (bytes_eq parts.now.method put) body.now)) }
 {
     match reserved(alloc, config, parts)? {
         Target::Malformed => refused(alloc, Cause::MalformedName),
@@ -154,8 +155,9 @@ fn spindown(alloc: Global, config: &Checked, parts: &Parts) -> Result<Decision, 
     let Some(env) = environment_of(config, parts) else {
         return refused(alloc, Cause::NotFound);
     };
-    if !AccountRoute::Spindown.allows(parts.method.as_str()) {
-        return wrong_method(alloc, AccountRoute::Spindown.methods());
+    let methods = AccountRoute::Spindown.methods();
+    if !methods.has(parts.method.as_str()) {
+        return wrong_method(alloc, methods);
     }
     Ok(Decision::Submit(Call::Spindown { env }))
 }
@@ -222,6 +224,29 @@ fn show_trace(alloc: Global, parts: &Parts) -> Result<Decision, AllocError>
     }))
 }
 
+/// Reads by how many milliseconds the clock is to be set forward.
+fn milliseconds_in(text: &[u8]) -> Option<u64>
+    ensures { result ≡ spec.milliseconds_in text.now }
+{
+    match read_number(text, GREATEST_MOMENT) {
+        Some(milliseconds) if milliseconds >= 1 => Some(milliseconds),
+        _ => None,
+    }
+}
+
+/// Decides to set the clock forward, by the query's only `ms`.
+fn advance(alloc: Global, parts: &Parts) -> Result<Decision, AllocError>
+    ensures { IfOk result (λ d. d ≡ spec.advance_by (paths.only_of (codes "ms") parts.now)) }
+{
+    let Some(text) = only_of(alloc, parts, "ms")? else {
+        return refused(alloc, Cause::WrongMilliseconds);
+    };
+    match milliseconds_in(text.as_str().as_bytes()) {
+        Some(milliseconds) => Ok(Decision::Clock(ClockRequest::Advance { milliseconds })),
+        None => refused(alloc, Cause::WrongMilliseconds),
+    }
+}
+
 /// Decides a request on a route. The bodies of requests on this service's own routes are ignored.
 fn on_route(
     alloc: Global,
@@ -236,8 +261,9 @@ fn on_route(
     if let AccountRoute::Spindown = route {
         return spindown(alloc, config, parts);
     }
-    if !route.allows(parts.method.as_str()) {
-        return wrong_method(alloc, route.methods());
+    let methods = route.methods();
+    if !methods.has(parts.method.as_str()) {
+        return wrong_method(alloc, methods);
     }
     match route {
         AccountRoute::Invoke => on_invoke(alloc, scratch, config, parts, body),
@@ -249,6 +275,11 @@ fn on_route(
         AccountRoute::History => show_history(alloc, parts),
         AccountRoute::Trace => show_trace(alloc, parts),
         AccountRoute::Environments => Ok(Decision::Show(Shown::Environments)),
+        AccountRoute::Version => Ok(Decision::Show(Shown::Version)),
+        AccountRoute::Clock => Ok(Decision::Clock(ClockRequest::Show)),
+        AccountRoute::AdvanceClock => advance(alloc, parts),
+        AccountRoute::PauseClock => Ok(Decision::Clock(ClockRequest::Pause)),
+        AccountRoute::ResumeClock => Ok(Decision::Clock(ClockRequest::Resume)),
     }
 }
 

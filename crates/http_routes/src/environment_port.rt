@@ -258,8 +258,9 @@ pub(crate) fn environment_decision(
     let Some(route) = environment_route(router, parts.uri.path()) else {
         return refused(alloc, Cause::NotFound);
     };
-    if !route.allows(parts.method.as_str()) {
-        return wrong_method(alloc, route.methods());
+    let methods = route.methods();
+    if !methods.has(parts.method.as_str()) {
+        return wrong_method(alloc, methods);
     }
     on_route(alloc, config, salt, env, parts, body, route)
 }

@@ -6,6 +6,7 @@ mod environment_port;
 mod heads;
 mod identifiers;
 pub mod laws;
+mod methods;
 mod names;
 mod path;
 mod refusals;

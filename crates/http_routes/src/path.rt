@@ -117,3 +117,40 @@ pub(crate) fn from_of(alloc: Global, parts: &Parts) -> Result<Option<CowStr<'_>>
 {
     asked_of(alloc, parts, "from")
 }
+
+/// Returns the value of a name that a query has exactly once.
+fn only_named<'q>(
+    alloc: Global,
+    query: &'q [u8],
+    name: &str,
+) -> Result<Option<CowStr<'q>>, AllocError>
+    ensures { IfOk result (λ text. option_map cow_str_bytes text
+        ≡ spec.only (spec.all_named name.now (raw_pairs query.now))) }
+{
+    let mut found = None;
+    let mut pairs = raw_pairs(query);
+    while let Some((other, value)) = pairs.next() {
+        if decode(alloc, other)?.as_str() == name {
+            if found.is_some() {
+                return Ok(None);
+            }
+            found = Some(decode(alloc, value)?);
+        }
+    }
+    Ok(found)
+}
+
+/// Returns the value of a name that a request's query has exactly once (operations of this service
+/// alone).
+pub(crate) fn only_of<'p>(
+    alloc: Global,
+    parts: &'p Parts,
+    name: &str,
+) -> Result<Option<CowStr<'p>>, AllocError>
+    ensures { IfOk result (λ text. option_map cow_str_bytes text ≡ spec.only_of name.now parts.now) }
+{
+    match parts.uri.query() {
+        Some(query) => only_named(alloc, query.as_bytes(), name),
+        None => Ok(None),
+    }
+}

@@ -5,10 +5,11 @@ ghost use Rattle.std.specs.Prelude.{◌≡◌, true, IfOk};
 ghost use Rattle.std.specs.List.{list_all};
 ghost use Rattle.http_header.specs.Token.{is_value_byte};
 ghost use Rattle.lambda_wire.specs.Replies as replies;
+ghost use Rattle.http_routes.specs.Methods.{listed};
 ghost use Rattle.http_routes.specs.Refusals as spec;
 
+use crate::methods::Methods;
 use decisions::Decision;
-use http_header::HeaderValue;
 use lambda_wire::{InvokeFault, Reply, fault_reply, invoke_fault_reply, method_headers};
 use std::alloc::{AllocError, Global};
 
@@ -23,6 +24,8 @@ pub(crate) enum Cause {
     WrongFollow,
     /// Which bodies a trace is to show is not said as it has to be.
     WrongBodies,
+    /// By how many milliseconds the clock is to be set forward is not said as it has to be.
+    WrongMilliseconds,
     /// The path does not name an invocation of this environment's function.
     WrongRequest,
     /// The head does not name an extension of this environment.
@@ -61,6 +64,11 @@ fn refusal_words(cause: Cause) -> (u16, &'static str, &'static str)
         Cause::WrongTicket => (400, "InvalidTicket", "from is not a ticket"),
         Cause::WrongFollow => (400, "InvalidQuery", "follow is not 1"),
         Cause::WrongBodies => (400, "InvalidQuery", "bodies is not none"),
+        Cause::WrongMilliseconds => (
+            400,
+            "InvalidMilliseconds",
+            "ms is not one number from 1 to 9007199254740991",
+        ),
         Cause::WrongRequest => (400, "InvalidRequestID", "Not the open invocation"),
         Cause::UnknownExtension => (
             403,
@@ -110,6 +118,7 @@ fn fault_of(cause: Cause) -> Option<InvokeFault>
         | Cause::WrongTicket
         | Cause::WrongFollow
         | Cause::WrongBodies
+        | Cause::WrongMilliseconds
         | Cause::WrongRequest
         | Cause::UnknownExtension
         | Cause::MissingHeader
@@ -153,11 +162,11 @@ pub(crate) fn refused(alloc: Global, cause: Cause) -> Result<Decision, AllocErro
 
 /// Makes the reply that lists a route's methods, if the route does not have the request's.
 #[tactic(auto, unfolding(crate::specs::Refusals::wrong_method))]
-pub(crate) fn wrong_method(alloc: Global, methods: HeaderValue) -> Result<Decision, AllocError>
-    ensures { IfOk result (λ d. d ≡ spec.wrong_method methods) }
+pub(crate) fn wrong_method(alloc: Global, methods: Methods) -> Result<Decision, AllocError>
+    ensures { IfOk result (λ d. d ≡ spec.wrong_method (listed methods)) }
 {
     Ok(Decision::Reply(Reply {
-        headers: method_headers(alloc, methods)?,
+        headers: method_headers(alloc, methods.field())?,
         ..fault_reply(alloc, 405, "Method not allowed", "MethodNotAllowed")?
     }))
 }

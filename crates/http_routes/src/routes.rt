@@ -3,12 +3,11 @@
 ghost use Rattle.std.specs.Prelude.{◌≡◌, ◌≢◌, ◌<◌, ◌++◌, ◌∷◌, All, IfOk, IsTrue, MatchOption, OnOk, Some};
 ghost use Rattle.http_routes.specs.declared.routes.AccountRoute.TheVariants.{Invoke};
 ghost use Rattle.http_routes.specs.declared.routes.EnvironmentRoute.TheVariants.{Response};
-ghost use Rattle.http_routes.specs.Routes.{with_route, with_runtime_rows, with_extension_rows, environment_rows};
-ghost use Rattle.http_routes.specs.Routes.{with_lambda_rows, with_view_rows, with_local_rows, account_rows, route_in};
-ghost use Rattle.http_routes.specs.Routes.{is_environment_method, environment_methods};
-ghost use Rattle.http_routes.specs.Routes.{is_account_method, account_methods};
+ghost use Rattle.http_routes.specs.Methods.{listed};
+ghost use Rattle.http_routes.specs.Routes as spec;
+ghost use Rattle.http_routes.specs.Routes.{with_route, with_table, environment_rows, account_rows, route_in};
 
-use http_header::HeaderValue;
+use crate::methods::Methods;
 use matchit::{InsertError, Router};
 use std::alloc::Global;
 
@@ -63,70 +62,55 @@ pub enum AccountRoute {
     Trace,
     /// The account's environments.
     Environments,
+    /// The version of the service.
+    Version,
+    /// The clock that gives the moments of calls.
+    Clock,
+    /// The clock, set forward.
+    AdvanceClock,
+    /// The clock, stopped.
+    PauseClock,
+    /// The clock, started again.
+    ResumeClock,
 }
 
 impl EnvironmentRoute {
-    /// Returns whether the route has this method.
-    pub(crate) fn allows(self, method: &str) -> bool
-        ensures { result ≡ is_environment_method self method.now }
+    /// Returns the route's methods.
+    pub(crate) fn methods(self) -> Methods
+        ensures { listed result ≡ spec.environment_methods self }
     {
         match self {
-            EnvironmentRoute::Next | EnvironmentRoute::ExtNext => method == "GET",
+            EnvironmentRoute::Next | EnvironmentRoute::ExtNext => Methods::Get,
             EnvironmentRoute::Response
             | EnvironmentRoute::Failure
             | EnvironmentRoute::InitFailure
             | EnvironmentRoute::Register
             | EnvironmentRoute::ExtInitFailure
-            | EnvironmentRoute::ExtExitFailure => method == "POST",
-        }
-    }
-
-    /// Returns the route's methods, as the field `Allow` lists them (RFC 9110, section 10.2.1).
-    pub(crate) fn methods(self) -> HeaderValue
-        ensures { result ≡ environment_methods self }
-    {
-        match self {
-            EnvironmentRoute::Next | EnvironmentRoute::ExtNext => HeaderValue::from_static("GET"),
-            EnvironmentRoute::Response
-            | EnvironmentRoute::Failure
-            | EnvironmentRoute::InitFailure
-            | EnvironmentRoute::Register
-            | EnvironmentRoute::ExtInitFailure
-            | EnvironmentRoute::ExtExitFailure => HeaderValue::from_static("POST"),
+            | EnvironmentRoute::ExtExitFailure => Methods::Post,
         }
     }
 }
 
 impl AccountRoute {
-    /// Returns whether the route has this method.
-    pub(crate) fn allows(self, method: &str) -> bool
-        ensures { result ≡ is_account_method self method.now }
+    /// Returns the route's methods.
+    pub(crate) fn methods(self) -> Methods
+        ensures { listed result ≡ spec.account_methods self }
     {
         match self {
-            AccountRoute::Invoke | AccountRoute::Stop | AccountRoute::Spindown => method == "POST",
-            AccountRoute::Concurrency => method == "PUT" || method == "DELETE",
+            AccountRoute::Concurrency => Methods::DeleteAndPut,
+            AccountRoute::Invoke
+            | AccountRoute::Stop
+            | AccountRoute::Spindown
+            | AccountRoute::AdvanceClock
+            | AccountRoute::PauseClock
+            | AccountRoute::ResumeClock => Methods::Post,
             AccountRoute::ReadConcurrency
             | AccountRoute::Stats
             | AccountRoute::History
             | AccountRoute::Trace
-            | AccountRoute::Environments => method == "GET",
-        }
-    }
-
-    /// Returns the route's methods, as the field `Allow` lists them.
-    pub(crate) fn methods(self) -> HeaderValue
-        ensures { result ≡ account_methods self }
-    {
-        match self {
-            AccountRoute::Invoke | AccountRoute::Stop | AccountRoute::Spindown => {
-                HeaderValue::from_static("POST")
-            }
-            AccountRoute::Concurrency => HeaderValue::from_static("DELETE, PUT"),
-            AccountRoute::ReadConcurrency
-            | AccountRoute::Stats
-            | AccountRoute::History
-            | AccountRoute::Trace
-            | AccountRoute::Environments => HeaderValue::from_static("GET"),
+            | AccountRoute::Environments
+            | AccountRoute::Version
+            | AccountRoute::Clock => Methods::Get,
         }
     }
 }
@@ -139,7 +123,7 @@ fn add<R: Drop>(router: &mut Router<R>, text: &str, route: R) -> Result<(), Inse
 
 /// Adds the routes of the Runtime API (2018-06-01).
 fn add_runtime(router: &mut Router<EnvironmentRoute>) -> Result<(), InsertError>
-    ensures { OnOk result (router.new ≡ with_runtime_rows router.old) }
+    ensures { OnOk result (router.new ≡ with_table spec.runtime_table router.old) }
 {
     add(router, NEXT, EnvironmentRoute::Next)?;
     add(
@@ -161,7 +145,7 @@ fn add_runtime(router: &mut Router<EnvironmentRoute>) -> Result<(), InsertError>
 
 /// Adds the routes of the Extensions API (2020-01-01).
 fn add_extensions(router: &mut Router<EnvironmentRoute>) -> Result<(), InsertError>
-    ensures { OnOk result (router.new ≡ with_extension_rows router.old) }
+    ensures { OnOk result (router.new ≡ with_table spec.extension_table router.old) }
 {
     add(
         router,
@@ -198,7 +182,7 @@ pub(crate) fn environment_routes(alloc: Global) -> Result<Router<EnvironmentRout
 
 /// Adds the routes of the Lambda API.
 fn add_lambda(router: &mut Router<AccountRoute>) -> Result<(), InsertError>
-    ensures { OnOk result (router.new ≡ with_lambda_rows router.old) }
+    ensures { OnOk result (router.new ≡ with_table spec.lambda_table router.old) }
 {
     add(
         router,
@@ -219,21 +203,31 @@ fn add_lambda(router: &mut Router<AccountRoute>) -> Result<(), InsertError>
 
 /// Adds this service's own routes that only show something.
 fn add_views(router: &mut Router<AccountRoute>) -> Result<(), InsertError>
-    ensures { OnOk result (router.new ≡ with_view_rows router.old) }
+    ensures { OnOk result (router.new ≡ with_table spec.view_table router.old) }
 {
     add(router, "/_local/stats", AccountRoute::Stats)?;
     add(router, "/_local/history", AccountRoute::History)?;
     add(router, "/_local/trace", AccountRoute::Trace)?;
-    add(router, "/_local/environments", AccountRoute::Environments)
+    add(router, "/_local/environments", AccountRoute::Environments)?;
+    add(router, "/_local/version", AccountRoute::Version)
 }
 
-/// Adds this service's own routes.
-fn add_local(router: &mut Router<AccountRoute>) -> Result<(), InsertError>
-    ensures { OnOk result (router.new ≡ with_local_rows router.old) }
+/// Adds the routes of the clock.
+fn add_clock(router: &mut Router<AccountRoute>) -> Result<(), InsertError>
+    ensures { OnOk result (router.new ≡ with_table spec.clock_table router.old) }
+{
+    add(router, "/_local/clock", AccountRoute::Clock)?;
+    add(router, "/_local/clock/advance", AccountRoute::AdvanceClock)?;
+    add(router, "/_local/clock/pause", AccountRoute::PauseClock)?;
+    add(router, "/_local/clock/resume", AccountRoute::ResumeClock)
+}
+
+/// Adds the routes by which an operator stops something.
+fn add_stops(router: &mut Router<AccountRoute>) -> Result<(), InsertError>
+    ensures { OnOk result (router.new ≡ with_table spec.stop_table router.old) }
 {
     add(router, "/_local/stop", AccountRoute::Stop)?;
-    add(router, "/_local/env/{n}/spindown", AccountRoute::Spindown)?;
-    add_views(router)
+    add(router, "/_local/env/{n}/spindown", AccountRoute::Spindown)
 }
 
 /// Makes the routes of the account's port. They do not conflict, so it fails only if an allocation
@@ -243,7 +237,9 @@ pub(crate) fn account_routes(alloc: Global) -> Result<Router<AccountRoute>, Inse
 {
     let mut router = Router::new(alloc);
     add_lambda(&mut router)?;
-    add_local(&mut router)?;
+    add_stops(&mut router)?;
+    add_views(&mut router)?;
+    add_clock(&mut router)?;
     Ok(router)
 }
 

@@ -1,80 +1,36 @@
-use Rattle.std.proofs.Common.{refl}
+use Rattle.std.proofs.Common.{◌≡◌, Some, refl}
 use Rattle.matchit.proofs.OnLiterals.{matchit_on_literals}
-use Rattle.http_routes.specs.Routes.{with_route, with_runtime_rows, with_extension_rows, environment_rows, with_lambda_rows, with_view_rows, with_local_rows, account_rows}
+use Rattle.http_routes.specs.Routes.{with_route, with_table, route_in}
+use Rattle.http_routes.specs.Routes.{runtime_table, extension_table, environment_table, environment_rows, environment_path}
+use Rattle.http_routes.specs.Routes.{lambda_table, stop_table, view_table, clock_table, account_table, account_rows, account_path}
+use Rattle.http_routes.specs.declared.routes.EnvironmentRoute.{EnvironmentRoute}
+use Rattle.http_routes.specs.declared.routes.EnvironmentRoute.TheVariants as environment
+use Rattle.http_routes.specs.declared.routes.AccountRoute.{AccountRoute}
+use Rattle.http_routes.specs.declared.routes.AccountRoute.TheVariants as account
 use Rattle.http_routes.proofs.laws.routes.Goals as goal
 
+-- Each line that has a variable for the route is checked for each of the other routes.
+
+environment-found : (route : EnvironmentRoute) → route_in environment_rows (environment_path route) ≡ Some route
+unfolding matchit_on_literals environment_rows environment_table runtime_table extension_table with_table with_route
+environment-found environment.Next = refl
+environment-found route = refl
+
+account-found : (route : AccountRoute) → route_in account_rows (account_path route) ≡ Some route
+unfolding matchit_on_literals account_rows account_table lambda_table stop_table view_table clock_table with_table with_route
+account-found account.Invoke = refl
+account-found route = refl
+
 pub returns-clause-environment_routes : goal.returns-clause-environment_routes
-unfolding matchit_on_literals environment_rows with_extension_rows with_runtime_rows account_rows with_local_rows with_view_rows with_lambda_rows with_route
-returns-clause-environment_routes c = refl
-
-pub returns-clause-next : goal.returns-clause-next
-unfolding matchit_on_literals environment_rows with_extension_rows with_runtime_rows account_rows with_local_rows with_view_rows with_lambda_rows with_route
-returns-clause-next c = refl
-
-pub returns-clause-response : goal.returns-clause-response
-unfolding matchit_on_literals environment_rows with_extension_rows with_runtime_rows account_rows with_local_rows with_view_rows with_lambda_rows with_route
-returns-clause-response c = refl
-
-pub returns-clause-failure : goal.returns-clause-failure
-unfolding matchit_on_literals environment_rows with_extension_rows with_runtime_rows account_rows with_local_rows with_view_rows with_lambda_rows with_route
-returns-clause-failure c = refl
-
-pub returns-clause-init_failure : goal.returns-clause-init_failure
-unfolding matchit_on_literals environment_rows with_extension_rows with_runtime_rows account_rows with_local_rows with_view_rows with_lambda_rows with_route
-returns-clause-init_failure c = refl
-
-pub returns-clause-register : goal.returns-clause-register
-unfolding matchit_on_literals environment_rows with_extension_rows with_runtime_rows account_rows with_local_rows with_view_rows with_lambda_rows with_route
-returns-clause-register c = refl
-
-pub returns-clause-ext_next : goal.returns-clause-ext_next
-unfolding matchit_on_literals environment_rows with_extension_rows with_runtime_rows account_rows with_local_rows with_view_rows with_lambda_rows with_route
-returns-clause-ext_next c = refl
-
-pub returns-clause-ext_init_failure : goal.returns-clause-ext_init_failure
-unfolding matchit_on_literals environment_rows with_extension_rows with_runtime_rows account_rows with_local_rows with_view_rows with_lambda_rows with_route
-returns-clause-ext_init_failure c = refl
-
-pub returns-clause-ext_exit_failure : goal.returns-clause-ext_exit_failure
-unfolding matchit_on_literals environment_rows with_extension_rows with_runtime_rows account_rows with_local_rows with_view_rows with_lambda_rows with_route
-returns-clause-ext_exit_failure c = refl
+returns-clause-environment_routes c = environment-found
 
 pub returns-clause-account_routes : goal.returns-clause-account_routes
-unfolding matchit_on_literals environment_rows with_extension_rows with_runtime_rows account_rows with_local_rows with_view_rows with_lambda_rows with_route
-returns-clause-account_routes c = refl
+returns-clause-account_routes c = account-found
 
-pub returns-clause-invoke : goal.returns-clause-invoke
-unfolding matchit_on_literals environment_rows with_extension_rows with_runtime_rows account_rows with_local_rows with_view_rows with_lambda_rows with_route
-returns-clause-invoke c = refl
+pub returns-clause-environment_rows : goal.returns-clause-environment_rows
+unfolding matchit_on_literals environment_rows environment_table runtime_table extension_table with_table with_route
+returns-clause-environment_rows c = refl
 
-pub returns-clause-concurrency : goal.returns-clause-concurrency
-unfolding matchit_on_literals environment_rows with_extension_rows with_runtime_rows account_rows with_local_rows with_view_rows with_lambda_rows with_route
-returns-clause-concurrency c = refl
-
-pub returns-clause-read_concurrency : goal.returns-clause-read_concurrency
-unfolding matchit_on_literals environment_rows with_extension_rows with_runtime_rows account_rows with_local_rows with_view_rows with_lambda_rows with_route
-returns-clause-read_concurrency c = refl
-
-pub returns-clause-stop : goal.returns-clause-stop
-unfolding matchit_on_literals environment_rows with_extension_rows with_runtime_rows account_rows with_local_rows with_view_rows with_lambda_rows with_route
-returns-clause-stop c = refl
-
-pub returns-clause-spindown : goal.returns-clause-spindown
-unfolding matchit_on_literals environment_rows with_extension_rows with_runtime_rows account_rows with_local_rows with_view_rows with_lambda_rows with_route
-returns-clause-spindown c = refl
-
-pub returns-clause-stats : goal.returns-clause-stats
-unfolding matchit_on_literals environment_rows with_extension_rows with_runtime_rows account_rows with_local_rows with_view_rows with_lambda_rows with_route
-returns-clause-stats c = refl
-
-pub returns-clause-history : goal.returns-clause-history
-unfolding matchit_on_literals environment_rows with_extension_rows with_runtime_rows account_rows with_local_rows with_view_rows with_lambda_rows with_route
-returns-clause-history c = refl
-
-pub returns-clause-trace : goal.returns-clause-trace
-unfolding matchit_on_literals environment_rows with_extension_rows with_runtime_rows account_rows with_local_rows with_view_rows with_lambda_rows with_route
-returns-clause-trace c = refl
-
-pub returns-clause-environments : goal.returns-clause-environments
-unfolding matchit_on_literals environment_rows with_extension_rows with_runtime_rows account_rows with_local_rows with_view_rows with_lambda_rows with_route
-returns-clause-environments c = refl
+pub returns-clause-account_rows : goal.returns-clause-account_rows
+unfolding matchit_on_literals account_rows account_table lambda_table stop_table view_table clock_table with_table with_route
+returns-clause-account_rows c = refl

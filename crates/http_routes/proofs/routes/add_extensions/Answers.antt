@@ -1,6 +1,6 @@
-use Rattle.http_routes.specs.Routes.{with_extension_rows}
+use Rattle.http_routes.specs.Routes.{with_table, extension_table}
 use Rattle.http_routes.proofs.routes.add_extensions.Goals as goal
 
 pub returns : goal.returns
-unfolding with_extension_rows
+unfolding with_table extension_table
 returns c = rw (c.in_ok-add-3.ensures, c.in_ok-add-2.ensures, c.in_ok-add.ensures) at c.add-4.ensures
