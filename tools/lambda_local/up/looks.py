@@ -3,7 +3,7 @@ how much room and memory are left."""
 import http.client
 import threading
 import time
-from typing import Callable, List
+from typing import Callable, List, NamedTuple
 
 from . import memory
 from .supervised import told
@@ -13,12 +13,18 @@ NEARLY_FULL = 0.9
 NOW_AND_THEN = 0.2  # seconds
 
 
+class Hook(NamedTuple):
+    """What is done at each look; `task` completes "could not .."."""
+    task: str
+    run: Callable[[], None]
+
+
 class Looks(threading.Thread):
     def __init__(self, watch: Watch, stopping: threading.Event) -> None:
         super().__init__(name="looks", daemon=True)
         self.watch, self.stopping = watch, stopping
         self.most = watch.service.configuration.get("maxEntries", 1_000_000)
-        self.hooks: List[Callable[[], None]] = []
+        self.hooks: List[Hook] = []
         self.between = 0.1  # seconds from one look to the next at least
         self.look_at = 0.0
 
@@ -33,13 +39,13 @@ class Looks(threading.Thread):
             for hook in self.hooks:
                 self._call(hook)
 
-    def _call(self, hook: Callable[[], None]) -> None:
+    def _call(self, hook: Hook) -> None:
         try:
-            hook()
+            hook.run()
         except (OSError, http.client.HTTPException):
             pass  # (a service that has just ended answers no one)
         except Exception as fault:
-            self.watch.log("up", f"could not answer a caller in a pause: {told(fault)}", level="error", kind="fault")
+            self.watch.log("up", f"could not {hook.task}: {told(fault)}", level="error", kind="fault")
 
     def _look_at_room(self) -> None:
         """Room for a stop is kept back: each environment may expire before it, and once more at it."""

@@ -22,7 +22,7 @@ from .invocation_log import Invocations, Tails
 from .invocation_report import InvocationReport
 from .lines import Lines
 from .log import OUTPUT, Log
-from .looks import Looks
+from .looks import Hook, Looks
 from .members import load
 from .project import project_by
 from .queues import Poller, pollers_of
@@ -90,11 +90,14 @@ class Session:
                          self.sidecars.serve(self.service.configuration, self.printed), self.sidecars.streams)
         self.watch.takers.append(self.sidecars.pairing(self.front.call).take)
         self.environments = list(self.make_environments())
-        self.looks.hooks.append(Unnamed(self.watch.life.environments.values(), lambda name, line: log(
-            name, f"-- {line}", level="warning", kind="init")).look)
-        self.looks.hooks += [environment.answer_callers for environment in self.environments]
+        self.looks.hooks.append(Hook("look for extensions under another name", Unnamed(
+            self.watch.life.environments.values(),
+            lambda name, line: log(name, f"-- {line}", level="warning", kind="init")).look))
+        self.looks.hooks += [Hook("answer a caller in a pause", environment.answer_callers)
+                             for environment in self.environments]
         if any(environment.is_extra for environment in self.environments):
-            self.looks.hooks.append(Scaling(self.environments, self.watch, self.service).look)
+            self.looks.hooks.append(Hook("start or end further environments",
+                                         Scaling(self.environments, self.watch, self.service).look))
             self.looks.between = BETWEEN_LOOKS
         self.threads: List[threading.Thread] = [self.watch, self.looks, *self.environments]
         self.clients, self.ending = surroundings.Clients(log, self.stopping), threading.Event()
@@ -121,7 +124,7 @@ class Session:
             for number, environment in here.items():
                 invocations.measure(number, environment.generation.is_ready)
         invocations = Invocations({function.name: function for function in self.functions}, self.printed, numbers)
-        self.looks.hooks.append(measure)
+        self.looks.hooks.append(Hook("measure memory", measure))
         return invocations
 
     def make_report(self, invocations: Invocations) -> InvocationReport:
