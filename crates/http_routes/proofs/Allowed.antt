@@ -17,8 +17,7 @@ use Rattle.arn_ids.specs.Numbers.{number_in}
 use Rattle.call_types.specs.Within.{is_body, IsEnv, IsFunction, IsCount, IsTrace, IsWithin}
 use Rattle.decisions.specs.Decisions.{IsAllowed}
 use Rattle.decisions.specs.declared.decide.Decision.{Decision}
-use Rattle.decisions.specs.declared.decide.Decision.TheVariants.{Submit, Show}
-use Rattle.decisions.specs.declared.decide.Shown.TheVariants as shown
+use Rattle.decisions.specs.declared.decide.Decision.TheVariants.{Submit}
 use Rattle.http_routes.specs.Methods.{Method, put, is_among}
 use Rattle.http_routes.specs.Routes.{environment_rows, account_rows, route_in, environment_methods, account_methods}
 use Rattle.http_routes.specs.Paths.{name_of, qualifier_of, from_of, follow_of, bodies_of, only_of}

@@ -13,5 +13,5 @@ mod refusals;
 mod routes;
 mod side;
 
-pub use decisions::{Decision, Received, Shown};
+pub use decisions::{ClockRequest, Decision, Received, Shown};
 pub use side::Side;

@@ -12,7 +12,7 @@ use case_tables::Given;
 use entry_blocks::Blocks;
 use http::request::Parts;
 use http_header::HeaderMap;
-use http_routes::{Decision, Received, Shown};
+use http_routes::{ClockRequest, Decision, Received, Shown};
 use lambda_wire::{PayloadScratch, Reply};
 use script::draft_entry;
 use std::alloc::{AllocError, Global};
@@ -141,10 +141,24 @@ fn push_shown(shown: Shown, given: &mut Given) {
             bodies,
         } => push_trace(from, follow, bodies, given),
         Shown::Environments => given.push("show environments"),
+        Shown::Version => given.push("show version"),
         Shown::Reservation { function } => {
             given.push("show reservation ");
             given.print(&function);
         }
+    }
+}
+
+/// Adds what is asked of the clock.
+fn push_clock(request: ClockRequest, given: &mut Given) {
+    match request {
+        ClockRequest::Show => given.push("clock show"),
+        ClockRequest::Advance { milliseconds } => {
+            given.push("clock advance by ");
+            given.print(&milliseconds);
+        }
+        ClockRequest::Pause => given.push("clock pause"),
+        ClockRequest::Resume => given.push("clock resume"),
     }
 }
 
@@ -154,6 +168,7 @@ fn push_decision(config: &Checked, decision: Decision, body: &[u8], given: &mut 
         Decision::Submit(call) => push_call(config, call, body, given),
         Decision::Reply(reply) => push_refusal(&reply, given),
         Decision::Show(shown) => push_shown(shown, given),
+        Decision::Clock(request) => push_clock(request, given),
     }
 }
 
