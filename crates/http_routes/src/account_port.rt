@@ -224,7 +224,7 @@ fn show_trace(alloc: Global, parts: &Parts) -> Result<Decision, AllocError>
     }))
 }
 
-/// Reads by how many milliseconds the clock is to be set forward.
+/// Reads by how many milliseconds the clock is to be set forward: from 1 to 2^53 - 1.
 fn milliseconds_in(text: &[u8]) -> Option<u64>
     ensures { result ≡ spec.milliseconds_in text.now }
 {

@@ -84,9 +84,10 @@ impl Side {
     }
 
     /// Decides a request by its head and body: to `Submit` its call, to `Reply` with the first
-    /// refusal that holds, or to `Show` what is asked for. The call shares the body, which is not
-    /// copied. Bodies of more than 6,291,456 bytes are decided alike, so none of their bytes is needed.
-    /// A payload is read in the scratch's room. It fails only if an allocation fails.
+    /// refusal that holds, to `Show` what is asked for, or what is asked of the `Clock`. The call
+    /// shares the body, which is not copied. Bodies of more than 6,291,456 bytes are decided alike, so
+    /// none of their bytes is needed. A payload is read in the scratch's room. It fails only if an
+    /// allocation fails.
     pub fn decide(
         &self,
         alloc: Global,
