@@ -14,6 +14,8 @@ GENERIC = re.compile(r"<(?:[^<>]|->)*>")
 CLAUSE = re.compile(r"^\s*(ensures|requires|ghost|×)")
 ROUTE = re.compile(r"^(?!\s*(?://|ensures|requires|ghost)).*\"/_local/", re.M)
 ROUTES = "crates/http_routes/src/routes.rt"
+VIEWS = "crates/long_poll/src/views.rt"
+SAID_VERSION = re.compile(r'^pub const VERSION: &str = "([^"]*)";$', re.M)
 NO_CLAUSE = os.path.join("tests", "library", "no_clause.noted")
 NOT_CLAIMED = "## What is not claimed"
 
@@ -69,6 +71,14 @@ def routes(root: str) -> Iterator[str]:
     for _, path, text in sources(root):
         if path != ROUTES and ROUTE.search(text):
             yield f"{path} has a route's path, which stands in {ROUTES} alone"
+
+
+def version(root: str) -> Iterator[str]:
+    """How the version that the service answers with differs from the file VERSION."""
+    said = SAID_VERSION.findall(text_of(root, VIEWS))
+    own = text_of(root, "VERSION").strip()
+    if said != [own]:
+        yield f"{VIEWS} says {', '.join(said) or 'no version'}, and the file VERSION {own}"
 
 
 def reasons(root: str) -> Dict[str, str]:

@@ -1,9 +1,15 @@
 -- What answers a request on a connection of a port answers it at the port.
 use Rattle.std.proofs.Common.{◌≡◌, ◌⊎◌, ℕ, List, [], Option, Some, None, Result, Ok, Err, MatchOption, subst, sym, ap, ◌∙◌, inl, inr}
 use Rattle.std.specs.Arc.{arc_value}
+use Rattle.account_lock.specs.Shown.{IsTaken}
+use Rattle.account_lock.specs.Submits.{IsTurnedAway}
+use Rattle.account_lock.specs.declared.desk.Refused.{Refused}
 use Rattle.call_types.specs.declared.call.Call.{Call}
+use Rattle.call_types.specs.declared.call.Call.TheVariants.{Tick}
 use Rattle.call_types.specs.declared.call.Entry.{Entry}
 use Rattle.call_types.specs.declared.stats.Stats.{Stats as Counted}
+use Rattle.decisions.specs.declared.decide.ClockRequest.{ClockRequest}
+use Rattle.decisions.specs.declared.decide.ClockRequest.TheVariants as asked
 use Rattle.decisions.specs.declared.decide.Decide as Decide
 use Rattle.decisions.specs.declared.decide.Decision.{Decision}
 use Rattle.decisions.specs.declared.decide.Decision.TheVariants as decided
@@ -15,17 +21,18 @@ use Rattle.http.specs.declared.response.Response.{Response}
 use Rattle.http_body.specs.declared.frame.Frame.{Frame}
 use Rattle.http_body_util.specs.declared.either.Either.{Either}
 use Rattle.http_body_util.specs.declared.full.Full.{Full}
-use Rattle.http_front.specs.Answered.{IsReplyTo, IsOutcomeOf, IsDecided, IsAnswerAt}
+use Rattle.http_front.specs.Answered.{IsReplyTo, IsOutcomeOf, IsDecided, IsAnswerAt, IsTicked}
 use Rattle.http_front.specs.Exchanged.{ComesTo, IsAnswer}
 use Rattle.http_front.specs.Responses.{IsAnswerTo, IsRefusal}
 use Rattle.http_front.specs.declared.front.Front.{Front}
 use Rattle.http_routes.specs.Decisions.{Served, decision}
 use Rattle.lambda_wire.specs.declared.reply.Reply.{Reply}
-use Rattle.long_poll.specs.Exchanges.{IsOfBody, ComesOf, IsReply}
+use Rattle.long_poll.specs.Clocks.{IsAdvance, IsClockReply}
+use Rattle.long_poll.specs.Exchanges.{IsOfBody, ComesOf, IsReply, IsTickedAt, IsTickRefusal}
 use Rattle.long_poll.specs.Lengths.{declares_too_long}
 use Rattle.long_poll.specs.Outcomes.{IsStreamOf}
 use Rattle.long_poll.specs.Reads.{Counts, Lists, Reserves}
-use Rattle.long_poll.specs.Replies.{IsReplyAt}
+use Rattle.long_poll.specs.Replies.{IsReplyAt, IsRefusalOf}
 use Rattle.long_poll.specs.Views.{stats_reply, environments_reply, reservation_reply}
 use Rattle.long_poll.specs.declared.clock.Clock as Clock
 use Rattle.long_poll.specs.declared.connection.Connection.{Connection}
@@ -39,6 +46,8 @@ use Rattle.request_guard.specs.Guarding.{refusal_of}
 use Rattle.service_port.specs.declared.port.Port.{Port}
 use Rattle.request_guard.specs.declared.refusal.Refusal.{Refusal}
 use Rattle.request_guard.specs.declared.refusal.Refusal.TheVariants as refused
+use Rattle.long_poll.specs.declared.bell.OneShotBell.{OneShotBell}
+use Rattle.usage_ledger.specs.Tallies.{Held}
 use Rattle.usage_ledger.specs.declared.keep.Keep as Keep
 
 -- it is so of the same bodies
@@ -48,6 +57,24 @@ of_body : {P E : Type 0} (has : P → List ℕ → Type 0) (source : Runs (Resul
 of_body has source head held is less weaken (inl x) = inl (x.0, x.1, weaken x.0 x.2)
 of_body has source head held is less weaken (inr x) = inr (x.0, λ body long. weaken body (x.1 body long))
 
+-- and what is replied to a request of the same clock, for which more may be said of its Tick
+module _ (reads : ℕ → Type 0) (ticks less : ℕ → Type 0) (turned fewer : ℕ → Reply → Type 0)
+    (ticked : (now : ℕ) → ticks now → less now)
+    (away : (now : ℕ) (reply : Reply) → turned now reply → fewer now reply) where
+  advance : (by : ℕ) (reply : Reply) → IsAdvance reads ticks turned by reply → IsAdvance reads less fewer by reply
+  advance by reply (from, read, inl past) = (from, read, inl past)
+  advance by reply (from, read, inr (later, few, inl x)) =
+      (from, read, inr (later, few, inl (ticked (from + by) x.0, x.1)))
+  advance by reply (from, read, inr (later, few, inr x)) =
+      (from, read, inr (later, few, inr (away (from + by) reply x)))
+
+  of_clock : (request : ClockRequest) (reply : Reply) → IsClockReply reads ticks turned request reply
+      → IsClockReply reads less fewer request reply
+  of_clock asked.Show reply x = x
+  of_clock (asked.Advance by) reply x = advance by reply x
+  of_clock asked.Pause reply x = x
+  of_clock asked.Resume reply x = x
+
 -- On a connection of an account and a decider whose relations are those of the port.
 module _ {R S D N K L B P E T : Type 0} {service : Service.Ghosts S K L T} {decider : Decide.Ghosts D}
     {keep : Keep.Ghosts K} (clock : Clock.Ghosts N) (yields : B → Runs (Result (Frame P) E))
@@ -56,6 +83,12 @@ module _ {R S D N K L B P E T : Type 0} {service : Service.Ghosts S K L T} {deci
     (replies : (call : Call) (reply : Reply) (token : List Entry)
     → IsReply (arc_value front.connection) clock (decided.Submit call) reply token
     → IsReplyAt served.config most served.salt call reply token)
+    (takes : (had : List Entry) (before : Held) (now ticket : ℕ) (seen then : List Entry) (after : Held)
+    → service.submits (arc_value (arc_value front.connection).service) had before now Tick None (Ok (ticket, seen)) then after
+    → IsTaken served.config most had now Tick ticket seen)
+    (refuses : (had : List Entry) (before : Held) (now : ℕ) (refused : Refused OneShotBell) (then : List Entry) (after : Held)
+    → service.submits (arc_value (arc_value front.connection).service) had before now Tick None (Err refused) then after
+    → IsTurnedAway served.config most had Tick refused.refusal then)
     (counts : (seen : List Entry) (stats : Counted) (then : List Entry)
     → service.counts (arc_value (arc_value front.connection).service) seen stats then
     → Counts served.config most seen stats then)
@@ -74,8 +107,28 @@ module _ {R S D N K L B P E T : Type 0} {service : Service.Ghosts S K L T} {deci
   abbrev H : Type 0
   H = StreamedBody R S T K L
 
+  abbrev read : ℕ → Type 0
+  read = clock.reads (arc_value connection.clock)
+
+  ticked : (token : List Entry) (now : ℕ) → IsTickedAt connection token now → IsTicked read served.config most served.salt token now
+  ticked token now (ticket, t) =
+      (t.had, ticket, takes t.had t.before now ticket token t.then t.after t.came)
+
+  away : (token : List Entry) (now : ℕ) (reply : Reply) → IsTickRefusal connection token now reply
+      → IsRefusalOf served.config most Tick reply token
+  away token now reply (refused, t, says) =
+      let turned : IsTurnedAway served.config most t.0.had Tick refused.refusal token =
+      subst (IsTurnedAway served.config most t.0.had Tick refused.refusal) (sym t.1)
+      (refuses t.0.had t.0.before now refused t.0.then t.0.after t.0.came) in
+      record {
+        reached = turned.sees.reached;
+        refusal = refused.refusal;
+        exactly = turned.exactly;
+        says = says;
+      }
+
   reply_to : (made : Decision) (reply : Reply) (token : List Entry) → IsReply connection clock made reply token
-      → IsReplyTo served.config most served.salt made reply token
+      → IsReplyTo read served.config most served.salt made reply token
   reply_to (decided.Submit call) reply token x = replies call reply token x
   reply_to (decided.Reply own) reply token x = x
   reply_to (decided.Show show.Stats) reply token x =
@@ -89,11 +142,16 @@ module _ {R S D N K L B P E T : Type 0} {service : Service.Ghosts S K L T} {deci
   reply_to (decided.Show (show.Reservation f)) reply token x =
       let reserved = reserves x.1.0 f x.0 token x.1.1 in
       (reserved.0.reached, x.2 ∙ ap reservation_reply reserved.1)
+  reply_to (decided.Show show.Version) reply token x = x
+  reply_to (decided.Clock request) reply token x =
+      of_clock read (IsTickedAt connection token) (IsTicked read served.config most served.salt token)
+      (IsTickRefusal connection token) (λ now reply. IsRefusalOf served.config most Tick reply token)
+      (ticked token) (away token) request reply x
 
   outcome_of : (shows : Shown → H → Type 0) (head : Parts) (body : List ℕ) (given : Outcome H L)
-      → ComesOf connection clock shows head body (Ok given) → IsOutcomeOf L shows served most (decision served head body) given
+      → ComesOf connection clock shows head body (Ok given) → IsOutcomeOf L shows read served most (decision served head body) given
   outcome_of shows head body (outcome.Reply reply token) x =
-      subst (λ made. IsReplyTo served.config most served.salt made reply token) (decides head body x.0 x.1)
+      subst (λ made. IsReplyTo read served.config most served.salt made reply token) (decides head body x.0 x.1)
       (reply_to x.0 reply token x.2)
   outcome_of shows head body (outcome.History shown) x =
       (x.0, sym (decides head body (decided.Show (show.History x.0)) x.1), x.2)
@@ -112,7 +170,7 @@ module _ {R S D N K L B P E T : Type 0} {service : Service.Ghosts S K L T} {deci
         → IsAnswerTo served.port (declares_too_long head) made response
         → IsRefusal served.port (declares_too_long head) refused.BrokenBody response
         ⊎ (IsRefusal served.port (declares_too_long head) refused.OutOfMemory response
-        ⊎ IsDecided L shows served most yields has hosts head response)
+        ⊎ IsDecided L shows read served most yields has hosts head response)
     exchanged (Ok given) x answer =
         inr (inr (
           x.0,
@@ -123,7 +181,7 @@ module _ {R S D N K L B P E T : Type 0} {service : Service.Ghosts S K L T} {deci
               head
               []
               (λ body. ComesOf connection clock shows head body (Ok given))
-              (λ body. IsOutcomeOf L shows served most (decision served head body) given)
+              (λ body. IsOutcomeOf L shows read served most (decision served head body) given)
               (λ body. outcome_of shows head body given)
               x.1,
           answer,
@@ -138,16 +196,17 @@ module _ {R S D N K L B P E T : Type 0} {service : Service.Ghosts S K L T} {deci
         → MatchOption guard
         (IsRefusal served.port (declares_too_long head) refused.BrokenBody response
         ⊎ (IsRefusal served.port (declares_too_long head) refused.OutOfMemory response
-        ⊎ IsDecided L shows served most yields has hosts head response))
+        ⊎ IsDecided L shows read served most yields has hosts head response))
         (λ refusal. IsRefusal served.port (declares_too_long head) refusal response)
     guarded (Some refusal) x = x
     guarded None (inl x) = inr (inl x)
     guarded None (inr x) = exchanged x.0 x.1 x.2
 
-    pub at_port : (account : S) → arc_value connection.service ≡ account → front.port ≡ served.port
+    pub at_port : (account : S) → arc_value connection.service ≡ account
+        → (it : N) → arc_value connection.clock ≡ it → front.port ≡ served.port
         → arc_value front.hosts ≡ hosts → IsAnswer clock yields has front head response
-        → IsAnswerAt L (IsStreamOf service account) served most yields has hosts head response
-    at_port account same at listed x =
+        → IsAnswerAt L (IsStreamOf service account) (clock.reads it) served most yields has hosts head response
+    at_port account same it is at listed x =
         let of_hosts : MatchOption (refusal_of hosts head) (IsRefusal front.port (declares_too_long head) refused.OutOfMemory response ⊎ Exchanged front.port)
         (λ refusal. IsRefusal front.port (declares_too_long head) refusal response)
         = subst (λ h. MatchOption (refusal_of h head)
@@ -159,5 +218,6 @@ module _ {R S D N K L B P E T : Type 0} {service : Service.Ghosts S K L T} {deci
         = subst (λ a. MatchOption (refusal_of hosts head)
         (IsRefusal a (declares_too_long head) refused.OutOfMemory response ⊎ Exchanged a) (λ refusal. IsRefusal a (declares_too_long head) refusal response))
         at of_hosts in
-        subst (λ a. IsAnswerAt L (IsStreamOf service a) served most yields has hosts head response) same
-        (guarded (refusal_of hosts head) of_api)
+        subst (λ a. IsAnswerAt L (IsStreamOf service a) (clock.reads it) served most yields has hosts head response) same
+        (subst (λ c. IsAnswerAt L shows (clock.reads c) served most yields has hosts head response) is
+        (guarded (refusal_of hosts head) of_api))

@@ -1,5 +1,5 @@
 -- What the ticker does at a beat.
-use Rattle.std.specs.Prelude.{◌≡◌, ◌⊎◌, ◌+◌, ℕ, Bool, true, false, not, nat_lt, min, List, Option, Some, None, is_some}
+use Rattle.std.specs.Prelude.{◌≡◌, ◌⊎◌, ◌+◌, ℕ, Bool, true, false, not, nat_lt, min, List, Option, Some, None, IfSome, IfNone, is_some}
 use Rattle.account_book.specs.declared.book.Life.{Life}
 use Rattle.account_book.specs.declared.book.Life.TheVariants.{Open, Stopping, Off}
 use Rattle.account_book.specs.declared.book.Refusal.{Refusal}
@@ -40,6 +40,16 @@ module _ (config : Config) (most : ℕ) (notes : Kept → ℕ → Answer → Kep
   -- A tick was refused, and this is why: the tally has counted nothing.
   abbrev pub HasBeenRefused : Refusal → Type 0
   HasBeenRefused refusal = (after ≡ before) × ((had : List Entry) × IsTurnedAway config most had Tick refusal seen)
+
+-- What a look of the ticker came to: it caught up with the time of day, at a moment of which `ahead` holds, or not; and
+-- then a tick, at a moment of which `at_moment` holds, was refused, and this is why, or it was not.
+abbrev pub HasLooked : Config → ℕ → (Kept → ℕ → Answer → Kept → Type 0) → (Kept → ℕ → Head → Kept → Type 0)
+    → (ℕ → Type 0) → (ℕ → Type 0) → Held → List Entry → Held → Option Refusal → Type 0
+HasLooked config most notes makes ahead at_moment before seen after refusal =
+    (then : List Entry) × (between : Held)
+    × HasTickedAtMostOnce config most notes makes ahead before then between
+    × IfNone refusal (HasDone config most notes makes at_moment between seen after)
+    × IfSome refusal (HasBeenRefused config most notes makes at_moment between seen after)
 
 -- For how many beats in a row ticks were refused, after one more tick with this result. A full journal stays full, so
 -- that counts as the most, ten seconds of beats.

@@ -15,6 +15,7 @@ use Rattle.http_front.specs.declared.common.Common.{Common}
 use Rattle.http_routes.specs.Decisions.{Served}
 use Rattle.long_poll.specs.Outcomes.{IsStreamOf}
 use Rattle.long_poll.specs.declared.bell.OneShotBell.{OneShotBell}
+use Rattle.long_poll.specs.declared.clock.Clock as Clock
 use Rattle.long_poll.specs.declared.service.Service as Service
 use Rattle.long_poll.specs.declared.streamed_body.StreamedBody.{StreamedBody}
 use Rattle.socket_loop.specs.Halves.{name_of_unused}
@@ -22,15 +23,16 @@ use Rattle.socket_loop.specs.declared.unused.Unused.{Unused}
 
 -- The account is a service; the bodies of responses and those of requests yield frames, and the data of a frame has
 -- bytes.
-module _ {R S N K L T B P X E : Type 0} (service : Service.Ghosts (Account S OneShotBell) K L T)
+module _ {R S N K L T B P X E : Type 0} (service : Service.Ghosts (Account S OneShotBell) K L T) (clock : Clock.Ghosts N)
     (sends : Either (Full (List ℕ)) (StreamedBody R (Account S OneShotBell) T K L) → Runs (Result (Frame P) X))
     (yields : B → Runs (Result (Frame P) E)) (has : P → List ℕ → Type 0) (common : Common S N)
     (served : Served) (most name : ℕ) where
   -- A connection at this port, over the socket of this name, came to this. It is the same socket, and each response that
-  -- it took answers its request: as this port does within this limit, with the account and the hosts that the threads
-  -- have in common. Or it was closed before anything was written to it.
+  -- it took answers its request: as this port does within this limit, with the account, the clock and the hosts that the
+  -- threads have in common. Or it was closed before anything was written to it.
   abbrev pub IsServed : Result (Ended Wire) Unused → Type 0
   IsServed (Ok ended) = (name_of ended.io ≡ name) × Written sends has
-      (IsAnswerAt L (IsStreamOf service (arc_value common.account)) served most yields has (arc_value common.hosts))
+      (IsAnswerAt L (IsStreamOf service (arc_value common.account)) (clock.reads (arc_value common.clock)) served most
+      yields has (arc_value common.hosts))
       ended.io (outcome_of ended.outcome)
   IsServed (Err unused) = name_of_unused unused ≡ name

@@ -67,6 +67,7 @@ impl<S: Identity + Drop, N: Drop> Common<S, N> {
     /// Returns the same, for another thread.
     pub(crate) fn share(&self) -> Result<Common<S, N>, AllocError>
         ensures account { IfOk result (λ common. arc_value common.account ≡ arc_value self.now.account) }
+        ensures clock { IfOk result (λ common. arc_value common.clock ≡ arc_value self.now.clock) }
         ensures hosts { IfOk result (λ common. arc_value common.hosts ≡ arc_value self.now.hosts) }
     {
         let account = Arc::try_clone(&self.account)?;

@@ -1,7 +1,7 @@
 //! The thread that lets time pass in the account.
 
 ghost use Rattle.std.specs.Prelude.{◌≡◌, IfNone, IfSome};
-ghost use Rattle.http_front.specs.Beats.{has_ended, refused_after, HasBeenRefused, HasDone, HasTickedAtMostOnce};
+ghost use Rattle.http_front.specs.Beats.{has_ended, refused_after, HasBeenRefused, HasDone, HasLooked, HasTickedAtMostOnce};
 ghost use Rattle.http_front.specs.Readings.{IsRead, IsReadAhead};
 
 use crate::common::Common;
@@ -12,7 +12,7 @@ use account_lock::{Account, Identity};
 use arn_ids::GREATEST_MOMENT;
 use call_model::Call;
 use http_connection::Machine;
-use long_poll::{Beat, Clock, OneShotBell, moment};
+use long_poll::{Beat, Clock, ClockFace, OneShotBell, moment};
 use mio::Waker;
 use std::alloc::AllocError;
 use std::sync::{Arc, Wait};
@@ -26,6 +26,9 @@ const BEAT: u64 = 50;
 
 /// How often a rest may be twice as long as a beat: up to an hour and 49 minutes.
 const DOUBLINGS: u32 = 17;
+
+/// The longest rest, in milliseconds.
+const LONGEST_REST: u64 = BEAT << DOUBLINGS;
 
 /// For how many beats in a row a tick may be refused after a Stop because an allocation fails,
 /// before the service ends without it: ten seconds.
@@ -80,6 +83,24 @@ fn tick<S: Identity, N: Clock, K: Keep>(
     Some(refused.refusal)
 }
 
+/// Sets the clock forward if it is behind the time of day, and submits a `Tick` if something is due. If
+/// it was refused, returns why. Meanwhile the clock is not set for a request.
+fn look<S: Identity, N: Clock, K: Keep>(
+    rt: &impl Wait,
+    account: &Account<S, OneShotBell>,
+    clock: &N,
+    tally: &mut Tally<K, S>,
+    token: &mut Token<S>,
+    beat: &Beat,
+) -> Option<Refusal>
+    ensures { HasLooked S.config S.most K.notes K.makes (IsReadAhead N.Clock clock.now) (IsRead N.Clock clock.now)
+        tally.old.held token.new tally.new.held result }
+{
+    let _setting = beat.setting.lock(rt);
+    catch_up(rt, account, clock, tally, token);
+    tick(rt, account, clock, tally, token)
+}
+
 /// Returns for how many beats in a row ticks were refused, after one more tick with this result. A
 /// full journal stays full, so a tick that it refuses counts as the most.
 fn refused_after(before: u32, refusal: Option<Refusal>) -> u32
@@ -104,18 +125,26 @@ fn has_ended(life: Life, refused: u32) -> bool
     }
 }
 
-/// Returns for how many milliseconds nothing is due if no step is made: a beat, or some doublings of
-/// it, half of the time until something is due or more.
+/// Returns for how many milliseconds nothing is due if no step is made and the clock is not set: a beat,
+/// or some doublings of it, half of the time until something is due or more. While the clock is paused
+/// nothing becomes due.
 fn quiet_time<S: Identity>(
     rt: &impl Wait,
     account: &Account<S, OneShotBell>,
     token: &mut Token<S>,
-    now: u64,
+    face: ClockFace,
 ) -> u64 {
+    if !face.is_running {
+        return LONGEST_REST;
+    }
     let mut quiet = BEAT;
     for _ in 0..DOUBLINGS {
         let longer = quiet.saturating_mul(2);
-        if account.due(rt, token, now.saturating_add(longer).min(GREATEST_MOMENT)) {
+        if account.due(
+            rt,
+            token,
+            face.now.saturating_add(longer).min(GREATEST_MOMENT),
+        ) {
             break;
         }
         quiet = longer;
@@ -124,8 +153,8 @@ fn quiet_time<S: Identity>(
 }
 
 /// Sleeps until the next look. If no step was made since the last one, after which there were
-/// `entries`, that is shortly before something is due, or after the next step; otherwise it is a
-/// beat. It is at once if the ticker was woken since it was woken `woken` times.
+/// `entries`, that is shortly before something is due, or after the next step, or once the clock is set;
+/// otherwise it is a beat. It is at once if the ticker was woken since it was woken `woken` times.
 fn rest<S: Identity, N: Clock>(
     rt: &impl Wait,
     account: &Account<S, OneShotBell>,
@@ -137,7 +166,7 @@ fn rest<S: Identity, N: Clock>(
 ) {
     beat.begin_rest();
     let quiet = if account.stats(rt, token).entries == entries {
-        quiet_time(rt, account, token, moment(clock))
+        quiet_time(rt, account, token, clock.face())
     } else {
         BEAT
     };
@@ -160,8 +189,10 @@ fn tick_on<R: Wait + time::Clock, S: Identity, N: Clock, K: Keep>(
     let mut before = 0;
     for _ in rt.forever() {
         let woken = beat.count();
-        catch_up(rt, account, clock, &mut tally, &mut token);
-        refused = refused_after(refused, tick(rt, account, clock, &mut tally, &mut token));
+        refused = refused_after(
+            refused,
+            look(rt, account, clock, &mut tally, &mut token, beat),
+        );
         let entries = account.stats(rt, &mut token).entries;
         notices.note(entries);
         if entries != before {

@@ -207,7 +207,7 @@ impl<R: Machine, S: Identity + Drop, N: Clock + Drop, K: Keep> Worker<R, S, N, K
     /// # Errors
     /// If the connection cannot be served. Its socket is then closed, and nothing was written to it.
     fn serve(&self, tools: &mut Tools<S>, job: Job<S>) -> Result<Ended<Wire>, Unused>
-        ensures { IsServed ⟦<Account<S, OneShotBell> as Service<K, S>>⟧
+        ensures { IsServed ⟦<Account<S, OneShotBell> as Service<K, S>>⟧ N.Clock
             ⟦<Either<Full<Bytes>, StreamedBody<R, Account<S, OneShotBell>, Trail<S>, K, S>> as Body>⟧.yields
             ⟦<Incoming<Wire> as Body>⟧.yields ⟦<Bytes as Into<Bytes>>⟧.converts
             self.now.common job.served S.most (name_of_accepted job.pending.socket) result }
@@ -233,7 +233,7 @@ impl<R: Machine, S: Identity + Drop, N: Clock + Drop, K: Keep> Worker<R, S, N, K
         job: Job<S>,
         open: &Arc<OpenPoll>,
     ) -> Result<Ended<Wire>, Unused>
-        ensures { IsServed ⟦<Account<S, OneShotBell> as Service<K, S>>⟧
+        ensures { IsServed ⟦<Account<S, OneShotBell> as Service<K, S>>⟧ N.Clock
             ⟦<Either<Full<Bytes>, StreamedBody<R, Account<S, OneShotBell>, Trail<S>, K, S>> as Body>⟧.yields
             ⟦<Incoming<Wire> as Body>⟧.yields ⟦<Bytes as Into<Bytes>>⟧.converts
             self.now.common job.served S.most (name_of_accepted job.pending.socket) result }
@@ -290,6 +290,8 @@ impl<
             × (arc_value front.hosts ≡ arc_value self.now.common.hosts)) }
         ensures account { IfOk result (λ front.
             arc_value (arc_value front.connection).service ≡ arc_value self.now.common.account) }
+        ensures clock { IfOk result (λ front.
+            arc_value (arc_value front.connection).clock ≡ arc_value self.now.common.clock) }
         ensures decided { IfOk result (λ front. arc_value (arc_value front.connection).decider ≡ served) }
         ensures named { IfOk result (λ front. (served.config ≡ S.config) × (served.salt ≡ S.salt)) }
     {
@@ -333,6 +335,8 @@ impl<
         requires { (arc_value decider).config ≡ S.config }
         ensures account { IfOk result (λ connection.
             arc_value (arc_value connection).service ≡ arc_value self.now.common.account) }
+        ensures clock { IfOk result (λ connection.
+            arc_value (arc_value connection).clock ≡ arc_value self.now.common.clock) }
         ensures decider { IfOk result (λ connection. (arc_value connection).decider ≡ decider) }
     {
         let Common {

@@ -9,6 +9,7 @@
 mod clock;
 mod closing;
 mod configuration;
+mod course;
 mod explain;
 mod hosts;
 mod log_writer;

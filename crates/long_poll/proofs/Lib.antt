@@ -5,6 +5,8 @@ mod Pieces
 mod Beginnings
 -- The compact text of the counts' value.
 mod StatsText
+-- The compact texts of what a clock shows, and of the version.
+mod ClockText
 -- What the relations of an account say of the reply to a call.
 mod Replying
 -- A reply that a history gives, each history that goes on there gives too.

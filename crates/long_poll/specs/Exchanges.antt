@@ -1,10 +1,11 @@
 -- What an exchange may return.
-use Rattle.std.specs.Prelude.{◌≡◌, ◌<◌, ◌⊎◌, ℕ, Bool, true, List, length, Option, Some, None, Result, Ok, Err}
+use Rattle.std.specs.Prelude.{◌≡◌, ◌<◌, ◌⊎◌, ℕ, Bool, true, false, List, length, Option, Some, None, Result, Ok, Err}
 use Rattle.std.specs.Arc.{arc_value}
 use Rattle.arn_ids.specs.Limits.{longest_body}
 use Rattle.account_lock.specs.declared.desk.Refused.{Refused}
 use Rattle.call_types.specs.Within.{IsWithin}
 use Rattle.call_types.specs.declared.call.Call.{Call}
+use Rattle.call_types.specs.declared.call.Call.TheVariants.{Tick}
 use Rattle.call_types.specs.declared.call.Entry.{Entry}
 use Rattle.call_types.specs.declared.stats.Stats.{Stats as Counted}
 use Rattle.futures.specs.Runs.{Runs}
@@ -19,7 +20,8 @@ use Rattle.long_poll.specs.UnlessPremature.{CameBack}
 use Rattle.long_poll.specs.Ringing.{rings_at, hears_at}
 use Rattle.call_types.specs.Calls.{is_invoke}
 use Rattle.long_poll.specs.Refusals.{refusal_reply}
-use Rattle.long_poll.specs.Views.{stats_reply, environments_reply, followers_reply, reservation_reply}
+use Rattle.long_poll.specs.Clocks.{IsClockReply}
+use Rattle.long_poll.specs.Views.{stats_reply, environments_reply, followers_reply, reservation_reply, version_reply}
 use Rattle.long_poll.specs.declared.bell.Heard.{Heard}
 use Rattle.long_poll.specs.declared.bell.OneShotBell.{OneShotBell}
 use Rattle.long_poll.specs.declared.clock.Clock as Clock
@@ -28,10 +30,11 @@ use Rattle.long_poll.specs.declared.connection.Begun.TheVariants.{Replied, HeldB
 use Rattle.long_poll.specs.declared.connection.Connection.{Connection}
 use Rattle.long_poll.specs.declared.connection.HeldBackCall.{HeldBackCall}
 use Rattle.decisions.specs.declared.decide.Decide as Decide
+use Rattle.decisions.specs.declared.decide.ClockRequest.{ClockRequest}
 use Rattle.decisions.specs.declared.decide.Decision.{Decision}
 use Rattle.decisions.specs.declared.decide.Decision.TheVariants as decision
 use Rattle.decisions.specs.declared.decide.Shown.{Shown}
-use Rattle.decisions.specs.declared.decide.Shown.TheVariants.{Stats, History, Trace, Environments, Reservation}
+use Rattle.decisions.specs.declared.decide.Shown.TheVariants.{Stats, History, Trace, Environments, Reservation, Version}
 use Rattle.long_poll.specs.declared.fault.ExchangeFault.{ExchangeFault}
 use Rattle.long_poll.specs.declared.fault.ExchangeFault.TheVariants.{BodyFailed, OutOfMemory, BellLost}
 use Rattle.long_poll.specs.declared.outcome.Outcome.{Outcome}
@@ -109,6 +112,28 @@ module _ {R S D N K L T : Type 0} {service : Service.Ghosts S K L T} {decider : 
   IsView (Trace from follow bodies) reply then = (follow ≡ true) × (reply ≡ followers_reply)
   IsView Environments reply then = (text : List ℕ) × Lists text then × (reply ≡ environments_reply text)
   IsView (Reservation f) reply then = (count : Option ℕ) × Reserves f count then × (reply ≡ reservation_reply count)
+  IsView Version reply then = reply ≡ version_reply
+
+  -- A Tick was submitted at a moment, with no bell, and this was the result.
+  pub record Ticked (now : ℕ) (back : CameBack) : Type 0 where
+    pub had : List Entry
+    pub before : Held
+    pub then : List Entry
+    pub after : Held
+    pub came : service.submits (arc_value connection.service) had before now Tick None back then after
+
+  -- A Tick was taken at a moment, and made this history.
+  abbrev pub IsTickedAt : List Entry → ℕ → Type 0
+  IsTickedAt seen now = (ticket : ℕ) × Ticked now (Ok (ticket, seen))
+
+  -- A Tick was refused at a moment, and what was then seen is this.
+  abbrev pub IsTickRefused : ℕ → Refused OneShotBell → List Entry → Type 0
+  IsTickRefused now refused then = (ticked : Ticked now (Err refused)) × (then ≡ ticked.then)
+
+  -- The same, and the reply says so.
+  abbrev pub IsTickRefusal : List Entry → ℕ → Reply → Type 0
+  IsTickRefusal then now reply =
+      (refused : Refused OneShotBell) × IsTickRefused now refused then × (reply ≡ refusal_reply false refused.refusal)
 
   module _ (clock : Clock.Ghosts N) where
     -- A call was submitted at a reading of the clock, with a bell, and this was the result.
@@ -171,12 +196,19 @@ module _ {R S D N K L T : Type 0} {service : Service.Ghosts S K L T} {decider : 
     IsBegun call (AsksForTrace from follow bodies) = ⊥
     IsBegun call (Parked ticket heard token) = IsParked call ticket heard token
 
+    -- The reply to what is asked of the connection's clock, with what its token has seen: the history that the Tick of an
+    -- advance made, or in which it was refused.
+    abbrev pub IsOfClock : ClockRequest → Reply → List Entry → Type 0
+    IsOfClock request reply token =
+        IsClockReply (clock.reads (arc_value connection.clock)) (IsTickedAt token) (IsTickRefusal token) request reply
+
     -- The reply to a request, given what is decided about it, with what its token has seen: the history that the reply
     -- is of, or anything if the reply itself was decided.
     abbrev pub IsReply : Decision → Reply → List Entry → Type 0
     IsReply (decision.Submit call) reply token = IsRendered call (Some reply) token ⊎ IsRefusal call reply token
     IsReply (decision.Reply own) reply token = reply ≡ own
     IsReply (decision.Show shown) reply token = IsView shown reply token
+    IsReply (decision.Clock request) reply token = IsOfClock request reply token
 
     -- How far a request with this head and this body has come.
     abbrev pub HasBegun : Parts → List ℕ → Begun L → Type 0

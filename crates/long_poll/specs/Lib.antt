@@ -7,6 +7,8 @@ pub mod Answers
 -- What an account does for an exchange: it takes calls, and shows what is asked for.
 pub mod Submits
 pub mod UnlessPremature
+-- What is asked of the clock.
+pub mod Clocks
 pub mod Reads
 -- The texts that are this project's own: of what is shown, of a refused call, and of a history
 -- and its trace in pieces.

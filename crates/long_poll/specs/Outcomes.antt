@@ -26,6 +26,7 @@ IsFull (shown.Trace from follow bodies) reply = (follow ≡ true) × (reply ≡ 
 IsFull shown.Stats reply = ⊥
 IsFull shown.Environments reply = ⊥
 IsFull (shown.Reservation f) reply = ⊥
+IsFull shown.Version reply = ⊥
 
 module _ {R S K L T : Type 0} (service : Service.Ghosts S K L T) (s : S) where
   -- The body shows the history, or its trace, as is asked for. Nothing else is streamed.
@@ -38,6 +39,7 @@ module _ {R S K L T : Type 0} (service : Service.Ghosts S K L T) (s : S) where
   IsStreamOf shown.Stats body = ⊥
   IsStreamOf shown.Environments body = ⊥
   IsStreamOf (shown.Reservation f) body = ⊥
+  IsStreamOf shown.Version body = ⊥
 
   -- The outcome is a body that shows the history.
   abbrev pub IsHistoryOf : Option ℕ → Outcome (StreamedBody R S T K L) L → Type 0

@@ -1,7 +1,8 @@
 -- The replies that show something of an account.
-use Rattle.std.specs.Prelude.{ℕ, List, [], ◌∷◌, ◌++◌, codes, decimal, Option}
+use Rattle.std.specs.Prelude.{ℕ, Bool, true, false, List, [], ◌∷◌, ◌++◌, codes, decimal, Option}
 use Rattle.call_types.specs.declared.stats.Stats.{Stats}
-use Rattle.serde_json.specs.Data.{Data, number, unsigned, object, member, no_members}
+use Rattle.long_poll.specs.declared.views.TheConstants.{VERSION}
+use Rattle.serde_json.specs.Data.{Data, boolean, number, unsigned, string, object, member, no_members}
 use Rattle.http_header.specs.FieldValue.{FieldValue}
 use Rattle.lambda_wire.specs.Bodies.{reservation_text}
 use Rattle.lambda_wire.specs.Headers.{header, json_headers, text_headers}
@@ -27,6 +28,42 @@ stats_text stats =
 -- The reply that shows the counts of an account.
 abbrev pub stats_reply : Stats → Reply
 stats_reply stats = record { status = 200; headers = json_headers; body = stats_text stats }
+
+-- What a clock shows as a JSON value: its reading, and whether it is running.
+abbrev pub clock_data : ℕ → Bool → Data
+clock_data now running = object
+    (member (codes "now") (number (unsigned now)) (member (codes "running") (boolean running) no_members))
+
+-- Whether a clock is running, as JSON.
+abbrev pub running_text : Bool → List ℕ
+running_text true = codes "true"
+running_text false = codes "false"
+
+-- What a clock shows as JSON.
+unfoldable pub clock_text : ℕ → Bool → List ℕ
+clock_text now running =
+    codes "{\"now\":" ++ decimal now ++ codes ",\"running\":" ++ running_text running ++ codes "}"
+
+-- The reply that shows a clock.
+abbrev pub clock_reply : ℕ → Bool → Reply
+clock_reply now running = record { status = 200; headers = json_headers; body = clock_text now running }
+
+-- The reply to a request to advance a clock past the greatest moment (this project's own).
+abbrev pub past_reply : Reply
+past_reply =
+    fault_reply 400 (codes "ms would set the clock past 9007199254740991") (codes "InvalidMilliseconds")
+
+-- The version of the service as a JSON value.
+abbrev pub version_data : Data
+version_data = object (member (codes "version") (string VERSION.now) no_members)
+
+-- The version of the service as JSON.
+unfoldable pub version_text : List ℕ
+version_text = codes "{\"version\":\"" ++ VERSION.now ++ codes "\"}"
+
+-- The reply that shows the version of the service.
+abbrev pub version_reply : Reply
+version_reply = record { status = 200; headers = json_headers; body = version_text }
 
 -- The reply that shows the environments of an account.
 abbrev pub environments_reply : List ℕ → Reply

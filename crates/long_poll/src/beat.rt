@@ -5,7 +5,7 @@ use crate::followers::Followers;
 use std::alloc::Global;
 use std::sync::atomic::AtomicBool;
 use std::sync::atomic::Ordering::SeqCst;
-use std::sync::{Arc, Wait};
+use std::sync::{Arc, Mutex, Wait};
 use std::time::Duration;
 
 /// How many milliseconds a thread waits at most for the ticker to have looked.
@@ -28,6 +28,11 @@ pub struct Beat {
     looked: Alarm,
     // Who follows the history, and is woken after each step.
     pub(crate) followers: Followers,
+    /// Held while the clock is set for a request, until what is then due has expired; and by the ticker while it
+    /// looks. So the ticker's look is before or after that, as a whole: it never catches up with the time of day in a
+    /// clock that is paused meanwhile, and lets nothing expire that the request is about to. Whoever holds it may lock
+    /// an account; no account is locked when it is taken.
+    pub setting: Mutex<()>,
 }
 
 impl Beat {
@@ -40,6 +45,7 @@ impl Beat {
             alarm,
             looked: Alarm::new(),
             followers: Followers::new(alloc),
+            setting: Mutex::new(()),
         }
     }
 
@@ -77,6 +83,11 @@ impl Beat {
     /// Wakes those who follow the history, after a step of the ticker itself.
     pub fn note_own_step(&self, rt: &impl Wait) {
         self.followers.wake(rt);
+    }
+
+    /// Wakes the ticker after the clock was set: what it waits for may come at another time.
+    pub fn note_clock(&self) {
+        self.alarm.ring();
     }
 
     /// Wakes the ticker, and waits until it has looked.

@@ -14,7 +14,9 @@ use crate::clock::moment;
 use crate::followers::FollowerPlace;
 use crate::line::{Line, Place};
 use crate::refusal::refusal_reply;
-use crate::views::{environments_reply, followers_reply, reservation_reply, stats_reply};
+use crate::views::{
+    environments_reply, followers_reply, reservation_reply, stats_reply, version_reply,
+};
 use crate::{
     Clock, ExchangeFault, Heard, HistoryBody, OneShotBell, OpenPoll, Outcome, Service,
     StreamedBody, TraceBody,
@@ -42,22 +44,22 @@ const LONGEST_PAUSE: u64 = 8_000;
 /// back; and its patience, which is how many milliseconds a premature call is held back at most.
 #[derive(Drop)]
 pub struct Connection<R, S: Service<K, L>, D: Decide, N, K: Keep, L: Ledgers> {
-    rt: R,
-    alloc: Global,
+    pub(crate) rt: R,
+    pub(crate) alloc: Global,
     pub(crate) service: Arc<S>,
     pub(crate) decider: Arc<D>,
     pub(crate) clock: Arc<N>,
-    tally: Arc<Mutex<Tally<K, L>>>,
+    pub(crate) tally: Arc<Mutex<Tally<K, L>>>,
     open: Arc<OpenPoll>,
     // What wakes the ticker, and the line, both of all connections; and the function whose environment
     // asks here, if one does.
-    beat: Arc<Beat>,
+    pub(crate) beat: Arc<Beat>,
     line: Arc<Line>,
     function: Option<FnNo>,
     pub(crate) maps: Arc<HeaderMaps>,
     patience: u32,
     // The token, which has seen the history up to the earlier requests; none while a request has it.
-    seen: Cell<Option<Token<L>>>,
+    pub(crate) seen: Cell<Option<Token<L>>>,
     // The scratch space in which payloads are read, one decision at a time.
     scratch: Cell<PayloadScratch>,
     ghost agree: { S.serves (arc_value service) ≡ D.decides_for (arc_value decider) },
@@ -211,7 +213,7 @@ impl<
 
     /// Takes the connection's token, which has to be put back. If a request has it, makes another token, which
     /// has seen the history as it is.
-    fn token(&self) -> Token<L> {
+    pub(crate) fn token(&self) -> Token<L> {
         match self.seen.take() {
             Some(token) => token,
             None => self.service.token(&self.rt),
@@ -219,7 +221,7 @@ impl<
     }
 
     /// Returns another token of the connection's, which has seen as much.
-    fn another_token(&self) -> Token<L> {
+    pub(crate) fn another_token(&self) -> Token<L> {
         let mut token = self.token();
         let other = self.service.again(&mut token);
         self.seen.set(Some(token));
@@ -482,6 +484,13 @@ impl<
             Decision::Show(Shown::Reservation { function }) => {
                 let (count, seen) = self.reservation(function);
                 Ok(Begun::Replied(reservation_reply(self.alloc, count)?, seen))
+            }
+            Decision::Show(Shown::Version) => {
+                Ok(Begun::Replied(version_reply(self.alloc)?, self.another_token()))
+            }
+            Decision::Clock(request) => {
+                let (reply, seen) = self.ask_clock(request)?;
+                Ok(Begun::Replied(reply, seen))
             }
             Decision::Submit(call) => self.submit(call),
         }

@@ -6,6 +6,7 @@ mod alarm;
 mod beat;
 mod bell;
 mod clock;
+mod clock_request;
 mod collecting;
 mod connection;
 mod exchange;
@@ -32,7 +33,7 @@ mod views;
 pub use alarm::Alarm;
 pub use beat::Beat;
 pub use bell::{Heard, OneShotBell};
-pub use clock::{Clock, moment};
+pub use clock::{Clock, ClockFace, moment};
 pub use connection::Connection;
 pub use exchange::Exchange;
 pub use fault::{BodyFault, ExchangeFault};
@@ -45,4 +46,7 @@ pub use poll::{BellLost, Poll};
 pub use service::Service;
 pub use streamed_body::StreamedBody;
 pub use trace_body::TraceBody;
-pub use views::{environments_reply, history_headers, reservation_reply, stats_reply};
+pub use views::{
+    VERSION, clock_reply, environments_reply, history_headers, reservation_reply, stats_reply,
+    version_reply,
+};

@@ -98,8 +98,8 @@ pub trait Service<K: Keep, L: Ledgers>: Drop {
         requires within { IsWithin (serves self.now) call }
         ensures { submits self.now token.old tally.old.held now call bell result token.new tally.new.held };
 
-    /// Submits a call unless it is premature: an Invoke that would be throttled, while an environment in
-    /// its way has answered its invocation and is not ready again.
+    /// Submits a call unless it is premature: an Invoke that would be throttled, or would start an environment, while
+    /// an environment in its way has answered its invocation and is not ready again.
     ///
     /// # Errors
     /// `Premature` if it is: the call is returned with its bell. Otherwise as `submit`.

@@ -1,5 +1,8 @@
 use Rattle.std.proofs.Common.{rules, ◌≡◌, ◌∙◌, subst}
 use Rattle.std.specs.Arc.{arc_value}
+use Rattle.account_lock.specs.Shown.{IsTaken}
+use Rattle.account_lock.specs.Submits.{IsTurnedAway}
+use Rattle.call_types.specs.declared.call.Call.TheVariants.{Tick}
 use Rattle.http_front.proofs.Answering.{weakened}
 use Rattle.http_front.proofs.AtPorts.{at_port}
 use Rattle.http_routes.specs.Decisions.{decision}
@@ -20,12 +23,15 @@ returns g c =
           (λ call reply token r. subst (λ s. IsReplyAt served.config g.S.Identity.most s call reply token) salted
           (subst (λ k. IsReplyAt k g.S.Identity.most g.S.Identity.salt call reply token) configured
           ((rw c.deref-2.ensures at c.replies.ensures) call reply token r)))
+          (λ had before now ticket seen then after r. subst (λ k. IsTaken k g.S.Identity.most had now Tick ticket seen) configured r.0.taken)
+          (λ had before now refused then after r. subst (λ k. IsTurnedAway k g.S.Identity.most had Tick refused.refusal then) configured r.2)
           (λ seen stats then r. subst (λ k. Counts k g.S.Identity.most seen stats then) configured r)
           (λ seen text then r. subst (λ s. Lists served.config g.S.Identity.most s seen text then) salted
           (subst (λ k. Lists k g.S.Identity.most g.S.Identity.salt seen text then) configured r))
           (λ seen f count then r. subst (λ k. Reserves k g.S.Identity.most seen f count then) configured r)
           (λ head body made d. subst (λ side. made ≡ decision side head body) decider d)
           (arc_value c.args.self.now.common.hosts) head response
-          (arc_value c.args.self.now.common.account) (search rules) (search rules) (search rules) x)
+          (arc_value c.args.self.now.common.account) (search rules)
+          (arc_value c.args.self.now.common.clock) (search rules) (search rules) (search rules) x)
           c.serve_by.result.io _ c.serve_by.ensures.written,
     )
