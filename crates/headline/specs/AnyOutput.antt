@@ -1,6 +1,5 @@
 -- Histories that calls led to, in which an invocation has whatever output, or whatever payload.
-use Rattle.std.specs.Prelude.{◌≡◌, ◌<◌, ℕ, true, false, List, Some, None, All}
-use Rattle.lambda_wire.specs.declared.reply.Reply.{Reply}
+use Rattle.std.specs.Prelude.{◌≡◌, ◌<◌, ℕ, true, false, List, Some, None, All, is_some}
 use Rattle.call_types.specs.Within.{is_body}
 use Rattle.call_types.specs.declared.answer.Answer.TheVariants.{Delivered, Output}
 use Rattle.call_types.specs.declared.call.Call.TheVariants.{Invoke, Response, RuntimeNext}
@@ -21,8 +20,7 @@ pub record HasOutput (output : List ℕ) (h : List Entry) : Type 0 where
   pub invoked : call_of h 1 ≡ invoke 1
   pub answered : answer_of h 1 ≡ Some (Output 2)
   pub output_is : call_of h 2 ≡ Response 1 1 output
-  pub reply : Reply
-  pub replied : reply_text one 0 h 1 ≡ Some reply
+  pub replied : is_some (reply_text one 0 h 1) ≡ true
 
 -- The Next with ticket 0 gets an invocation with this payload, in a history to which calls led.
 pub record HasPayload (payload : List ℕ) (h : List Entry) : Type 0 where
@@ -30,5 +28,4 @@ pub record HasPayload (payload : List ℕ) (h : List Entry) : Type 0 where
   pub asked : call_of h 0 ≡ RuntimeNext 1
   pub answered : answer_of h 0 ≡ Some (Delivered 1 3001)
   pub payload_is : call_of h 1 ≡ Invoke 1 false None payload
-  pub reply : Reply
-  pub replied : reply_text one 0 h 0 ≡ Some reply
+  pub replied : is_some (reply_text one 0 h 0) ≡ true

@@ -1,9 +1,7 @@
-use Rattle.std.proofs.Common.{◌≡◌, ℕ, false, List, [], ◌∷◌, None, refl, arith}
+use Rattle.std.proofs.Common.{◌<◌, ℕ, All, false, List, [], ◌∷◌, None, refl, arith}
 use Rattle.call_types.specs.declared.call.Call.{Call}
 use Rattle.call_types.specs.declared.call.Call.TheVariants.{Invoke, Response, RuntimeNext}
-use Rattle.call_types.specs.declared.call.Entry.{Entry}
 use Rattle.call_model.specs.Answers.{answers, first_answers, own_first, first_answer, second_answer, answer_to}
-use Rattle.call_model.specs.Counts.{full}
 use Rattle.call_model.specs.Generation.{members}
 use Rattle.call_model.specs.Life.{seen, after, lived, life}
 use Rattle.call_model.specs.Limits.{in_flight, place, reservation, verdict}
@@ -17,24 +15,28 @@ use Rattle.headline.specs.AnyOutput.{HasOutput, HasPayload, IsSent}
 use Rattle.headline.proofs.laws.any_output.Goals as goal
 
 -- The runtime asks, a caller invokes, and the runtime responds.
-answered_with : List ℕ → List (ℕ × Call)
+abbrev answered_with : List ℕ → List (ℕ × Call)
 answered_with body = (2, Response 1 1 body) ∷ (1, invoke 1) ∷ (0, RuntimeNext 1) ∷ []
 
 -- The runtime asks, and a caller invokes.
-invoked_with : List ℕ → List (ℕ × Call)
+abbrev invoked_with : List ℕ → List (ℕ × Call)
 invoked_with body = (1, Invoke 1 false None body) ∷ (0, RuntimeNext 1) ∷ []
 
+-- an empty body consists of bytes
+no_bytes : All (λ (b : ℕ). b < 256) []
+no_bytes = λ k d low. omega (arith, low)
+
 asks : AreTaken one 100 ((0, RuntimeNext 1) ∷ [])
-unfolding full
-asks = (tt, record { timed = (omega arith, (omega arith, omega arith)); bytes = tt; room = refl })
+unfolding due answers first_answers first_answer second_answer answer_to own_first role own_answer closes kept to_waiting members seen after lived life verdict in_flight reservation place
+asks = (tt, record { timed = (omega arith, (omega arith, omega arith)); bytes = no_bytes; room = refl })
 
 output : (body : List ℕ) → IsSent body → HasOutput body (led_to one (answered_with body))
-unfolding next added due answers first_answers first_answer second_answer answer_to own_first role own_answer closes kept to_waiting members seen after lived life verdict in_flight reservation place full reply_text
+unfolding next added due answers first_answers first_answer second_answer answer_to own_first role own_answer closes kept to_waiting members seen after lived life verdict in_flight reservation place reply_text
 output body sent = record {
   reached = record {
     calls = answered_with body;
     taken = (
-      (asks, record { timed = (omega arith, ((omega arith, omega arith), tt, refl)); bytes = tt; room = refl }),
+      (asks, record { timed = (omega arith, ((omega arith, omega arith), tt, refl)); bytes = no_bytes; room = refl }),
       record { timed = (omega arith, ((omega arith, omega arith), omega arith, sent.short)); bytes = sent.bytes; room = refl },
     );
     led = refl;
@@ -42,12 +44,11 @@ output body sent = record {
   invoked = refl;
   answered = refl;
   output_is = refl;
-  reply = _;
   replied = refl;
 }
 
 payload : (body : List ℕ) → IsSent body → HasPayload body (led_to one (invoked_with body))
-unfolding next added due answers first_answers first_answer second_answer answer_to own_first role own_answer closes kept to_waiting members seen after lived life verdict in_flight reservation place full reply_text
+unfolding next added due answers first_answers first_answer second_answer answer_to own_first role own_answer closes kept to_waiting members seen after lived life verdict in_flight reservation place reply_text
 payload body sent = record {
   reached = record {
     calls = invoked_with body;
@@ -57,7 +58,6 @@ payload body sent = record {
   asked = refl;
   answered = refl;
   payload_is = refl;
-  reply = _;
   replied = refl;
 }
 
