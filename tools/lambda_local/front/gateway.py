@@ -155,7 +155,6 @@ class Url(Gateway):
         try:
             return await response_stream.url_reply(invocation, start.stream)
         except Unmappable as reason:
-            await invocation.aclose()
             self.say(backend, request, f"502, {reason}")
             return backend.format.failure_reply()
 
