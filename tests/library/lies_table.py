@@ -59,6 +59,7 @@ LIES: Dict[str, Tuple[str, str, str, str]] = {
     "install": ("refusals", "tools/packages/source.py", "GLIBC = (2, 34)", "GLIBC = (2, 31)"),
     "invoke": ("results", OF_TOOLS + "invoke.py",
                "        return 1\n    return 0\n", "        return 0\n    return 0\n"),
+    "limits": ("words", OF_TOOLS + "up/limits.py", "if size < NEARLY * MOST_OUTPUT:", "if size < MOST_OUTPUT:"),
     "javascript": ("handlers", "javascript/function_error.js",
                    "report.errorType : undefined", "report.type : undefined"),
     "launcher": ("says", OF_TOOLS + "help.txt", "conformance", "conformity"),

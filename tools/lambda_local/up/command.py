@@ -25,7 +25,8 @@ over it. UP.json is a service's configuration (docs/formats.md) in which each fu
   inline         in its place, the code itself, as the module index of "python" or "node"
   aliases        names by which it can be invoked too, such as "live"
   asynchronous   an object: retries, maximumAge, onFailure of its own events
-  memory         what AWS_LAMBDA_FUNCTION_MEMORY_SIZE says (default: 128)
+  memory         what AWS_LAMBDA_FUNCTION_MEMORY_SIZE says, in MB (default: 128)
+  enforceMemory  true: what has used more than that is killed, as on Lambda (default: a warning)
   extensions     an object: the name by which an extension registers, and its command; or null: you start it yourself
   watch          files and folders for --reload (default: its directory)
   url            true: a port that turns HTTP requests into events of a Function URL

@@ -65,6 +65,7 @@ OWN = {
     "directory": Kind(is_text, "a string: a folder, or a .zip file"),
     "inline": Kind(lambda value: isinstance(value, str) and is_unicode(value), "a string: code"),
     "memory": Kind(lambda value: is_whole(value, 1 << 32), "a whole number of MB"),
+    "enforceMemory": Kind(lambda value: isinstance(value, bool), "true or false"),
     "watch": Kind(is_list_of(is_text), "a list of files and folders"),
     "extensions": Kind(is_extensions,
                        "an object: the name by which each registers, and its command, or null if you start it"),
@@ -102,6 +103,7 @@ class Function:
         self.layers = layers.folders_of(member.get("layers", []), base, self.where)
         self.variables = self._variables(member.get("variables", {}))
         self.memory: int = member.get("memory", 128)
+        self.enforces_memory: bool = member.get("enforceMemory", False)
         # (a layer that is a .zip file is unpacked once)
         own = [os.path.join(base, name) for name in member.get("layers", [])]
         self.watch = [*(os.path.join(self.directory, name) for name in member.get("watch", ["."])),

@@ -21,6 +21,7 @@ from .invocation_lines import Line, Printed
 from .invocation_log import Invocations, Tails
 from .invocation_report import InvocationReport
 from .lines import Lines
+from .limits import Limits
 from .log import OUTPUT, Log
 from .looks import Hook, Looks
 from .members import load
@@ -84,10 +85,14 @@ class Session:
         self.watch.followers.append(invocations.take)
         self.report = self.make_report(invocations) if options.report else None
         self.watch.lines = Lines(log, self.functions, self.printed)
+        self.limits = Limits(self.functions, streaming, self.watch, self.printed, log)
+        self.watch.followers.append(self.limits.take)
+        self.looks.hooks.append(self.limits.look)
         if self.report:
             self.watch.lines.log = self.report.tell
         self.front.serve(self.service, Tails(invocations, self.watch),
-                         self.sidecars.serve(self.service.configuration, self.printed), self.sidecars.streams)
+                         self.sidecars.serve(self.service.configuration, self.printed), self.sidecars.streams,
+                         self.limits.answered)
         self.watch.takers.append(self.sidecars.pairing(self.front.call).take)
         self.environments = list(self.make_environments())
         self.looks.hooks.append(Hook("look for extensions under another name", Unnamed(
@@ -312,6 +317,7 @@ class Session:
         saved if that is asked, or the command failed."""
         self.ending.set()
         self.step("waiting for events", lambda: self.front.drain(lambda: self.service.process.poll() is not None))
+        self.step("looking at limits", self.limits.look_at_the_end)
         gone = self.service.process.poll() is not None
         is_saved: Optional[bool] = True
         self.step("reading the history", self.watch.refresh)
