@@ -8,6 +8,7 @@ import time
 
 from lambda_local.up.limits import Limits
 from lambda_local.up.memory import is_above, peaks_of
+from lambda_local.up.patience import of_service, times_of, with_patience
 from lambda_local.up.processes import reason_of
 from tests.library.cases import Case
 from tests.library.threads import together
@@ -20,6 +21,8 @@ def run(event, context=None):
     if do == "memory": return len(b"x" * (200 << 20))
     if do == "slow": time.sleep(9.2)
     if do == "large": return "x" * 6_000_000
+    if do == "left": return context.get_remaining_time_in_millis()
+    if do == "past": time.sleep(1.6)
     if do == "behind": threading.Timer(1, print, ["background done"]).start()
     print("in it")
     return "ok"
@@ -109,6 +112,35 @@ class OfLimits(Case):
         up = Up(functions=[{"name": "f", **PYTHON}], app=APP, command=("--", sys.executable, "-c", code))
         self.check("its end", up.end(0), (0, []))
         self.check("is told", up.count('"memory" is 128'), 1)
+
+    def test_patient(self):
+        up = Up("--patient", "3.5", functions=[
+            {"name": "f", **PYTHON, "timeout": 1, "variables": {"INIT": "10.5"}},
+            {"name": "g", **PYTHON, "timeout": 600}], app=APP)
+        self.check("says so", up.until("patient: timeouts of 2 functions, Inits and the waits of up are 3.5 times as "
+                                       "long, so no time here is Lambda's; but 900 s are the most, for g"))
+        self.check("an Init may take longer", up.until("[up] ready", 90))
+        self.check("an invocation too", up.invoke(do="past")[0], "ok")
+        left = [up.invoke(name, do="left")[0] for name in "fg"]
+        self.check("the deadline is the one in force", (2000 < left[0] <= 4000, 800_000 < left[1] <= 900_000),
+                   (True, True))
+        self.check("its end", up.end(), (0, []))
+        self.check("no limit of Lambda's is near", up.count("Lambda ends"), 0)
+
+    def test_patience(self):
+        self.check("limits", [with_patience(member, 2.5) for member in (
+            {}, {"timeout": 700, "command": "x", "init": 5}, {"timeout": 1000, "runtime": "python", "init": 900})], [
+            {"timeout": 8}, {"timeout": 900, "command": "x", "init": 13},
+            {"timeout": 1000, "runtime": "python", "init": 900}])
+        self.check("as it is", with_patience({"timeout": 3}, 1), {"timeout": 3})
+        self.check("of the service", (of_service(1), of_service(3), of_service(30)), (
+            {}, {"LAMBDA_LOCAL_PATIENCE_MS": "300"}, {"LAMBDA_LOCAL_PATIENCE_MS": "2000"}))
+        for words in ("0.5", "101", "nan", "x", "-1"):
+            try:
+                times_of(words)
+                self.check(f"--patient {words}", "is taken", "is refused")
+            except ValueError:
+                self.check(f"--patient {words} is refused", True)
 
     def test_several_processes(self):
         pids = forked(3, 60 << 20)

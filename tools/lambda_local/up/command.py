@@ -49,6 +49,7 @@ from ..outgoing import tell
 from ..service import Fault
 from ..usage import parser_of
 from .log import Log
+from .patience import times_of
 from .session import Session
 
 USAGE = "[OPTION..] [FILE|FOLDER] [-- COMMAND ..]"
@@ -95,9 +96,11 @@ def parser() -> argparse.ArgumentParser:
     made.add_argument("--only", metavar="F,G", type=names_of, help="leave all other functions out")
     made.add_argument("--ready", metavar="SECONDS", type=seconds_of,
                       help="wait up to SECONDS for all environments (60, or longer if an \"init\" is)")
+    made.add_argument("--patient", metavar="N", type=times_of, default=1,
+                      help="for a slow machine: timeouts, Inits and the waits of up are N times as long (1 to 100)")
     made.add_argument("--allow-unready", action="store_true",
                       help="run the command though functions cannot be started or their Init fails")
-    made.add_argument("--drain", metavar="SECONDS", type=seconds_of, default=5,
+    made.add_argument("--drain", metavar="SECONDS", type=seconds_of,
                       help="at the end wait up to SECONDS for asynchronous invocations (5)")
     made.add_argument("--salt", metavar="N", type=salt_of,
                       help="the salt of all identifiers (that of UP.json, else the time)")

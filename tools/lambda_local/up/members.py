@@ -18,6 +18,7 @@ from ..service import Fault
 from ..variables import OF_FUNCTION as VARIABLES
 from ..variables import text_of
 from . import code, layers, programs, room, sources
+from .patience import told, with_patience
 from .processes import program_of
 
 NAME = "lambda_local.up"  # under which lambda_local up registers
@@ -287,17 +288,18 @@ def limited(whole: Members, names: Sequence[str], path: str) -> Members:
 
 
 def load(path: str, debug: Optional[str] = None, salt: Optional[int] = None, only: Optional[Sequence[str]] = None,
-         may_be_unready: bool = False,
-         whole: Optional[Members] = None) -> Tuple[Members, List[Function], settings.Settings]:
+         may_be_unready: bool = False, whole: Optional[Members] = None,
+         times: float = 1) -> Tuple[Members, List[Function], settings.Settings]:
     """Returns the service's configuration, the functions of UP.json, one of which may be for a debugger, and what is in
-    front of them. `whole` is what it says, if that is known."""
+    front of them. `whole` is what it says, if that is known. Their limits are so many times as long."""
     whole = read(path) if whole is None else whole
     if only is not None:
         whole = limited(whole, only, path)
     placed, notes = room.with_environments(whole["functions"])
     whole = {**whole, "functions": placed}
-    functions = [Function(member, path, member["name"] == debug, may_be_unready) for member in whole["functions"]]
-    functions[0].notes_of_all = notes
+    functions = [Function(with_patience(member, times), path, member["name"] == debug, may_be_unready)
+                 for member in whole["functions"]]
+    functions[0].notes_of_all = [*([told(whole["functions"], times)] if times != 1 else []), *notes]
     if debug and not any(function.debug and function.command for function in functions):
         raise Fault(2, f"--debug {debug}: {path} has no such function with a command")
     own = {name: value for name, value in whole.items() if name in OF_SERVICE}
