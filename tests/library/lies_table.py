@@ -9,6 +9,7 @@ from typing import Dict, Iterator, Tuple
 NOTED = os.path.join("tests", "library", "lies.noted")
 OF_TOOLS = "tools/lambda_local/"
 LIES: Dict[str, Tuple[str, str, str, str]] = {
+    "authorizers": ("policies", OF_TOOLS + "front/policies.py", 'statement["Effect"] == "Deny"', "False"),
     "ci_files": ("image", "tools/packages/folder.py", "launched(XDG_CACHE_HOME=folder)", "launched(HOME=folder) + 'x'"),
     "compatibility": ("finds", "tests/compatibility/run", 'return "" if old == new else', 'return "" if True else'),
     "conformance": ("a_failure_is_explained", OF_TOOLS + "conformance/report.py",

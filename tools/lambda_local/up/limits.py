@@ -42,7 +42,8 @@ class Limits:
                  log: Log, patience: float = 1) -> None:
         self.functions = {function.name: function for function in functions}
         self.streaming, self.watch, self.printed, self.log, self.patience = streaming, watch, printed, log, patience
-        self.lock, self.told = threading.Lock(), set[Tuple[str, str]]()
+        self.lock = threading.Lock()
+        self.told: Set[Tuple[str, str]] = set()
         self.quiet: Dict[int, Quiet] = {}
         self.measured: Dict[int, Measured] = {}
 

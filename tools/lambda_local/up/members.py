@@ -1,5 +1,4 @@
 """UP.json: a service's configuration in which each function says how its processes are started."""
-import difflib
 import itertools
 import os
 import shlex
@@ -18,6 +17,7 @@ from ..service import Fault
 from ..variables import OF_FUNCTION as VARIABLES
 from ..variables import text_of
 from . import code, layers, programs, room, sources
+from .only import limited
 from .patience import told, with_patience
 from .processes import program_of
 
@@ -267,24 +267,6 @@ def mistakes_inside(whole: Members) -> Iterator[str]:
         if isinstance(member.get("environments"), dict):
             where = f"function {member['name']}: environments: "
             yield from mistakes_of(member["environments"], OF_ENVIRONMENTS, where)
-
-
-def limited(whole: Members, names: Sequence[str], path: str) -> Members:
-    """UP.json with these functions alone, and with what leads to them."""
-    there = [member["name"] for member in whole["functions"]]
-    for name in names:
-        if name not in there:
-            near = difflib.get_close_matches(name, there, 1, 0.6)
-            raise Fault(2, f"--only {name}: {path} has no such function" + (
-                f", did you mean {near[0]}?" if near else f"; there are {', '.join(there)}"))
-    found: Members = {**whole, "functions": [member for member in whole["functions"] if member["name"] in names]}
-    if "routes" in whole:
-        found["routes"] = {route: of for route, of in whole["routes"].items()
-                           if (of["function"] if isinstance(of, dict) else of) in names}
-    given = whole.get("asynchronous")
-    if isinstance(given, dict) and given.get("onFailure") not in (None, *names):
-        found["asynchronous"] = {name: value for name, value in given.items() if name != "onFailure"}
-    return found
 
 
 def load(path: str, debug: Optional[str] = None, salt: Optional[int] = None, only: Optional[Sequence[str]] = None,
