@@ -25,6 +25,8 @@ LIES: Dict[str, Tuple[str, str, str, str]] = {
     "conformance_service": ("each_fault_is_found CONFORMANCE_FAULTS=registers-late",
                             OF_TOOLS + "conformance/service/judge.py",
                             "if exchange.status != wanted:", "if False:"),
+    "conformance_service_parts": ("timeouts_on_a_busy_machine", OF_TOOLS + "conformance/service/judge.py",
+                                  "fits = -TOLERANCE <= late <= most", "fits = late <= most"),
     "counting": ("counted", "tests/library/counted.py",
                  "isinstance(wanted, bool) and not isinstance(seen, bool):", "False:"),
     "events": ("failures", OF_TOOLS + "front/queue.py",
