@@ -452,6 +452,7 @@ class ResponseStream extends Writable {
   constructor(id) {
     super({ highWaterMark: 64 * 1024 });
     [this.id, this.type, this.request, this.prelude] = [id, "application/octet-stream", undefined, undefined];
+    [this.waiting, this.isAnswered] = [undefined, false]; // what is called once the request takes more
   }
 
   setContentType(type) {
@@ -477,16 +478,22 @@ class ResponseStream extends Writable {
         reply.on("close", () => resolve({ status: reply.statusCode, text: Buffer.concat(parts).toString() }));
       });
     });
+    this.request.on("drain", () => this.goOn());
+    this.answered.then(() => { this.isAnswered = true; this.goOn(); });
     if (this.prelude !== undefined) this.request.write(this.prelude);
     return this.request;
   }
 
+  // (After an answer that comes before the end, such as 413, no part waits.)
   _write(part, encoding, done) {
-    if (this.begin().write(part, encoding)) return done();
-    // (an answer that comes before the end, such as 413, frees it too)
-    const go = () => { this.request.off("drain", go); done(); };
-    this.request.once("drain", go);
-    this.answered.then(go);
+    if (this.begin().write(part, encoding) || this.isAnswered) done();
+    else this.waiting = done;
+  }
+
+  goOn() {
+    const done = this.waiting;
+    this.waiting = undefined;
+    done?.();
   }
 
   _final(done) {

@@ -1,23 +1,34 @@
 "use strict";
 // The runtime of one environment, for a handler in this process: it asks for an invocation, calls the handler as
-// Lambda's Node runtime does, and posts what it comes to (examples/runtime.mjs is that of processes).
+// Lambda's Node runtime does, and posts what it comes to. (examples/runtime.mjs is that of processes: a handler comes to
+// the same in both.)
 const http = require("node:http");
 const util = require("node:util");
 const { setTimeout: sleep } = require("node:timers/promises");
 
 const RUNTIME = "/2018-06-01/runtime/invocation/";
 const PAUSE = 20; // milliseconds, until an environment that was reset is asked again
-const MESSAGE_LIMIT = 100_000; // characters: a report of more than 6 MiB is refused
+// In characters: a report of more than 6 MiB is refused, and its caller waits for the timeout.
+const [MESSAGE_LIMIT, TYPE_LIMIT] = [100_000, 1000];
 
-// As Lambda's Node runtime reports it.
+// As Lambda's Node runtime reports it, whatever was thrown.
 function reportOf(fault) {
-  const cut = (text) => String(text).slice(0, MESSAGE_LIMIT);
-  if (!util.types.isNativeError(fault)) return { errorType: typeof fault, errorMessage: cut(fault), trace: [] };
-  return { errorType: fault.name, errorMessage: cut(fault.message), trace: cut(fault.stack).split("\n") };
+  const cut = (told) => {
+    try {
+      return String(told()).slice(0, MESSAGE_LIMIT);
+    } catch {
+      return "(it cannot be had)";
+    }
+  };
+  if (!util.types.isNativeError(fault)) return { errorType: typeof fault, errorMessage: cut(() => fault), trace: [] };
+  const [errorType, errorMessage] = [cut(() => fault.name), cut(() => fault.message)];
+  return { errorType, errorMessage, trace: cut(() => fault.stack).split("\n") };
 }
 
+// Its type as a header: a category and a reason, such as Runtime.TypeError. What no header has, or is very long, is
+// Runtime.Unhandled.
 function typeHeader({ errorType }) {
-  const type = String(errorType).replace(/[^ -~]/g, "?");
+  const type = /^[!-~](?:[ -~]*[!-~])?$/.test(errorType) && errorType.length <= TYPE_LIMIT ? errorType : "Unhandled";
   return { "Lambda-Runtime-Function-Error-Type": type.includes(".") ? type : `Runtime.${type}` };
 }
 

@@ -114,7 +114,6 @@ class Service {
 
   // What happened, entry by entry, as docs/trace.md has it.
   async trace() {
-    this.refuseEnded();
     return (await this.local("trace")).split("\n").filter(Boolean).map((line) => JSON.parse(line));
   }
 
@@ -131,9 +130,15 @@ class Service {
     }
   }
 
-  // Stops it in order, and checks that it ended well and that its history replays to its own answers.
+  // Stops it in order, and checks that it ended well and that its history replays to its own answers. A further call
+  // waits for the same end, whose fault the first one tells.
   async stop() {
-    if (this.own.isStopped) return;
+    if (this.own.stopping) return this.own.stopping.catch(() => {});
+    this.own.stopping = this.end();
+    return this.own.stopping;
+  }
+
+  async end() {
     const { host } = this.own;
     try {
       if (host.child.status === undefined) this.own.history = await this.local("history");

@@ -64,7 +64,7 @@ test("the error of a failed test has the history and the timeline, and keeps its
   assert.equal(fault.code, "ERR_ASSERTION");
   for (const text of [fault.message, fault.stack]) {
     assert.match(text, /lambda_local history: \S+history\.txt\nform 2\n/);
-    assert.match(text, /lambda_local timeline: \S+timeline\.txt\n.*caller 1: invoke greet/);
+    assert.match(text, /lambda_local timeline: \S+timeline\.txt\n[^]*caller 1: invoke greet/);
     assert.match(text, /'Bo'/);
   }
   fs.rmSync(path.dirname(/history: (\S+)/.exec(fault.message)[1]), { recursive: true });
@@ -76,6 +76,19 @@ test("a service that was stopped says so, and may be stopped again", async () =>
   await service.stop();
   assert.ok(service.hasEnded());
   assert.equal((await failure(service.invoke("greet"))).message, "the service was stopped");
+});
+
+test("whoever stops a service waits for its end, and stops no other one", async () => {
+  const [first, second] = [await start({ greet }), await start({ greet })];
+  const endpoint = process.env.AWS_ENDPOINT_URL_LAMBDA;
+  assert.equal(endpoint, second.endpointUrl);
+  const stopping = first.stop();
+  await first.stop();
+  assert.equal(first.counts, "admitted 0 throttled 0 failed 0");
+  await stopping;
+  await Promise.all([first.stop(), first.stop()]);
+  assert.equal(process.env.AWS_ENDPOINT_URL_LAMBDA, endpoint);
+  await second.stop();
 });
 
 test("two services run beside one another", () =>

@@ -169,9 +169,6 @@ def bodies_in_chunks(some):
 def parts(some, mutated):
     """Each part's name: its reader, what is right, and what it is given. `mutated` makes an original others with
     words."""
-    if some is None:
-        return {"requests": (of_requests, SEEDS[1], None), "responses": (of_responses, RESPONSE, None),
-                "chunks": (of_chunks, CHUNKS, None), "written": (of_written, WRITTEN, None)}
     return {
         "requests": (of_requests, SEEDS[1], some.one_of(
             some.sampled_from(SEEDS).flatmap(lambda seed: mutated(seed, WORDS)), random_mutants(some),

@@ -9,6 +9,7 @@ from typing import Dict, Iterator, Tuple
 NOTED = os.path.join("tests", "library", "lies.noted")
 OF_TOOLS = "tools/lambda_local/"
 LIES: Dict[str, Tuple[str, str, str, str]] = {
+    "authorizers": ("policies", OF_TOOLS + "front/policies.py", 'statement["Effect"] == "Deny"', "False"),
     "ci_files": ("image", "tools/packages/folder.py", "launched(XDG_CACHE_HOME=folder)", "launched(HOME=folder) + 'x'"),
     "compatibility": ("finds", "tests/compatibility/run", 'return "" if old == new else', 'return "" if True else'),
     "conformance": ("a_failure_is_explained", OF_TOOLS + "conformance/report.py",
@@ -24,6 +25,8 @@ LIES: Dict[str, Tuple[str, str, str, str]] = {
     "conformance_service": ("each_fault_is_found CONFORMANCE_FAULTS=registers-late",
                             OF_TOOLS + "conformance/service/judge.py",
                             "if exchange.status != wanted:", "if False:"),
+    "conformance_service_parts": ("timeouts_on_a_busy_machine", OF_TOOLS + "conformance/service/judge.py",
+                                  "fits = -TOLERANCE <= late <= most", "fits = late <= most"),
     "counting": ("counted", "tests/library/counted.py",
                  "isinstance(wanted, bool) and not isinstance(seen, bool):", "False:"),
     "events": ("failures", OF_TOOLS + "front/queue.py",
@@ -48,6 +51,8 @@ LIES: Dict[str, Tuple[str, str, str, str]] = {
     "front_followers": ("quiet most", OF_TOOLS + "front/followers.py",
                         "        if self.count >= self.most:\n", "        if self.count > self.most:\n"),
     "fuzz": ("reports FUZZ_HOURS=0.02", OF_TOOLS + "outgoing.py", "return UNSAFE.sub(_escaped, text)", "return text"),
+    "hostile_projects": ("files_outside", OF_TOOLS + "from_template/files.py",
+                         "if os.path.commonpath([self.path, path]) != self.path:", "if False:"),
     "history": ("follows", OF_TOOLS + "history/running.py", "&from={self.next}", "&from=0"),
     "histories": ("", OF_TOOLS + "history/reader.py", "if entry.ticket != self.next:", "if False:"),
     "http1": ("table", OF_TOOLS + "http1/framing.py", 'return named[-1] == "chunked"', "return bool(named)"),
@@ -57,6 +62,7 @@ LIES: Dict[str, Tuple[str, str, str, str]] = {
     "install": ("refusals", "tools/packages/source.py", "GLIBC = (2, 34)", "GLIBC = (2, 31)"),
     "invoke": ("results", OF_TOOLS + "invoke.py",
                "        return 1\n    return 0\n", "        return 0\n    return 0\n"),
+    "limits": ("words", OF_TOOLS + "up/limits.py", "if size < NEARLY * MOST_OUTPUT:", "if size < MOST_OUTPUT:"),
     "javascript": ("handlers", "javascript/function_error.js",
                    "report.errorType : undefined", "report.type : undefined"),
     "launcher": ("says", OF_TOOLS + "help.txt", "conformance", "conformity"),
@@ -93,6 +99,7 @@ LIES: Dict[str, Tuple[str, str, str, str]] = {
     "telemetry_live": ("as_in_history", OF_TOOLS + "telemetry/story.py", '"platform.runtimeDone"', '"platform.done"'),
     "telemetry_stories": ("schemas", OF_TOOLS + "telemetry/schema.py",
                           'return "failure" if status == "error" else status', "return status"),
+    "template_values": ("env_files", OF_TOOLS + "from_template/env_file.py", "text[begin + 1:close]", "text[begin:close]"),
     "templates": ("globals", OF_TOOLS + "from_template/cloudformation.py", "return [*shared, *own]", "return [*own]"),
     "template_oracle": ("templates", OF_TOOLS + "from_template/cloudformation.py",
                         "and not is_intrinsic(own):", "and True:"),

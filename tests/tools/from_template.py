@@ -214,7 +214,7 @@ class FromTemplate(TemplateCase):
                               for number in range(70)}}
         made, said = made_of(many)
         self.check("seventy functions of twenty", len(made), 64)
-        self.check("and what is said", "leaves out the function F69: 64 are the most" in said)
+        self.check("and what is said", "F69: 64 are the most" in said)
 
     def test_names(self):
         self.case("a name that is none", function_of(FunctionName="a b"), made_function(),

@@ -1,16 +1,16 @@
 """Gives each reader of the tools bytes that nobody would write: UP.json, reports of failures, histories and scripts,
-templates, results of events, what functions print, and HTTP (tests/library/http_fuzz.py). A reader may refuse by its
-own fault, in words; nothing else may be raised, no line may have a control character, and none may take long. What a
-failure is minimised to is kept in tests/tools/fuzz.cases with its seed, and tried first from then on.
+templates, results of events, what functions print, HTTP (tests/library/http_fuzz.py), and what users give for a
+template (tests/library/given_fuzz.py). A reader may refuse by its own fault, in words; nothing else may be raised, no
+line may have a control character, and none may take long. What a failure is minimised to is kept in
+tests/tools/fuzz.cases with its seed, and tried first from then on.
 
 Variables: FUZZ_HOURS is for how long all parts together go on (a minute), FUZZ_SEED the first seed (the days since
-1970; it is printed). Without hypothesis (Debian: python3-hypothesis) only the kept cases are tried."""
+1970; it is printed). Without hypothesis (Debian: python3-hypothesis) tests/library/strategies.py draws the inputs."""
 import base64
 import contextlib
 import io
 import json
 import os
-import re
 import tempfile
 import time
 from typing import List, Tuple
@@ -30,20 +30,22 @@ from lambda_local.service import Fault
 from lambda_local.timeline.refused import with_refusals
 from lambda_local.up import members, output
 from tests import ROOT
-from tests.library import http_fuzz
+from tests.library import given_fuzz, http_fuzz, strategies
 from tests.library.cases import Case
+from tests.library.given_fuzz import CONTROL, is_a_line
 
 try:
     from hypothesis import HealthCheck, Phase, given, seed, settings
     from hypothesis import strategies as some
+    HAS_HYPOTHESIS = True
 except ImportError:
-    some = None  # type: ignore[assignment]  # (a module that is not here)
+    some = strategies  # type: ignore[assignment]  # (a module of our own)
+    HAS_HYPOTHESIS = False
 HOURS = float(os.environ.get("FUZZ_HOURS", "0")) or 1 / 60
 FIRST_SEED = int(os.environ.get("FUZZ_SEED") or time.time() // 86400)
 CASES = os.path.join(ROOT, "tests", "tools", "fuzz.cases")
 SHRINKING = 30.0  # seconds for making a failure small
 LONGEST_SECONDS = 20.0  # of one input, on a machine that does much else
-CONTROL = re.compile("[\x00-\x08\x0a-\x1f\x7f-\x9f\ud800-\udfff]")
 REQUEST = "00000000-0000-8000-8001-000000000001"
 HISTORY = (b'form 2\n{"account":"123456789012","accountLimit":1000,"functions":[{"extensions":["x"],"handler":"a.b",'
            b'"name":"f","ports":[1],"timeout":3}],"invokePort":9,"leastRemainder":100,"maxEntries":1000,'
@@ -83,12 +85,6 @@ REPORT = (b'{"errorType":"E","errorMessage":"m","stackTrace":["  File \\"app.py\
           b'["at f (a.js:1:2)",{"path":"m.go","line":3}]}')
 RESULT = (b'{"statusCode":200,"headers":{"a":"b"},"multiValueHeaders":{"c":["d"]},"cookies":["e=f"],"body":"x",'
           b'"isBase64Encoded":false}')
-
-
-def is_a_line(text):
-    """What a person would read has no control character."""
-    shown = outgoing.printable(text)
-    assert not CONTROL.search(shown), shown
 
 
 def of_up(data):
@@ -244,9 +240,7 @@ def paths_of(whole, path=()):
 
 
 def inputs_of(original):
-    """What a reader of such bytes is given; None without hypothesis."""
-    if some is None:
-        return None
+    """What a reader of such bytes is given."""
     kinds = [mutated(original), some.binary(max_size=200)]
     if original.startswith(b"{"):
         kinds += [replaced(original), replaced(original)]
@@ -259,11 +253,14 @@ PARTS = {name: (reader, original, inputs_of(original)) for name, reader, origina
     ("traces", of_traces, TRACE), ("templates", of_templates, TEMPLATE), ("results", of_results, RESULT),
     ("output", of_output, b"a\r\n\x1b[1mb"))}
 PARTS.update(http_fuzz.parts(some, mutated))
+PARTS.update(given_fuzz.parts(some, mutated, inputs_of))
 
 
 def tried_with(number, reader, inputs, end):
     """Runs a round with this seed until the time is over. How many inputs it was, and the shortest that breaks the
     reader, with its fault."""
+    if not HAS_HYPOTHESIS:
+        return strategies.tried_with(number, lambda data: fault_of(reader, data), inputs, end, SHRINKING)
     tried = 0
     seen: List[Tuple[bytes, str]] = []
 
@@ -316,9 +313,6 @@ class Fuzz(Case):
         self.check(f"{name}: what is right is read", fault_of(reader, right), "")
         for data in kept(name):
             self.check(f"{name}, kept: {data[:60]!r}", fault_of(reader, data), "")
-        if some is None:
-            self.skipTest("hypothesis is not here (Debian: apt-get install python3-hypothesis): only the kept cases "
-                          "are tried")
         tried, number, end = 0, FIRST_SEED, time.monotonic() + 3600 * HOURS / len(PARTS)
         while time.monotonic() < end:
             count, broken = tried_with(number, reader, inputs, end)
@@ -362,3 +356,21 @@ class Fuzz(Case):
 
     def test_written(self):
         self.fuzz("written")
+
+    def test_env(self):
+        self.fuzz("env")
+
+    def test_toml(self):
+        self.fuzz("toml")
+
+    def test_parameters(self):
+        self.fuzz("parameters")
+
+    def test_env_vars(self):
+        self.fuzz("env_vars")
+
+    def test_values(self):
+        self.fuzz("values")
+
+    def test_projects(self):
+        self.fuzz("projects")

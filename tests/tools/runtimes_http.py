@@ -2,6 +2,7 @@
 that is written here answers byte by byte as it is told. Also how they name an exception, and the trace that they
 make."""
 import concurrent.futures
+import contextlib
 import json
 import os
 import shutil
@@ -10,6 +11,8 @@ import subprocess
 import sys
 import tempfile
 import threading
+import time
+import unittest
 from typing import Dict, Iterator, List, Optional, Tuple
 
 from tests.library.cases import Case
@@ -37,6 +40,12 @@ def handler(event, context):
   }
   return typeof event === "string" ? event.length : event;
 };
+''',
+    "streams.mjs": '''import { once } from "node:events";
+export const handler = awslambda.streamifyResponse(async (event, stream) => {
+  for (let n = 0; n < event.parts; n += 1) if (!stream.write(Buffer.alloc(65536))) await once(stream, "drain");
+  stream.end();
+});
 '''}
 IDENTIFIER = "01a227f0-4e4d-8000-8001-00000000000a"
 INVOCATION = (f"Lambda-Runtime-Aws-Request-Id: {IDENTIFIER}\r\nLambda-Runtime-Deadline-Ms: 4102444800000\r\n"
@@ -44,6 +53,10 @@ INVOCATION = (f"Lambda-Runtime-Aws-Request-Id: {IDENTIFIER}\r\nLambda-Runtime-De
 ENDS = b"HTTP/1.1 500 Internal Server Error\r\nContent-Length: 2\r\n\r\n{}"
 ACCEPTED = b"HTTP/1.1 202 Accepted\r\nContent-Length: 0\r\n\r\n"
 LONG = 6 * 1024 * 1024 - 2  # letters of the longest event
+
+
+TOO_LARGE = b"HTTP/1.1 413 Payload Too Large\r\nContent-Length: 2\r\n\r\n{}"
+TAKEN = 8 << 20  # bytes of a response that is streamed, after which it is answered
 
 
 def whole(body: bytes, more: bytes = b"", first: bytes = b"HTTP/1.1 200 OK") -> bytes:
@@ -151,11 +164,27 @@ class Api:
         self.listening.close()
 
 
-def run(command, answers, folder) -> Tuple[Api, int, str]:
+class Early(Api):
+    """Answers a response that is streamed before its end, and takes the rest of it after that."""
+
+    def serve(self, connection: socket.socket) -> None:
+        if connection.recv(4, socket.MSG_PEEK) != b"POST":
+            return super().serve(connection)
+        with connection, contextlib.suppress(OSError):
+            left = TAKEN
+            while left > 0:  # (slowly, so that the runtime waits for room)
+                left -= len(connection.recv(1 << 16))
+                time.sleep(0.001)
+            connection.sendall(TOO_LARGE)
+            while connection.recv(1 << 16):
+                pass
+
+
+def run(command, answers, folder, handler="app.handler", kind=Api) -> Tuple[Api, int, str]:
     """The API when a runtime has ended, its status, and what it printed."""
-    api = Api(answers)
+    api = kind(answers)
     try:
-        done = subprocess.run([*command, "app.handler", f"127.0.0.1:{api.port}"], cwd=folder, env=BARE,
+        done = subprocess.run([*command, handler, f"127.0.0.1:{api.port}"], cwd=folder, env=BARE,
                               stdin=subprocess.DEVNULL, capture_output=True, text=True, timeout=120)
     finally:
         api.end()
@@ -163,6 +192,16 @@ def run(command, answers, folder) -> Tuple[Api, int, str]:
 
 
 class RuntimesHttp(Case):
+    @unittest.skipUnless(NODE[0], "Node is not here")
+    def test_early(self):
+        """An answer before the end of a response is told, and is no fault of the handler."""
+        with tempfile.TemporaryDirectory() as folder:
+            with open(os.path.join(folder, "streams.mjs"), "w", encoding="utf-8") as app:
+                app.write(APPS["streams.mjs"])
+            _, status, said = run(NODE, [(whole(b'{"parts": 1024}'), None, False)], folder, "streams.handler", Early)
+        self.check("Node: an answer within a streamed response", (status, said),
+                   (0, f"runtime.mjs: the response to {IDENTIFIER} is refused: 413 {{}}\n"))
+
     def of_each(self) -> Iterator[Tuple[str, List[str], str]]:
         """Each runtime: its name, its command, and a folder with its handler."""
         for name, command, file in (("Python", PYTHON, "app.py"), ("Node", NODE, "app.mjs")):

@@ -225,6 +225,20 @@ class Streaming(Case):
         self.check("an invocation after that", Got(up, parts=["b"]).seen, (200, b"b", True))
         self.check("it ends", up.end(), (0, []))
 
+    def test_left(self):
+        """A caller that goes while a prelude comes holds up no function."""
+        up = self.started(timeout=30)
+        peer = socket.create_connection(("127.0.0.1", up.url))
+        event = quoted({"parts": ["x"] * 6, "times": 60_000, "pause": 1,
+                        "type": "application/vnd.awslambda.http-integration-response"})
+        peer.sendall(f"GET /?event={event} HTTP/1.1\r\nHost: a\r\n\r\n".encode())
+        until(lambda: in_flight(up) == 1, 20)
+        time.sleep(0.5)
+        peer.setsockopt(socket.SOL_SOCKET, socket.SO_LINGER, struct.pack("ii", 1, 0))  # (by a reset)
+        peer.close()
+        self.check("all of its response is taken", until(lambda: outputs(up) == ["x" * 360_000], 20))
+        self.check("it ends", up.end(), (0, []))
+
     def test_several(self):
         """Callers at the same time get each their own."""
         up = self.started(environments=4)

@@ -6,6 +6,7 @@ from typing import Dict, List, Optional, Tuple
 
 from lambda_local.configuration import Members
 from lambda_local.telemetry.buffer import Buffer
+from lambda_local.telemetry.desk import MOST_KEPT, Kept
 from lambda_local.telemetry.schema import Event, rendered
 from lambda_local.telemetry.story import About, Moment, Story
 from lambda_local.telemetry.subscription import Buffering
@@ -269,3 +270,12 @@ class TelemetryStories(Case):
         clock.at = -100.0
         story.line("function", "back")
         self.check("times never go back", [event.time for event in told] == sorted(event.time for event in told), True)
+
+    def test_init(self):
+        """Of an Init that prints without end, some lines are kept, and the number of the others."""
+        kept = Kept()
+        for kind in ("function", "extension", "function"):
+            for _ in range(MOST_KEPT):
+                kept.take(Event(AT, kind, "abc"))
+        self.check("kept, and how many and how much are not", (len(kept.events), kept.dropped),
+                   (MOST_KEPT, {"extension": (MOST_KEPT, 3 * MOST_KEPT), "function": (MOST_KEPT, 3 * MOST_KEPT)}))

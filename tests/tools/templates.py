@@ -1,60 +1,15 @@
-"""Checks what lambda_local up makes of projects: which file it finds, what users give for a template, their own values,
-nested stacks, what `cdk synth` writes, OpenAPI, variables of Serverless, and templates that would read other files."""
-import contextlib
-import io
-import json
+"""Checks what lambda_local up makes of projects: which file it finds, nested stacks, what `cdk synth` writes, OpenAPI,
+variables of Serverless, and templates that would read other files."""
 import os
 import subprocess
-import tempfile
 
-from lambda_local.from_template import find, given, own_values
-from lambda_local.from_template.find import Source
-from lambda_local.from_template.given import Given, given_by
+from lambda_local.from_template import find
+from lambda_local.from_template.given import Given
 from lambda_local.from_template.messages import Fault
-from lambda_local.from_template.project import up_of_source
 from tests import ROOT
 from tests.library.cases import Case
+from tests.library.project_kit import folder_of, made_by, sam, variables_of, write
 from tests.library.template_kit import FROM_TEMPLATE, HAS_YAML, python
-
-SAM = {"Type": "AWS::Serverless::Function", "Properties": {"Handler": "app.run", "Runtime": "provided.al2023",
-                                                            "CodeUri": "src"}}
-
-
-def sam(**properties):
-    return {"Type": SAM["Type"], "Properties": {**SAM["Properties"], **properties}}
-
-
-@contextlib.contextmanager
-def folder_of(**files):
-    """A folder with these files; `__` in a name is a slash, and `_0_` a dot. A value that is no text becomes JSON."""
-    with tempfile.TemporaryDirectory() as folder:
-        folder = os.path.realpath(folder)
-        write(folder, {name.replace("__", "/").replace("_0_", "."): value for name, value in files.items()})
-        yield folder
-
-
-def write(folder, files):
-    for name, value in files.items():
-        path = os.path.join(folder, name)
-        os.makedirs(os.path.dirname(path), exist_ok=True)
-        with open(path, "w") as file:
-            file.write(value if isinstance(value, str) else json.dumps(value))
-
-
-def made_by(path, is_assembly=False, values=None, **given_words):
-    """UP.json by the names of functions, the rest of it, and what is said; or the fault."""
-    said = io.StringIO()
-    with contextlib.redirect_stderr(said):
-        try:
-            whole = up_of_source(Source(path, True, is_assembly), given_by(**given_words), values)
-        except Fault as fault:
-            return str(fault), {}, said.getvalue()
-    return ({function["name"]: function for function in whole.pop("functions")}, whole,
-            said.getvalue().replace("from_template: ", ""))
-
-
-def variables_of(made, name="F"):
-    return made[name].get("variables")
 
 
 class Templates(Case):
@@ -139,105 +94,6 @@ class Templates(Case):
                        (0, os.listdir(folder)))
             write(folder, {"up.json": "{}"})
             self.check("nor what somebody else wrote", eject("template.json")[0], 2)
-
-    def test_parameters(self):
-        """The forms in which AWS's tools have them."""
-        template = {"Parameters": {"A": {"Type": "String", "AllowedValues": ["x", "y z"]}, "B": {"Type": "Number"},
-                                   "C": {"Type": "CommaDelimitedList", "Default": "a,b"}},
-                    "Resources": {"F": sam(Environment={"Variables": {
-                        "A": {"Ref": "A"}, "B": {"Ref": "B"}, "C": {"Fn::Select": [1, {"Ref": "C"}]}}})}}
-        toml = ('version = 0.1\n[default.global.parameters]\nstack_name = "s"\n[default.deploy.parameters]\n'
-                'parameter_overrides = "A=\\"y z\\" B=7"\n[prod.deploy.parameters]\nparameter_overrides = "A=x"\n')
-        listed = 'version = 0.1\n[default.deploy.parameters]\nparameter_overrides = [\n  "A=x",  # one\n  "B=8",\n]\n'
-        with folder_of(template_0_json=template, s_0_toml=toml, l_0_toml=listed, o_0_json={"A": "x", "B": 2},
-                       p_0_json=[{"ParameterKey": "A", "ParameterValue": "x"}, "B=3"],
-                       w_0_json={"Parameters": {"A": "x"}}, bad_0_json=[1], no_0_toml="version = 0.1\n") as folder:
-            path = os.path.join(folder, "template.json")
-            for name, words, wanted in (
-                    ("words", {"parameters": ["A=x", "B=1", "C=p,q"]}, ("x", "1", "q")),
-                    ("a word of several", {"parameters": ["A='y z' B=1"]}, ("y z", "1", "b")),
-                    ("the AWS CLI's", {"parameters": ["ParameterKey=A,ParameterValue=x", "B=1"]}, ("x", "1", "b")),
-                    ("an object", {"parameter_files": ["o.json"]}, ("x", "2", "b")),
-                    ("a list", {"parameter_files": ["p.json"]}, ("x", "3", "b")),
-                    ("a word before a file", {"parameter_files": ["p.json"], "parameters": ["B=4"]}, ("x", "4", "b")),
-                    ("samconfig.toml", {"parameter_files": ["s.toml"]}, ("y z", "7", "b")),
-                    ("a list of samconfig.toml", {"parameter_files": ["l.toml"]}, ("x", "8", "b"))):
-                words = {**words, "parameter_files": [os.path.join(folder, file)
-                                                      for file in words.get("parameter_files", [])]}
-                made = made_by(path, **words)[0]
-                seen = tuple(variables_of(made).values()) if isinstance(made, dict) else made
-                self.check(f"parameters: {name}", seen, wanted)
-            for words, wanted in (
-                    ({"parameters": ["A=q"]}, "--parameter A: it must be one of x, y z, not q"),
-                    ({"parameters": ["D=q"]}, f"--parameter D: {path} has no such parameter; there are A, B, C"),
-                    ({"parameters": ["A"]}, "--parameter: A must be NAME=VALUE"),
-                    ({"parameter_files": [f"{folder}/none"]}, f"--parameters {folder}/none: No such file"),
-                    ({"parameter_files": [f"{folder}/bad.json"]}, "it must be an object of names and values"),
-                    ({"parameter_files": [f"{folder}/no.toml"]}, "it has no parameter_overrides in [default.deploy")):
-                try:
-                    seen = made_by(path, **words)[0]
-                except Fault as fault:
-                    seen = str(fault)
-                self.check(f"parameters: {wanted}", wanted in str(seen), shown=seen)
-
-    def test_variables(self):
-        with folder_of(template_0_json={"Resources": {
-                "G": sam(), "F": sam(FunctionName="shop", Environment={"Variables": {"A": "template",
-                                                                                    "B": "template"}})}},
-                all_0_env="# all\nexport A=file\nC=\"two words\" # so\nD='x # y'\n\nE=1 # one\n",
-                vars_0_json={"F": {"B": "json", "N": 5}, "Parameters": {"P": True}}, flat_0_json={"Q": "x"},
-                wrong_0_json={"H": {"A": "x"}}, bad_0_env="A=1\nB\n") as folder:
-            path = os.path.join(folder, "template.json")
-            made = made_by(path, env_files=[f"{folder}/all.env"], env_vars=f"{folder}/vars.json")[0]
-            every = {"A": "file", "C": "two words", "D": "x # y", "E": "1", "P": "true"}
-            self.check("files of variables", (variables_of(made, "shop"), variables_of(made, "G")),
-                       ({**every, "B": "json", "N": "5"}, every))
-            self.check("variables of all", variables_of(made_by(path, env_vars=f"{folder}/flat.json")[0], "G"),
-                       {"Q": "x"})
-            self.check("a function that is not there", made_by(path, env_vars=f"{folder}/wrong.json")[0],
-                       "--env-vars: there is no function H; there are F, G, shop")
-            with self.assertRaises(Fault) as caught:
-                given.of_env_file(f"{folder}/bad.env")
-            self.check("a line that is none", str(caught.exception),
-                       f"--env-file {folder}/bad.env: line 2: B must be NAME=VALUE")
-
-    def test_own_values(self):
-        """lambda_local.json is merged over a template, by the rules of UP.json."""
-        template = {"Resources": {"Pay": sam(FunctionName="shop-pay", Timeout=5, Environment={"Variables": {"A": "1"}}),
-                                  "Far": sam(CodeUri="s3://a/b"), "Q": {"Type": "AWS::SQS::Queue"},
-                                  "Work": sam(Events={"Jobs": {"Type": "SQS", "Properties": {
-                                      "Queue": {"Fn::GetAtt": ["Q", "Arn"]}, "BatchSize": 3}}})}}
-        own = {"api": {"port": 8080}, "functions": [
-            {"name": "Pay", "variables": {"B": "2"}, "environments": 1},
-            {"name": "Far", "command": "./go", "directory": "built"},
-            {"name": "Work", "queue": {"url": "http://127.0.0.1:9324/0/q"}}]}
-        with folder_of(template_0_json=template, lambda_local_0_json=own, other_0_json={"functions": [{"name": "Par"}]},
-                       by_name_0_json={"functions": {"Pay": {"memory": 512}}}, list_0_json=[1]) as folder:
-            path = os.path.join(folder, "template.json")
-            made, whole, said = made_by(path)
-            self.check("merged", (made["shop-pay"]["variables"], made["shop-pay"]["timeout"],
-                                  made["shop-pay"]["environments"], made["Far"]["command"], made["Far"]["directory"],
-                                  made["Work"]["queue"], whole["api"]),
-                       ({"A": "1", "B": "2"}, 5, 1, "./go", f"{folder}/built",
-                        {"batchSize": 3, "url": "http://127.0.0.1:9324/0/q"}, {"port": 8080}))
-            wanted = 'set "queue": {"url": "http://HOST:PORT/123456789012/Q"} in lambda_local.json'
-            self.check("what is to be supplied names the file", wanted in said, shown=said)
-            self.check("by name", made_by(path, values=f"{folder}/by_name.json")[0]["shop-pay"]["memory"], 512)
-            self.check("no such function", made_by(path, values=f"{folder}/other.json")[0],
-                       f"{folder}/other.json: there is no function Par, did you mean Pay?")
-            self.check("no object", made_by(path, values=f"{folder}/list.json")[0],
-                       f"{folder}/list.json: it must be an object with the members of UP.json, not [1]")
-            os.remove(f"{folder}/lambda_local.json")
-            self.check("a queue without an address is none", "queue" in made_by(path)[0]["Work"], False)
-            os.environ["AWS_ENDPOINT_URL_SQS"] = "http://127.0.0.1:5000/"
-            try:
-                self.check("by the address of the other service", made_by(path)[0]["Work"]["queue"],
-                           {"url": "http://127.0.0.1:5000/123456789012/Q", "batchSize": 3})
-            finally:
-                del os.environ["AWS_ENDPOINT_URL_SQS"]
-            self.check("merging", own_values.merged({"a": {"b": 1, "c": [1]}, "d": 1},
-                                                    {"a": {"c": [2]}, "d": {"e": 1}}),
-                       {"a": {"b": 1, "c": [2]}, "d": {"e": 1}})
 
     def test_globals(self):
         """As SAM merges them (SAM Developer Guide, "Globals section"): lists are joined, maps merged, the rest is the
@@ -464,15 +320,22 @@ class Templates(Case):
                        (["live"], ["blue"], {"ALIAS": f"{arn}F:live", "VERSION": f"{arn}F", "OWN": f"{arn}G:blue"}))
             self.check("asynchronous invocations", (made["F"]["asynchronous"], made["G"]["asynchronous"]),
                        ({"retries": 0, "maximumAge": 60, "onFailure": "G"}, {"retries": 1}))
-            wanted = "G: leaves out DeadLetterQueue, arn:aws:sqs:us-east-1:1:dead"
+            wanted = ('G: leaves out DeadLetterQueue, arn:aws:sqs:us-east-1:1:dead, which would get each event that failed: '
+                      'set "asynchronous": {"onFailure": "FUNCTION"} of it in lambda_local.json')
             self.check("a queue for dead letters", wanted in said, shown=said)
+            write(folder, {"lambda_local.json": {"functions": {"G": {"asynchronous": {"onFailure": "F"}}}}})
+            self.check("what that line says to write", made_by(os.path.join(folder, "template.json"))[0]["G"][
+                "asynchronous"], {"retries": 1, "onFailure": "F"})
         whole = {"service": "s", "provider": {"runtime": "provided"}, "functions": {
-            "f": {"handler": "x", "maximumRetryAttempts": 2, "destinations": {"onFailure": {"Ref": "GLambdaFunction"}}},
+            "f": {"handler": "x", "maximumRetryAttempts": 2, "destinations": {"onFailure": {"Ref": "GLambdaFunction"}},
+                  "onError": "arn:aws:sns:us-east-1:1:dead"},
             "g": {"handler": "x", "package": {"artifact": "g.zip"}}}}
         with folder_of(serverless_0_json=whole, g_0_zip="") as folder:
             made, _, said = made_by(os.path.join(folder, "serverless.json"))
             self.check("Serverless", (made["s-dev-f"].get("asynchronous"), made["s-dev-g"]["directory"]),
                        ({"retries": 2, "onFailure": "s-dev-g"}, "g.zip"), shown=said)
+            self.check("onError of Serverless", "leaves out onError, arn:aws:sns:us-east-1:1:dead, which would" in said,
+                       shown=said)
 
     def test_hostile(self):
         """A template has no file read outside of its folder, and does not stop the tool."""

@@ -103,7 +103,7 @@ class UpScaling(Case):
         settle(up)
         up.write("broken", "")
         os.kill(first, 9)
-        self.check("one whose Init fails", (until(lambda: up.has("Runtime exited with error: signal 9"), 10),
+        self.check("one whose Init fails", (until(lambda: up.has("Runtime exited with error: signal: killed"), 10),
                                             up.invoke()[0]),
                    (True, "Runtime.ExitError"))
         os.remove(os.path.join(up.at, "broken"))

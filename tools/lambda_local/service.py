@@ -132,11 +132,12 @@ def wait_for(child: "subprocess.Popen[AnyStr]", seconds: float) -> int:
 
 class Service:
     """A running service. Of the configuration, ports of 0 (and an absent `invokePort`) are replaced by free ones.
-    `path` is the file that the configuration is from, for messages."""
+    `path` is the file that the configuration is from, for messages, and `variables` are its own beside ours."""
 
     def __init__(self, configuration: Members, program: Optional[str] = None,
-                 say: Callable[[str], None] = lambda line: None, path: Optional[str] = None) -> None:
-        self.program, self.say = program_path(program), say
+                 say: Callable[[str], None] = lambda line: None, path: Optional[str] = None,
+                 variables: Mapping[str, str] = {}) -> None:
+        self.program, self.say, self.variables = program_path(program), say, variables
         self.lines: List[str] = []
         self.given, self.path = configuration, path
         self.folder = tempfile.mkdtemp(prefix="lambda_local.")
@@ -203,7 +204,8 @@ class Service:
         with undisturbed():
             command, pipe = GUARD.announcing([*BEGUN, self.program, "serve", path])
             self.process = subprocess.Popen(command, stdin=pipe, stdout=subprocess.PIPE, stderr=subprocess.PIPE,
-                                            text=True, errors="replace", start_new_session=True)
+                                            text=True, errors="replace", start_new_session=True,
+                                            env={**os.environ, **self.variables})
             assert self.process.stdout and self.process.stderr
             self.output, self.said = self.process.stdout, self.process.stderr
             self.listening = threading.Event()

@@ -5,13 +5,15 @@ from typing import List, Optional
 from ..configuration import Members
 from ..front.events import NAMED
 from .cloudformation import is_wanted
-from .messages import excerpt, tell
+from .messages import VALUES, excerpt, tell
 from .objects import Object, Tell
 from .values import Scope, is_scalar, members_of, text_of
 
 READ = {"EventInvokeConfig", "DeadLetterQueue", "DeadLetterConfig", "maximumRetryAttempts", "maximumEventAge",
         "destinations", "onError"}
 CONFIG = "AWS::Lambda::EventInvokeConfig"
+INSTEAD = (f'set "asynchronous": {{"onFailure": "FUNCTION"}} of it in {VALUES} to have a function invoked with the '
+           "record of each")
 
 
 def function_in(given: object, scope: Scope) -> Optional[str]:
@@ -30,8 +32,8 @@ def function_in(given: object, scope: Scope) -> Optional[str]:
 def destination(given: object, what: str, scope: Scope, tell_: Tell) -> Optional[str]:
     name = function_in(given, scope)
     if name is None and given is not None:
-        tell_(f"leaves out {what}, {excerpt(scope.evaluate_or_reason(given).value)}: records go to functions alone "
-              "here")
+        tell_(f"leaves out {what}, {excerpt(scope.evaluate_or_reason(given).value)}, which is not a function here: "
+              f"{INSTEAD}")
     return name
 
 
@@ -63,15 +65,18 @@ def of_function(properties: Members, scope: Scope, tell_: Tell) -> Optional[Memb
     if failure is not None and (name := destination(failure, "onFailure", scope, tell_)) is not None:
         made["onFailure"] = name
     destinations.close()
-    for name in ("DeadLetterQueue", "DeadLetterConfig"):
-        target = members_of(properties, name).get("TargetArn")
-        if target is not None:
-            tell_(f"leaves out {name}, {excerpt(scope.evaluate_or_reason(target).value)}: give it a function as "
-                  "\"onFailure\" of \"asynchronous\" to see what fails")
-    if "onError" in properties:
-        tell_(f"leaves out onError, {excerpt(properties['onError'])}: give it a function as \"onFailure\" of "
-              "\"asynchronous\" to see what fails")
+    tell_dead_letters(properties, scope, tell_)
     return made or None
+
+
+def tell_dead_letters(properties: Members, scope: Scope, tell_: Tell) -> None:
+    """A queue or a topic for events that failed, which have no destination here but a function."""
+    for name in ("DeadLetterQueue", "DeadLetterConfig", "onError"):
+        given = scope.chosen(properties.get(name))
+        target = given if name == "onError" else members_of({name: given}, name).get("TargetArn")
+        if target is not None:
+            tell_(f"leaves out {name}, {excerpt(scope.evaluate_or_reason(target).value)}, which would get each event that "
+                  f"failed: {INSTEAD}")
 
 
 def add_configs(functions: List[Members], scope: Scope) -> None:

@@ -34,6 +34,7 @@ NAME = re.compile(r"[A-Za-z0-9_-]{1,64}")
 VARIABLE = re.compile(r"\w+")
 HANDLER = re.compile(r"[ -~]{1,128}")
 MOST_INLINE = 4 << 20  # characters of code in a template (CloudFormation takes 4 MB)
+LONGEST_VARIABLE, MOST_OF_VARIABLES = (128 << 10) - 1, 1 << 20  # bytes of one, and of all of a function (the system's)
 
 
 class Listed(NamedTuple):
@@ -165,6 +166,7 @@ class Maker:
             self.tell(f"leaves out its variables: they must be an object, not {excerpt(variables)}")
             variables = {}
         found: Dict[str, str] = {}
+        left = MOST_OF_VARIABLES
         for name, expression in variables.items():
             if not VARIABLE.fullmatch(str(name)):
                 self.tell(f"leaves out the variable {excerpt(name)}: its name must have letters, digits and _ alone")
@@ -176,7 +178,13 @@ class Maker:
             try:
                 value, placeholders = self.scope.evaluate(expression)
                 if value is not None and value is not NO_VALUE:
-                    found[str(name)] = text_of(value).replace("\0", "")
+                    text = text_of(value)
+                    left -= len(str(name)) + len(text)
+                    if left < 0 or len(text.encode(errors="replace")) > LONGEST_VARIABLE:
+                        self.tell(f"leaves out the variable {name}: one has at most {LONGEST_VARIABLE:,} bytes, and all "
+                                  f"of a function {MOST_OF_VARIABLES:,}")
+                        continue
+                    found[str(name)] = text.replace("\0", "")
                 elif value is None:
                     self.tell(f"leaves out the variable {name}, which has no value")
             except Unknown as reason:
@@ -279,8 +287,10 @@ class Maker:
 
 def functions_of(listed: List[Listed]) -> List[Members]:
     """The functions of UP.json, as many as a service may have."""
+    beyond = LineGroups("leaves out the functions {names}: {line}")
     for one in listed[MOST_FUNCTIONS:]:
-        tell(f"leaves out the function {one.key}: {MOST_FUNCTIONS} are the most")
+        beyond.add(one.scope.prefix + one.key, f"{MOST_FUNCTIONS} are the most")
+    beyond.say()
     listed, group = listed[:MOST_FUNCTIONS], LineGroups()
     names = names_of(listed)
     made = [Maker(name, one, group).make() for name, one in zip(names, listed)]

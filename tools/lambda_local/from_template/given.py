@@ -5,14 +5,16 @@ import shlex
 from typing import Dict, Iterator, List, Mapping, NamedTuple, Optional, Sequence, Tuple
 
 from ..json_reader import NotJson, read_json
+from ..outgoing import is_for_the_system, is_name_of_variable
+from ..toml_reader import NotToml, read_toml, table_in
+from .env_file import read_env
 from .files import text_in
 from .messages import Fault, excerpt
 
 MOST_BYTES = 1 << 20  # of a file of parameters or variables
 PAIR = re.compile(r"ParameterKey=(?P<key>[^,]+),ParameterValue=(?P<value>.*)", re.S)
-LINE = re.compile(r"""\s*(?:export\s+)?(?P<name>[A-Za-z_][\w.]*)\s*=\s*(?P<value>.*?)\s*""")
 OVERRIDES = "parameter_overrides"
-SECTION = re.compile(r"\[([\w.\"'-]+)\]\s*(?:#.*)?")
+COMMANDS = ("global", "deploy", "local_start_api", "local_invoke")  # of a samconfig.toml, the last of which is stronger
 ALL = ""  # in the place of a function's name: all functions
 
 
@@ -99,50 +101,26 @@ def plain(value: object) -> str:
 
 def of_samconfig(text: str, path: str) -> Dict[str, str]:
     """`parameter_overrides` of a samconfig.toml: of `deploy`, or of all commands, in the environment `default`."""
-    by_section: Dict[str, List[str]] = {}
-    section, lines = "", iter(enumerate(text.splitlines(), 1))
-    for number, line in lines:
-        if found := SECTION.fullmatch(line.strip()):
-            section = found[1]
-        name, equals, value = line.partition("=")
-        if equals and name.strip() == OVERRIDES:
-            value = without_comment(value)
-            while value.startswith("[") and not value.endswith("]"):
-                number, more = next(lines, (number, "]"))
-                value += " " + without_comment(more)
-            by_section[section] = words_of_toml(value, f"{path}: line {number}")
-    found_in = [name for command in ("global", "deploy", "local_start_api", "local_invoke")
-                for name in [f"default.{command}.parameters"] if name in by_section]
     pairs: Dict[str, str] = {}
-    for name in found_in:
-        for words in by_section[name]:
-            pairs.update(pairs_in(words, path))
-    if not found_in:
+    is_found = False
+    try:
+        default = read_toml(text).get("default")
+    except NotToml as fault:
+        raise Fault(f"--parameters {path}: this is not TOML: {fault}") from None
+    for command in COMMANDS:
+        parameters = table_in(table_in(default, command), "parameters")
+        if OVERRIDES in parameters:
+            is_found = True
+            words = parameters[OVERRIDES]
+            for text in words if isinstance(words, list) else [words]:
+                if not isinstance(text, str):
+                    raise Fault(f"--parameters {path}: {OVERRIDES} of {command} must be a string, or a list of strings, "
+                                f"not {excerpt(text)}")
+                pairs.update(pairs_in(text, f"--parameters {path}"))
+    if not is_found:
         raise Fault(f"--parameters {path}: it has no {OVERRIDES} in [default.deploy.parameters] or "
                     "[default.global.parameters]")
     return pairs
-
-
-def without_comment(text: str) -> str:
-    """A line of TOML, without what is behind a # that is in no string."""
-    quote = ""
-    for number, letter in enumerate(text):
-        if quote:
-            quote = "" if letter == quote and (quote == "'" or text[number - 1] != "\\") else quote
-        elif letter in "\"'":
-            quote = letter
-        elif letter == "#":
-            return text[:number].strip()
-    return text.strip()
-
-
-def words_of_toml(value: str, where: str) -> List[str]:
-    """A string of TOML, or those of a list."""
-    inside = value[1:value.rfind("]")] if value.startswith("[") else value
-    strings = re.findall(r'"([^"\\]*(?:\\.[^"\\]*)*)"|\'([^\']*)\'', inside)
-    if not strings and inside.strip():
-        raise Fault(f"{where}: {OVERRIDES} must be a string, or a list of strings")
-    return [re.sub(r"\\(.)", r"\1", double) or single for double, single in strings]
 
 
 def check_names(parameters: Mapping[str, str], there: Mapping[str, object], path: str) -> None:
@@ -162,23 +140,8 @@ def check_names(parameters: Mapping[str, str], there: Mapping[str, object], path
 # ---- variables -------------------------------------------------------------------------------------------------------
 
 def of_env_file(path: str, option: str = "--env-file") -> Dict[str, str]:
-    """The variables of a file of lines NAME=VALUE, as `dotenv` reads it: a value may be in quotes, # begins a
-    comment."""
-    found: Dict[str, str] = {}
-    for number, line in enumerate(text_in(path, MOST_BYTES, option).splitlines(), 1):
-        if not line.strip() or line.lstrip().startswith("#"):
-            continue
-        match = LINE.fullmatch(line)
-        if not match:
-            raise Fault(f"{option} {path}: line {number}: {excerpt(line)} must be NAME=VALUE")
-        value = match["value"]
-        quoted = re.fullmatch(r"""(["'])(.*)\1\s*(?:#.*)?""", value)
-        if quoted:
-            value = quoted[2].replace("\\n", "\n") if quoted[1] == '"' else quoted[2]
-        else:
-            value = re.split(r"\s+#", value)[0].strip()
-        found[match["name"]] = value
-    return found
+    """The variables of a file of lines NAME=VALUE."""
+    return read_env(text_in(path, MOST_BYTES, option), f"{option} {path}")
 
 
 def of_env_vars(path: str) -> Tuple[Dict[str, Dict[str, str]], Dict[str, str]]:
@@ -195,6 +158,11 @@ def of_env_vars(path: str) -> Tuple[Dict[str, Dict[str, str]], Dict[str, str]]:
                     "variables")
     by_function = {str(name): {str(variable): plain(value) for variable, value in variables.items()
                                if value is not None} for name, variables in whole.items()}
+    for name, variables in by_function.items():
+        for variable, text in variables.items():
+            if not is_name_of_variable(variable) or not is_for_the_system(text):
+                raise Fault(f"--env-vars {path}: {name or 'all functions'}: {excerpt(variable)}: no variable has a NUL, "
+                            "or half a character, and no name of one a =")
     return by_function, by_function.pop("Parameters", {})
 
 

@@ -1,6 +1,6 @@
 """The routes of an API that an OpenAPI document describes, by `x-amazon-apigateway-integration` (API Gateway Developer
 Guide, "OpenAPI extensions for API Gateway"): in the template, or a file beside it."""
-from typing import Iterator, List, Optional, Tuple
+from typing import Iterator, List, Optional, Set, Tuple
 
 from ..configuration import Members
 from ..front.routes import WrongRoute
@@ -14,6 +14,7 @@ from .routes import FunctionRoute, Of, key_of
 from .values import Scope, members_of
 
 INTEGRATION = "x-amazon-apigateway-integration"
+Known = Set[Tuple[str, str, str]]  # the function, the key and the API of each route
 METHODS = {"get", "put", "post", "delete", "options", "head", "patch", "trace", "x-amazon-apigateway-any-method"}
 # Where a kind of APIs has its document: in the template, or in a file
 BODIES = {"AWS::Serverless::Api": ("DefinitionBody", "DefinitionUri"),
@@ -24,12 +25,13 @@ REST = ("AWS::Serverless::Api", "AWS::ApiGateway::RestApi")
 
 def add_routes(functions: List[Members], scope: Scope, folder: Folder, base: str) -> None:
     """Gives functions the routes that documents have."""
+    known = {(str(made["name"]), route.key, route.of.key) for made in functions for route in made.get("routes", ())}
     for kind, (inline, file) in BODIES.items():
         for key, properties in resources_of(kind, scope):
             body = document_of(key, properties, inline, file, scope, folder, base)
             if body is not None:
                 for route in routes_in(body):
-                    add_route(key, kind in REST, *route, functions, scope)
+                    add_route(key, kind in REST, *route, functions, scope, known)
 
 
 def document_of(key: str, properties: Members, inline: str, file: str, scope: Scope, folder: Folder,
@@ -64,8 +66,9 @@ def routes_in(body: Members) -> Iterator[Tuple[str, str, object]]:
 
 
 def add_route(key: str, is_rest: bool, method: str, path: str, operation: object, functions: List[Members],
-              scope: Scope) -> None:
-    """Gives a function one route; one of another integration is told, but for a preflight's."""
+              scope: Scope, known: Known) -> None:
+    """Gives a function one route, unless it has it by an event that says the same; one of another integration is told,
+    but for a preflight's."""
     where = f"{method.upper()} {path} of {key}"
     given = Object(members_of(operation, INTEGRATION), f"the integration of {where}", scope, tell)
     kind = str(given.raw("type") or "").upper()
@@ -88,11 +91,9 @@ def add_route(key: str, is_rest: bool, method: str, path: str, operation: object
         tell(f"leaves out {', '.join(told)} of {where}")
     try:
         route = FunctionRoute(key_of(method, path), Of(scope.prefix + key, is_rest, payload))
-        made["routes"] = [*made.get("routes", ()), *([] if has(made, route) else [route])]
     except WrongRoute as fault:
         tell(f"{made['name']}: leaves out {where}: {fault}")
-
-
-def has(made: Members, route: FunctionRoute) -> bool:
-    """Whether the function has a route already, by an event that says the same."""
-    return any(other.key == route.key and other.of.key == route.of.key for other in made.get("routes", ()))
+        return
+    if (name := (str(made["name"]), route.key, route.of.key)) not in known:
+        known.add(name)
+        made.setdefault("routes", []).append(route)

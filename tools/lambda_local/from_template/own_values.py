@@ -6,17 +6,24 @@ from typing import Any, Dict, List, Optional
 
 from ..configuration import Members
 from ..json_reader import NotJson, read_json
-from .files import text_in
+from .files import Folder, text_in
 from .messages import VALUES, Fault, excerpt
 
 MOST_BYTES = 16 << 20
 
 
 def path_beside(path: str) -> Optional[str]:
-    """The file beside a template, if it is there."""
+    """The file beside a template, if it is there. A link out of the folder is not followed: nobody has named it."""
     folder = path if os.path.isdir(path) else os.path.dirname(path)
     beside = os.path.join(folder, VALUES)
-    return beside if os.path.isfile(beside) else None
+    if not os.path.isfile(beside):
+        return None
+    try:
+        Folder(folder or ".").inside(folder, VALUES)
+    except Fault:
+        raise Fault(f"{beside} leads to {os.path.realpath(beside)}, outside of the template's folder: --values takes "
+                    "it") from None
+    return beside
 
 
 def merged(base: Any, own: Any) -> Any:

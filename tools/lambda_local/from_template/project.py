@@ -9,7 +9,7 @@ from .find import Source
 from .functions import Listed, functions_of, tell_services
 from .gateway_resources import add_routes
 from .given import NOTHING, Given
-from .messages import Fault
+from .messages import Fault, limited
 from .resources import add_urls, apis_of
 from .routes import Apis
 from .rules import add_schedules
@@ -50,6 +50,11 @@ def apis_in(stacks: List[Stack], functions: List[Members], folder: str) -> Dict[
 
 def up_of_source(source: Source, given: Given = NOTHING, values: Optional[str] = None) -> Members:
     """UP.json's object; its folders are as seen from the source's."""
+    with limited():
+        return made_of_source(source, given, values)
+
+
+def made_of_source(source: Source, given: Given, values: Optional[str]) -> Members:
     stacks = stacks_of(source.path, source.is_assembly, given)
     listed = listed_in(stacks)
     functions = functions_of(listed)

@@ -3,19 +3,18 @@
 the template's folder."""
 import os
 import re
-from typing import Dict, Optional
+from typing import Dict, Iterator, Match, Optional
 
 from ..configuration import Members
 from . import layers
 from .files import Folder
 from .given import Given, of_env_file
-from .messages import Fault, tell
+from .messages import Fault, excerpt, tell
 from .reader import LONGEST, parse
 from .values import ACCOUNT, DEEPEST, REGION, Scope, Unknown, is_scalar, members_of, text_of
 
 INNERMOST = re.compile(r"\$\{([^${}]*)\}")
 WHOLE = re.compile(r"\s*\$\{([^${}]*)\}\s*")  # a text that is a single variable
-SOURCE = re.compile(r"""\s*(?:(?P<quote>["'])(?P<text>.*?)(?P=quote)|(?P<source>(?:file\([^)]*\))?[^,]*))\s*(?:,|$)""")
 FILE = re.compile(r"file\(([^)]*)\)(?::(.*))?")
 TO_BOOL = re.compile(r"strToBool\((.*)\)")
 LITERALS = {"true": True, "false": False, "null": None}
@@ -28,6 +27,30 @@ OF_CODE = (".js", ".cjs", ".mjs", ".ts")
 def logical_id(key: str) -> str:
     """What Serverless calls a function in its CloudFormation."""
     return (key[:1].upper() + key[1:]).replace("-", "Dash").replace("_", "Underscore") + "LambdaFunction"
+
+
+def after_blanks(text: str, at: int) -> int:
+    while at < len(text) and text[at].isspace():
+        at += 1
+    return at
+
+
+def sources_in(inside: str) -> Iterator[str]:
+    """The sources of a variable, which commas separate: texts in quotes, or such as `self:a`. A comma may be in quotes,
+    and in the name of a file."""
+    at = 0
+    while at <= len(inside):
+        at, end = after_blanks(inside, at), -1
+        close = inside.find(inside[at], at + 1) if inside[at:at + 1] in ("'", '"') else -1
+        if close > 0:
+            after = after_blanks(inside, close + 1)
+            end = after if inside[after:after + 1] in ("", ",") else -1
+        if end < 0:
+            close = inside.find(")", at) if inside.startswith("file(", at) else at
+            end = inside.find(",", max(close, at))
+            end = len(inside) if end < 0 else end
+        yield inside[at:end].strip()
+        at = end + 1
 
 
 class ServerlessScope(Scope):
@@ -64,6 +87,8 @@ class ServerlessScope(Scope):
         given = self.raw(self.whole.get("resources"))
         for part in given if isinstance(given, list) else [given]:
             one = self.raw(part)
+            if one is not None and not isinstance(one, dict):
+                tell(f"leaves out resources: {excerpt(one)}: it must be an object{self.why(part)}")
             for name, into in (("Parameters", self.parameters), ("Conditions", self.conditions),
                                ("Mappings", self.mappings), ("Outputs", self.outputs)):
                 into.update(members_of(one, name))
@@ -115,8 +140,13 @@ class ServerlessScope(Scope):
         match = INNERMOST.search(text)
         if match is None:
             return None
-        value = self.value(self.variable(match[1]))
-        return text[:match.start()] + ("" if value is None else text_of(value)) + text[match.end():]
+        return self.replaced(text, match, self.value(self.variable(match[1])))
+
+    def replaced(self, text: str, match: Match[str], value: object) -> str:
+        """A text with a value in the place of a variable."""
+        found = "" if value is None else text_of(value)
+        self.shared.spend(letters=len(text) + len(found))
+        return text[:match.start()] + found + text[match.end():]
 
     def text(self, text: str) -> object:
         """Returns a text with its variables replaced, the innermost first; for a single variable, returns its value."""
@@ -127,15 +157,14 @@ class ServerlessScope(Scope):
             value = self.value(self.variable(match[1]))
             if match[0] == text:
                 return value
-            text = text[:match.start()] + ("" if value is None else text_of(value)) + text[match.end():]
+            text = self.replaced(text, match, value)
         raise Unknown("its variables go round in a circle")
 
     def variable(self, inside: str) -> object:
         """The first of its sources that has a value; else a placeholder."""
         self.shared.depth += 1
         try:
-            if self.shared.depth > DEEPEST:
-                raise Unknown("its expressions are nested too deep, or go round in a circle")
+            self.shared.enter()
             return self.value_of_variable(inside)
         finally:
             self.shared.depth -= 1
@@ -148,11 +177,11 @@ class ServerlessScope(Scope):
             if value is None:
                 raise Unknown(f"strToBool({found[1]}) is not true or false")
             return value
-        for match in SOURCE.finditer(inside):
-            if match["quote"]:
-                return match["text"]
+        for source in sources_in(inside):
+            if source[:1] in ("'", '"') and source[-1] == source[0] and len(source) > 1:
+                return source[1:-1]
             try:
-                return self.source(match["source"].strip())
+                return self.source(source)
             except LookupError:
                 continue
         options = {"opt:stage": self.stage, "opt:region": self.region}  # (given at a deployment, which this is not)

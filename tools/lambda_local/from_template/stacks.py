@@ -119,11 +119,18 @@ class Stacks:
 
     # ---- what `cdk synth` writes -------------------------------------------------------------------------------------
 
+    def object_in(self, path: str) -> Members:
+        """What a file of the folder has, which is an object."""
+        whole = parse(path, self.folder.text("", path, LONGEST))
+        if not isinstance(whole, dict):
+            raise Fault(f"{path} must be an object, not {excerpt(whole)}: run cdk synth")
+        return whole
+
     def read_assembly(self, folder: str, level: int = 0) -> None:
         """All stacks of a folder of CDK."""
         stacks, inner = self.artifacts_of(folder)
         for path, name in stacks:
-            template = read(path)
+            template = self.object_in(path)
             if isinstance(template.get("Resources"), dict):
                 self.add(template, path, name, self.given)
         if inner and level < DEEPEST:
@@ -150,7 +157,7 @@ class Stacks:
             names = [name for name in sorted(os.listdir(folder)) if name.endswith(".template.json")
                      and not name.endswith(".nested.template.json")]
             return [(os.path.join(folder, name), stack_name(name)) for name in names], {}
-        manifest = read(os.path.join(folder, MANIFEST))
+        manifest = self.object_in(os.path.join(folder, MANIFEST))
         stacks, inner = [], {}
         for key, artifact in members_of(manifest, "artifacts").items():
             properties = members_of(artifact, "properties")

@@ -10,6 +10,7 @@ from typing import Any, Callable, Dict, List, Match, NamedTuple, Optional, Set, 
 from ..configuration import Members
 from . import services
 from .given import NOTHING, Given
+from .messages import Fault, excerpt
 
 ACCOUNT, REGION = "123456789012", "us-east-1"  # those of lambda_local up
 NO_VALUE = object()  # what AWS::NoValue stands for: the property is not there
@@ -20,6 +21,8 @@ FUNCTIONS = {"Ref": "ref", "Fn::GetAtt": "get_att", "Fn::Join": "join", "Fn::Sub
              "Fn::If": "choose", "Fn::Base64": "in_base64", "Fn::ToJsonString": "in_json", "Fn::Length": "length",
              "Fn::GetAZs": "zones"}
 DEEPEST, MOST_STEPS = 50, 10_000  # of one expression
+LONGEST_TEXT = 4 << 20  # characters of one (CloudFormation takes 4 MB of code)
+MOST_STEPS_IN_ALL, MOST_LETTERS_IN_ALL = 1_000_000, 256 << 20  # of all expressions of a project
 
 
 class Unknown(Exception):
@@ -42,8 +45,15 @@ def text_of(value: object) -> str:
     if isinstance(value, datetime.date):
         return value.isoformat()
     if not is_scalar(value):
-        raise Unknown(f"{value!r} is not a string")
+        raise Unknown(f"{excerpt(value)} is not a string")
     return str(value)
+
+
+def letters_in(value: object) -> int:
+    """How many characters, at least, a value has as JSON."""
+    if isinstance(value, dict):
+        return sum(len(str(name)) + letters_in(inner) for name, inner in value.items())
+    return sum(map(letters_in, value)) if isinstance(value, list) else len(value) if isinstance(value, str) else 1
 
 
 def type_of(resource: object) -> str:
@@ -66,6 +76,28 @@ class Shared:
         self.exports: "Dict[str, Tuple[Scope, object]]" = {}
         self.placeholders: List[str] = []
         self.depth = self.steps = 0
+        self.steps_in_all = self.letters_in_all = 0
+
+    def enter(self, why: str = "its expressions are nested too deep, or go round in a circle") -> None:
+        """Counts a step one level deeper; the caller has counted the level, and takes it back."""
+        self.steps = 0 if self.depth == 1 else self.steps
+        self.spend()
+        if self.depth > DEEPEST:
+            raise Unknown(why)
+
+    def spend(self, steps: int = 1, letters: int = 0) -> None:
+        """Counts a step of an expression, and the characters of a text that it makes. Texts that name one another
+        double at each level: all together may have so many."""
+        self.steps += steps
+        self.steps_in_all += steps
+        self.letters_in_all += letters
+        if self.steps_in_all > MOST_STEPS_IN_ALL or self.letters_in_all > MOST_LETTERS_IN_ALL:
+            raise Fault(f"its expressions take more than {MOST_STEPS_IN_ALL:,} steps, or make more than "
+                        f"{MOST_LETTERS_IN_ALL:,} characters: this is not a template that can be served")
+        if letters > LONGEST_TEXT:
+            raise Unknown(f"a text of more than {LONGEST_TEXT:,} characters")
+        if self.steps > MOST_STEPS:
+            raise Unknown("its expressions are nested too deep, or go round in a circle")
 
 
 class Scope:
@@ -130,10 +162,8 @@ class Scope:
 
     def value(self, expression: object) -> object:
         self.shared.depth += 1
-        self.shared.steps += 1
         try:
-            if self.shared.depth > DEEPEST or self.shared.steps > MOST_STEPS:
-                raise Unknown("its expressions are nested too deep, or go round in a circle")
+            self.shared.enter()
             if isinstance(expression, str):
                 return self.text(expression)
             if isinstance(expression, list):
@@ -181,7 +211,7 @@ class Scope:
 
     def ref(self, name: object) -> object:
         if not isinstance(name, str):
-            raise Unknown(f"Ref needs a name, not {name!r}")
+            raise Unknown(f"Ref needs a name, not {excerpt(name)}")
         if name in self.pseudo:
             return self.pseudo[name]
         if name in self.parameters:
@@ -222,13 +252,13 @@ class Scope:
         """A parameter's value; of one that is a list, its parts."""
         kind = str(parameter.get("Type", "")) if isinstance(parameter, dict) else ""
         if kind.startswith("List<") or kind == "CommaDelimitedList":
-            return [part.strip() for part in text_of(value).split(",")]
+            return [part.strip() for part in text_of(value).split(",", MOST_STEPS)]
         return value
 
     def get_att(self, argument: object) -> object:
         words = argument.split(".", 1) if isinstance(argument, str) else argument
         if not (isinstance(words, list) and len(words) == 2 and all(isinstance(word, str) for word in words)):
-            raise Unknown(f"Fn::GetAtt needs a resource and its attribute, not {argument!r}")
+            raise Unknown(f"Fn::GetAtt needs a resource and its attribute, not {excerpt(argument)}")
         name, attribute = words
         if name in self.functions and attribute == "Arn":
             return self.arn_of(self.functions[name])
@@ -248,11 +278,13 @@ class Scope:
 
     def join(self, argument: object) -> str:
         if not (isinstance(argument, list) and len(argument) == 2):
-            raise Unknown(f"Fn::Join needs a separator and a list, not {argument!r}")
+            raise Unknown(f"Fn::Join needs a separator and a list, not {excerpt(argument)}")
         separator, parts = self.value(argument[0]), self.value(argument[1])
         if not isinstance(parts, list):
-            raise Unknown(f"Fn::Join needs a list, not {parts!r}")
-        return text_of(separator).join(map(text_of, parts))
+            raise Unknown(f"Fn::Join needs a list, not {excerpt(parts)}")
+        texts = [text_of(part) for part in parts]
+        self.shared.spend(letters=sum(map(len, texts)) + len(text_of(separator)) * len(texts))
+        return text_of(separator).join(texts)
 
     def sub(self, argument: object) -> str:
         text: object = argument
@@ -260,16 +292,24 @@ class Scope:
         if isinstance(argument, list) and len(argument) == 2:
             text, own = argument
         if not (isinstance(text, str) and isinstance(own, dict)):
-            raise Unknown(f"Fn::Sub needs a string, or a string and an object, not {argument!r}")
+            raise Unknown(f"Fn::Sub needs a string, or a string and an object, not {excerpt(argument)}")
 
         names: Members = own
+        length = len(text)
 
         def replace(match: Match[str]) -> str:
+            nonlocal length
             literal, name = match[1], match[2].strip()
             if literal:
                 return "${" + match[2] + "}"
             value = self.value(names[name]) if name in names else self.get_att(name) if "." in name else self.ref(name)
-            return "" if value is NO_VALUE else text_of(value)
+            found = "" if value is NO_VALUE else text_of(value)
+            length += len(found)
+            self.shared.spend(letters=len(found))
+            if length > LONGEST_TEXT:
+                raise Unknown(f"a text of more than {LONGEST_TEXT:,} characters")
+            return found
+        self.shared.spend(letters=length)
         return IN_TEXT.sub(replace, text)
 
     def select(self, argument: object) -> object:
@@ -285,16 +325,18 @@ class Scope:
                 raise IndexError
             return values[number]
         except (TypeError, ValueError, IndexError):
-            raise Unknown(f"Fn::Select needs an index and a list that has it, not {argument!r}") from None
+            raise Unknown(f"Fn::Select needs an index and a list that has it, not {excerpt(argument)}") from None
 
     def split(self, argument: object) -> List[str]:
         try:
             if not isinstance(argument, list):
                 raise TypeError
             separator, text = argument
-            return text_of(self.value(text)).split(text_of(separator))
+            parts = text_of(self.value(text)).split(text_of(separator))
+            self.shared.spend(len(parts))
+            return parts
         except (TypeError, ValueError):
-            raise Unknown(f"Fn::Split needs a separator and a string, not {argument!r}") from None
+            raise Unknown(f"Fn::Split needs a separator and a string, not {excerpt(argument)}") from None
 
     def find_in_map(self, argument: object) -> object:
         try:
@@ -308,7 +350,7 @@ class Scope:
             last = argument[3] if isinstance(argument, list) and len(argument) == 4 else None
             if isinstance(last, dict) and "DefaultValue" in last:
                 return self.value(last["DefaultValue"])
-            raise Unknown(f"Mappings has no {argument!r}") from None
+            raise Unknown(f"Mappings has no {excerpt(argument)}") from None
 
     def import_value(self, argument: object) -> object:
         name = text_of(self.value(argument))
@@ -318,18 +360,22 @@ class Scope:
         return self.placeholder(name, f"the export {name}")
 
     def in_base64(self, argument: object) -> str:
-        return base64.b64encode(text_of(self.value(argument)).encode(errors="replace")).decode()
+        data = text_of(self.value(argument)).encode(errors="replace")
+        self.shared.spend(letters=len(data) * 4 // 3)
+        return base64.b64encode(data).decode()
 
     def in_json(self, argument: object) -> str:
         try:
-            return json.dumps(self.value(argument), separators=(",", ":"), default=text_of)
+            value = self.value(argument)
+            self.shared.spend(letters=letters_in(value))
+            return json.dumps(value, separators=(",", ":"), default=text_of)
         except (TypeError, ValueError) as fault:
             raise Unknown(f"Fn::ToJsonString: {fault}") from None
 
     def length(self, argument: object) -> int:
         values = self.value(argument)
         if not isinstance(values, list):
-            raise Unknown(f"Fn::Length needs a list, not {argument!r}")
+            raise Unknown(f"Fn::Length needs a list, not {excerpt(argument)}")
         return len(values)
 
     def zones(self, argument: object) -> List[str]:
@@ -338,7 +384,7 @@ class Scope:
 
     def choose(self, argument: object) -> object:
         if not (isinstance(argument, list) and len(argument) == 3):
-            raise Unknown(f"Fn::If needs a condition and two values, not {argument!r}")
+            raise Unknown(f"Fn::If needs a condition and two values, not {excerpt(argument)}")
         return self.value(argument[1] if self.holds(argument[0]) else argument[2])
 
     # --- conditions ---
@@ -347,8 +393,7 @@ class Scope:
         """Whether a condition, by its name or itself, is met."""
         self.shared.depth += 1
         try:
-            if self.shared.depth > DEEPEST:
-                raise Unknown("its conditions go round in a circle")
+            self.shared.enter("its conditions go round in a circle")
             if isinstance(condition, str):
                 if condition not in self.conditions:
                     raise Unknown(f"there is not a condition {condition}")
@@ -359,12 +404,12 @@ class Scope:
 
     def of_condition(self, condition: object) -> bool:
         if not (isinstance(condition, dict) and len(condition) == 1):
-            raise Unknown(f"{condition!r} is not a condition")
+            raise Unknown(f"{excerpt(condition)} is not a condition")
         (name, argument), = condition.items()
         if name == "Condition":
             return self.holds(argument)
         if not isinstance(argument, list):
-            raise Unknown(f"{name} needs a list, not {argument!r}")
+            raise Unknown(f"{name} needs a list, not {excerpt(argument)}")
         if name == "Fn::Equals" and len(argument) == 2:
             return text_of(self.value(argument[0])) == text_of(self.value(argument[1]))
         if name == "Fn::Not" and len(argument) == 1:

@@ -5,7 +5,7 @@ import asyncio
 import contextlib
 import errno
 import time
-from typing import AsyncIterator, List, Optional, Sequence, Tuple
+from typing import AsyncIterator, Callable, List, Optional, Sequence, Tuple
 
 from ..http1 import CLOSED, Event, Headers, Malformed, Response, ResponseReader, request_head
 from .http import Answer, Body
@@ -42,8 +42,10 @@ class ServiceWire(Wire):
 
 
 class Client:
-    def __init__(self, port: int) -> None:
-        self.port = port
+    """`answered` is told the target and the bytes of each answer with the status 200 whose length is known."""
+
+    def __init__(self, port: int, answered: Callable[[str, int], None] = lambda target, size: None) -> None:
+        self.port, self.answered = port, answered
         self.idle: List[Tuple[ServiceWire, float]] = []  # with the time since when
 
     async def connection(self) -> ServiceWire:
@@ -86,6 +88,8 @@ class Client:
             if pieces is not None:
                 sending = asyncio.get_running_loop().create_task(self.send(wire, pieces))
             answer = await self.answer(wire, method)
+            if answer.status == 200:
+                self.answered(target, answer.body.length or 0)
             yield answer
         except Gone:
             fault = sending.exception() if sending is not None and sending.done() else None

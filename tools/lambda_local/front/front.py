@@ -106,11 +106,13 @@ class Front(threading.Thread):
         return found
 
     def serve(self, service: Service, tails: Optional[Tails] = None, others: Sequence[Other] = (),
-              streams: Optional[Streams] = None) -> None:
+              streams: Optional[Streams] = None,
+              answered: Callable[[str, int], None] = lambda target, size: None) -> None:
         """Begins to answer, by this service; `tails` has what Invoke answers with the log type Tail, and `others` are
-        further servers that its thread runs, which have the responses that are streamed."""
+        further servers that its thread runs, which have the responses that are streamed. `answered` is told the target
+        and the bytes of each answer of the service."""
         self.service, configuration = service, service.configuration
-        self.client = Client(service.port)
+        self.client = Client(service.port, answered)
         self.places = Places(places_for(sum(len(one["ports"]) for one in configuration["functions"]),
                                         sum(other.descriptors for other in others)))
         port = InvokePort(self.client, self.settings, configuration, self.drain_seconds, self.log, self.places, tails)

@@ -6,6 +6,7 @@ from ..configuration import Members
 from ..outgoing import Log
 from ..streaming.streams import Streams
 from . import cors, response_stream
+from .authorize import Asked, Authorizers, Refused
 from .budget import Budget, Full, Held
 from .client import Client
 from .events import Identifiers, target_of
@@ -27,6 +28,11 @@ class Backend(NamedTuple):
     context: Dict[str, Any]  # the members of requestContext that do not depend on the request
     parameters: Optional[Dict[str, str]]
     format: OfUrl
+
+
+def trace_of(request: Request) -> Headers:
+    """What is passed on of a request's head."""
+    return [(name, value) for name, value in request.headers if name.lower() == "x-amzn-trace-id"]
 
 
 class Gateway:
@@ -90,15 +96,26 @@ class Gateway:
             return self.too_large(backend, request, "its body")
         held.is_whole()
         context = {**backend.context, "requestId": self.identifiers.next(backend.function)}
+        try:
+            context.update(await self.authorizer_of(request, backend, context, tell))
+        except Refused as fault:
+            self.say(backend, request, f"{fault.reply.status}, {fault}", level="warning")
+            return fault.reply
+        except (Gone, Malformed):
+            self.say(backend, request, "500, the service broke its connection off")
+            return message(500, "Internal Server Error")
         event = backend.format.event(request, body, context, backend.parameters, tell)
         if len(event) > MOST_BODY:
             return self.too_large(backend, request, "the event made of it")
-        trace = [(name, value) for name, value in request.headers if name.lower() == "x-amzn-trace-id"]
         try:
-            return await self.answer(request, backend, trace, event, tell)
+            return await self.answer(request, backend, trace_of(request), event, tell)
         except (Gone, Malformed):
             self.say(backend, request, "502, the service broke its connection off")
             return backend.format.failure_reply()
+
+    async def authorizer_of(self, request: Request, backend: Backend, context: Members, tell: Tell) -> Members:
+        """What an authorizer adds to the event's context; Refused if the caller may not."""
+        return {}
 
     async def answer(self, request: Request, backend: Backend, trace: Headers, event: bytes, tell: Tell) -> Reply:
         status, headers, result = await self.client.ask("POST", target_of(backend.function), trace, event)
@@ -155,7 +172,6 @@ class Url(Gateway):
         try:
             return await response_stream.url_reply(invocation, start.stream)
         except Unmappable as reason:
-            await invocation.aclose()
             self.say(backend, request, f"502, {reason}")
             return backend.format.failure_reply()
 
@@ -177,6 +193,7 @@ class Api(Gateway):
             "accountId": configuration["account"], "apiId": "local",
             "domainName": f"local.execute-api.{configuration['region']}.amazonaws.com", "domainPrefix": "local",
             "stage": "$default"}
+        self.authorizers, self.region = Authorizers(client), str(configuration["region"])
         self.formats = {key: format_of(target.integration) for key, target in routes.items()}
         # (what no route takes is answered as by the kind that all routes have)
         formats = list(self.formats.values())
@@ -193,3 +210,10 @@ class Api(Gateway):
         assert route.target is not None
         context = {**self.context, "routeKey": route.key}
         return Backend(route.target.function, context, parameters, self.formats[route.key])
+
+    async def authorizer_of(self, request: Request, backend: Backend, context: Members, tell: Tell) -> Members:
+        form = self.formats[str(context["routeKey"])]
+        if form.integration.authorizer is None:
+            return {}
+        asked = Asked(request, context, backend.parameters, form.integration, form, self.region, trace_of(request))
+        return {"authorizer": await self.authorizers.members(form.integration.authorizer, asked)}

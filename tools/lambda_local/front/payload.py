@@ -24,8 +24,15 @@ class Unmappable(Exception):
 def event_of(request: Request, body: bytes, context: Members, parameters: Optional[Dict[str, str]] = None,
              variables: Optional[Dict[str, str]] = None) -> bytes:
     """`context` has the members of requestContext that do not depend on the request."""
+    event = {**members_of(request, context, parameters, variables), **body_of(request, body)}
+    return json.dumps(event, ensure_ascii=False).encode(errors="replace")
+
+
+def members_of(request: Request, context: Members, parameters: Optional[Dict[str, str]] = None,
+               variables: Optional[Dict[str, str]] = None) -> Dict[str, object]:
+    """The members of an event without the body."""
     now, agent = time.time(), first(request.headers, "user-agent")
-    event = {
+    return {
         "version": "2.0", "routeKey": context["routeKey"], "rawPath": request.path, "rawQueryString": request.query,
         **cookies_of(request), "headers": headers_of(request), **query_of(request),
         "requestContext": {
@@ -34,9 +41,7 @@ def event_of(request: Request, body: bytes, context: Members, parameters: Option
                      "userAgent": agent or ""},
             "time": time.strftime("%d/%b/%Y:%H:%M:%S +0000", time.gmtime(now)), "timeEpoch": int(1000 * now)},
         **({"pathParameters": parameters} if parameters else {}),
-        **({"stageVariables": variables} if variables else {}),
-        **body_of(request, body)}
-    return json.dumps(event, ensure_ascii=False).encode(errors="replace")
+        **({"stageVariables": variables} if variables else {})}
 
 
 def cookies_of(request: Request) -> Dict[str, List[str]]:
@@ -58,10 +63,16 @@ def headers_of(request: Request) -> Dict[str, str]:
 
 
 def query_of(request: Request) -> Dict[str, Dict[str, str]]:
-    query: Dict[str, str] = {}
-    for name, value in parse_qsl(request.query, keep_blank_values=True):
-        query[name] = f"{query[name]},{value}" if name in query else value
+    query = {name: ",".join(values) for name, values in parameters_in(request.query).items()}
     return {"queryStringParameters": query} if query else {}
+
+
+def parameters_in(query: str) -> Dict[str, List[str]]:
+    """The values of each parameter of a query."""
+    found: Dict[str, List[str]] = {}
+    for name, value in parse_qsl(query, keep_blank_values=True):
+        found.setdefault(name, []).append(value)
+    return found
 
 
 def body_of(request: Request, body: bytes, is_text: Optional[bool] = None) -> Dict[str, object]:

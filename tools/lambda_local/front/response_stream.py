@@ -128,7 +128,16 @@ async def url_pieces(stream: Stream, beginning: bytes, pieces: AsyncIterator[byt
 
 
 async def url_reply(invocation: Invocation, stream: Stream) -> Reply:
-    """Raises Unmappable if its prelude is none."""
+    """Raises Unmappable if its prelude is none. The invocation is left then, as it is if the caller goes meanwhile."""
+    try:
+        return await begun_reply(invocation, stream)
+    except BaseException:
+        await invocation.aclose()
+        raise
+
+
+async def begun_reply(invocation: Invocation, stream: Stream) -> Reply:
+    """The answer once the status and the headers are known."""
     pieces, beginning = stream.pieces(), b""
     status, headers = 200, [("Content-Type", stream.content_type or DEFAULT_TYPE)]
     if (stream.content_type or "").partition(";")[0].strip().lower() == prelude.CONTENT_TYPE:

@@ -4,11 +4,11 @@ import json
 import re
 import time
 from typing import Callable, Dict, List, Mapping, Optional
-from urllib.parse import parse_qsl
 
 from ..configuration import Members
 from .http import OF_CONNECTION, TOKEN, Headers, Reply, Request, every, first
-from .payload import FRAMING, HERE, Unmappable, body_in, body_of, headers_in, read_result, status_in, text_in
+from .payload import (FRAMING, HERE, Unmappable, body_in, body_of, headers_in, parameters_in, read_result, status_in,
+                      text_in)
 from .settings import Integration
 
 MEMBERS = ("statusCode", "headers", "multiValueHeaders", "body", "isBase64Encoded")  # of a result
@@ -22,20 +22,26 @@ def event_of(request: Request, body: bytes, context: Members, parameters: Option
              integration: Integration, tell: Tell) -> bytes:
     """`context` has the members of requestContext that do not depend on the request. `tell` takes a sentence on what
     is lost."""
+    no_body: Dict[str, object] = {"body": None}
+    event = {**members_of(request, context, parameters, integration),
+             **(body_of_rest(request, body, integration, tell) if integration.is_rest
+                else {**no_body, **body_of(request, body)})}
+    return json.dumps(event, ensure_ascii=False).encode(errors="replace")
+
+
+def members_of(request: Request, context: Members, parameters: Optional[Dict[str, str]],
+               integration: Integration) -> Dict[str, object]:
+    """The members of an event without the body."""
     key = context["routeKey"]
     resource = key.partition(" ")[2] or key
-    headers, query = headers_of(request, integration.is_rest), query_of(request)
-    no_body: Dict[str, object] = {"body": None}
-    event: Dict[str, object] = {
+    headers, query = headers_of(request, integration.is_rest), parameters_in(request.query)
+    return {
         **({} if integration.is_rest else {"version": "1.0"}),
         "resource": resource, "path": request.path, "httpMethod": request.method,
         "headers": last_of_each(headers), "multiValueHeaders": headers,
         "queryStringParameters": last_of_each(query) or None, "multiValueQueryStringParameters": query or None,
         "pathParameters": parameters or None, "stageVariables": integration.variables or None,
-        "requestContext": context_of(request, context, resource, integration),
-        **(body_of_rest(request, body, integration, tell) if integration.is_rest
-           else {**no_body, **body_of(request, body)})}
-    return json.dumps(event, ensure_ascii=False).encode(errors="replace")
+        "requestContext": context_of(request, context, resource, integration)}
 
 
 def last_of_each(values: Mapping[str, List[str]]) -> Dict[str, str]:
@@ -63,13 +69,6 @@ def headers_of(request: Request, keeps_case: bool) -> Dict[str, List[str]]:
     return found
 
 
-def query_of(request: Request) -> Dict[str, List[str]]:
-    found: Dict[str, List[str]] = {}
-    for name, value in parse_qsl(request.query, keep_blank_values=True):
-        found.setdefault(name, []).append(value)
-    return found
-
-
 def context_of(request: Request, context: Members, resource: str, integration: Integration) -> Dict[str, object]:
     now, is_rest = time.time(), integration.is_rest
     identity: Dict[str, Optional[str]] = {**dict.fromkeys(UNKNOWN_IDENTITY), "sourceIp": HERE,
@@ -77,7 +76,7 @@ def context_of(request: Request, context: Members, resource: str, integration: I
                 **({"apiKey": first(request.headers, "x-api-key")} if is_rest else {"clientCert": None})}
     members = {name: value for name, value in context.items() if name != "routeKey"}
     return {
-        **members, **({} if is_rest else {"authorizer": {"claims": None, "scopes": None}}),
+        **({} if is_rest else {"authorizer": {"claims": None, "scopes": None}}), **members,
         "extendedRequestId": context["requestId"], "httpMethod": request.method, "identity": identity,
         "path": f"/{integration.stage}{request.path}" if is_rest else request.path, "protocol": request.version,
         "requestTime": time.strftime("%d/%b/%Y:%H:%M:%S +0000", time.gmtime(now)), "requestTimeEpoch": int(1000 * now),

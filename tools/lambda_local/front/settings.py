@@ -4,6 +4,8 @@ from typing import Any, Dict, Iterator, List, Mapping, NamedTuple, Optional, Tup
 
 from ..configuration import PORT, Kind, Members, is_list_of, is_text, is_whole, mistakes_of, shown
 from ..http1 import is_token
+from . import authorizers
+from .authorizers import Authorizer, authorizer_of
 from .routes import Route, WrongRoute
 
 DELAYS = (1.0, 2.0)  # seconds; Lambda's are 60 and 120
@@ -45,6 +47,8 @@ OF_INTEGRATION = {
     "stageVariables": Kind(lambda value: isinstance(value, dict) and all(map(is_text, value.values())),
                            "an object of strings"),
     "binaryMediaTypes": TEXTS,
+    "authorizer": Kind(lambda value: value is None or isinstance(value, dict),
+                       'an object with "claims", "lambda", "jwt" or "function", or null'),
 }
 OF_API = {**OF_ADDRESS, **OF_INTEGRATION}
 OF_ROUTE = {"function": Kind(is_text, "a string: the name of a function"), **OF_INTEGRATION}
@@ -101,6 +105,7 @@ class Integration(NamedTuple):
     stage: str = "$default"
     variables: Optional[Dict[str, str]] = None
     binary: Tuple[str, ...] = ()  # media types of a REST API, in lower case
+    authorizer: Optional[Authorizer] = None
 
 
 class Target(NamedTuple):
@@ -163,6 +168,7 @@ def mistakes_of_api(whole: Members, names: List[str]) -> Iterator[str]:
     api = whole.get("api", {})
     yield from mistakes_of_address(api, "api: ", OF_API)
     yield from mistakes_of_integration(api, api, "api: ")
+    yield from mistakes_of_authorizer(api, api, names, "api: ")
     if "api" in whole and "routes" not in whole:
         yield "api: there are no routes: write \"routes\", or leave it out"
     yield from mistakes_of_routes(whole.get("routes", {}), names, api)
@@ -184,6 +190,13 @@ def mistakes_of_integration(given: Members, whole: Members, where: str) -> Itera
             yield f'{where}{name} is of a REST API: leave it out, or write "type": "REST"'
 
 
+def mistakes_of_authorizer(given: Members, whole: Members, names: List[str], where: str) -> Iterator[str]:
+    """Also of one that a route has from its API, if it says of which kind it is itself."""
+    authorizer = whole.get("authorizer")
+    if isinstance(authorizer, dict) and {"authorizer", "type", "payload"} & set(given):
+        yield from authorizers.mistakes(authorizer, names, kind_of(whole) == "REST", f"{where}authorizer: ")
+
+
 def mistakes_of_routes(routes: Mapping[str, object], names: List[str], api: Members) -> Iterator[str]:
     seen: Dict[object, str] = {}
     for key, given in routes.items():
@@ -191,6 +204,7 @@ def mistakes_of_routes(routes: Mapping[str, object], names: List[str], api: Memb
         if isinstance(given, dict):
             yield from mistakes_of(given, OF_ROUTE, where, ["function"])
             yield from mistakes_of_integration(given, {**api, **given}, where)
+            yield from mistakes_of_authorizer(given, {**api, **given}, names, where)
         name = given.get("function") if isinstance(given, dict) else given
         if is_text(name) and name not in names:
             yield f"{where}there is no function {shown(name)}"
@@ -227,10 +241,13 @@ def target_of(given: object, api: Members) -> Target:
     whole = {**api, **given}
     is_rest = kind_of(whole) == "REST"
     variables = whole.get("stageVariables") or None
+    authorizer = authorizer_of(whole.get("authorizer"), is_rest)
     if not is_rest:
-        return Target(given["function"], Integration(whole.get("payload", "2.0"), variables=variables))
+        return Target(given["function"], Integration(whole.get("payload", "2.0"), variables=variables,
+                                                     authorizer=authorizer))
     binary = tuple(kind.lower() for kind in whole.get("binaryMediaTypes", ()))
-    return Target(given["function"], Integration("1.0", True, whole.get("stage", "local"), variables, binary))
+    return Target(given["function"], Integration("1.0", True, whole.get("stage", "local"), variables, binary,
+                                                 authorizer))
 
 
 def asynchronous_of(given: object) -> Optional[Asynchronous]:

@@ -32,7 +32,7 @@ class Functions(Session):
     def __init__(self, path: str, recording: Recording, program: Optional[str], ready: float, verbose: bool) -> None:
         options = argparse.Namespace(up=path, debug=None, salt=recording.salt, program=program, reload=False,
                                      keep_credentials=False, ready=ready, command=["rerun"], history=None, only=None,
-                                     allow_unready=False, drain=5, report=False)
+                                     allow_unready=False, drain=5, patient=1, report=False)
         names = {member["name"] for member in project_of(path).whole["functions"]}
         for invocation in recording.invocations:
             if invocation.was_served and invocation.function not in names:

@@ -130,8 +130,7 @@ def token_in(trace: Optional[str]) -> Optional[str]:
 class Serving(NamedTuple):
     """What an environment serves, as the history has it."""
     identifier: str
-    expected: Optional[Expected]  # the caller who waits for its response as it comes
-    is_over: bool = False  # it was answered
+    expected: Optional[Expected]  # the caller who waits for its response as it comes; none once it was answered
 
 
 class Held(NamedTuple):
@@ -197,7 +196,7 @@ class Streams:
         """It was answered."""
         serving = self.serving.get(environment)
         if serving and serving.identifier == identifier:
-            self.serving[environment] = Serving(identifier, None, True)
+            self.serving[environment] = Serving(identifier, None)
 
     # ---- from the proxies --------------------------------------------------------------------------------------------
 

@@ -20,11 +20,9 @@ class Buffer:
         self.size = AROUND  # of what waits, as one batch
         self.oldest: Optional[float] = None  # when the first of those that wait came
         self.dropped = self.bytes_dropped = 0  # since the last note
-        self.all_dropped = self.made = 0
 
     def put(self, event: bytes, now: float) -> None:
         """Takes an event if there is room."""
-        self.made += 1
         width = len(event) + OVERHEAD
         if self.waiting and (len(self.waiting) >= ROOM * self.limits.items
                              or self.size + width > ROOM * self.limits.size):
@@ -36,7 +34,6 @@ class Buffer:
     def count(self, records: int, size: int) -> None:
         self.dropped += records
         self.bytes_dropped += size
-        self.all_dropped += records
 
     def tell_dropped(self, now: float) -> None:
         if self.dropped:

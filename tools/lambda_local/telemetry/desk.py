@@ -29,12 +29,13 @@ class Kept:
     def __init__(self) -> None:
         self.events: List[Event] = []
         self.size = 0
-        self.dropped: List[Tuple[str, int]] = []
+        self.dropped: Dict[str, Tuple[int, int]] = {}  # by type: how many there was no room for, and their bytes
 
     def take(self, event: Event) -> None:
         size = len(event.record) if isinstance(event.record, str) else 0
         if event.category != "platform" and (len(self.events) >= MOST_KEPT or self.size + size > MOST_KEPT_BYTES):
-            self.dropped.append((event.type, size))
+            count, before = self.dropped.get(event.type, (0, 0))
+            self.dropped[event.type] = count + 1, before + size
             return
         self.events.append(event)
         self.size += size
@@ -203,9 +204,9 @@ class Desk:
         receiver = self.receivers[identifier] = Receiver(subscription, name, sender, buffer)
         for event in self.kept.events:
             self._give(receiver, event, {})
-        for kind, size in self.kept.dropped:
+        for kind, (count, size) in self.kept.dropped.items():
             if kind in subscription.types:
-                buffer.count(1, size)
+                buffer.count(count, size)
         sender.begin()
         story.subscribes(identifier, list(subscription.order), subscription.is_of_logs)
 

@@ -6,18 +6,17 @@ from typing import Awaitable, Callable, List, Optional
 
 from ..http1 import Headers, Malformed, Request, Response, first
 from ..json_reader import NotJson, read_json
-from ..streaming.streams import Stream, Streams
+from ..service import EXTENSION, RUNTIME
+from ..streaming.streams import ERROR_TYPE, Stream, Streams
 from .conversation import Answer, Ears, Exchange
 from .desk import Desk
 from .refusals import Refusals
 from .story import ERROR, SUCCESS, TOO_LARGE
 from .subscription import LOGS, TELEMETRY
 
-ERROR_TYPE = "lambda-runtime-function-error-type"
 EXTENSION_ERROR_TYPE = "lambda-extension-function-error-type"
 IDENTIFIER, NAME = "lambda-extension-identifier", "lambda-extension-name"
 REQUEST = "lambda-runtime-aws-request-id"
-RUNTIME, EXTENSION = "/2018-06-01/runtime/", "/2020-01-01/extension/"
 POSTED = re.compile(re.escape(RUNTIME) + "invocation/([^/]+)/(response|error)")
 SHORT = 64 << 10  # bytes of a body that is looked at
 UNKNOWN_ERROR = "Runtime.Unknown"

@@ -7,9 +7,9 @@ from typing import Callable, Dict, NamedTuple, Optional
 
 from ..http1 import CutShort, Malformed, Request, Response, first
 from ..json_reader import NotJson, read_json
+from ..service import EXTENSION, RUNTIME
 from .subscription import LOGS, TELEMETRY
 
-RUNTIME, EXTENSION = "/2018-06-01/runtime/", "/2020-01-01/extension/"
 ROUTES = {  # with the identifier of an invocation left open
     RUNTIME + "invocation/next": "GET", RUNTIME + "invocation/ID/response": "POST",
     RUNTIME + "invocation/ID/error": "POST", RUNTIME + "init/error": "POST", EXTENSION + "register": "POST",

@@ -25,7 +25,8 @@ over it. UP.json is a service's configuration (docs/formats.md) in which each fu
   inline         in its place, the code itself, as the module index of "python" or "node"
   aliases        names by which it can be invoked too, such as "live"
   asynchronous   an object: retries, maximumAge, onFailure of its own events
-  memory         what AWS_LAMBDA_FUNCTION_MEMORY_SIZE says (default: 128)
+  memory         what AWS_LAMBDA_FUNCTION_MEMORY_SIZE says, in MB (default: 128)
+  enforceMemory  true: what has used more than that is killed, as on Lambda (default: a warning)
   extensions     an object: the name by which an extension registers, and its command; or null: you start it yourself
   watch          files and folders for --reload (default: its directory)
   url            true: a port that turns HTTP requests into events of a Function URL
@@ -48,6 +49,7 @@ from ..outgoing import tell
 from ..service import Fault
 from ..usage import parser_of
 from .log import Log
+from .patience import times_of
 from .session import Session
 
 USAGE = "[OPTION..] [FILE|FOLDER] [-- COMMAND ..]"
@@ -94,9 +96,11 @@ def parser() -> argparse.ArgumentParser:
     made.add_argument("--only", metavar="F,G", type=names_of, help="leave all other functions out")
     made.add_argument("--ready", metavar="SECONDS", type=seconds_of,
                       help="wait up to SECONDS for all environments (60, or longer if an \"init\" is)")
+    made.add_argument("--patient", metavar="N", type=times_of, default=1,
+                      help="for a slow machine: timeouts, Inits and the waits of up are N times as long (1 to 100)")
     made.add_argument("--allow-unready", action="store_true",
                       help="run the command though functions cannot be started or their Init fails")
-    made.add_argument("--drain", metavar="SECONDS", type=seconds_of, default=5,
+    made.add_argument("--drain", metavar="SECONDS", type=seconds_of,
                       help="at the end wait up to SECONDS for asynchronous invocations (5)")
     made.add_argument("--salt", metavar="N", type=salt_of,
                       help="the salt of all identifiers (that of UP.json, else the time)")

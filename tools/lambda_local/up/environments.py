@@ -5,6 +5,7 @@ generation, and can report the end of a process."""
 import contextlib
 import http.client
 import json
+import math
 import select
 import threading
 import time
@@ -15,6 +16,7 @@ from ..reports import kind_in
 from ..service import EXTENSION, RUNTIME, Service, ask
 from ..telemetry.beside import Beside
 from .invocation_lines import Printed
+from .invocation_log import MB
 from .log import Log
 from .members import NAME, Function
 from .pause import Pause
@@ -26,6 +28,7 @@ from .watch import Watch
 FAULT = "Extension.Fault"  # how a fault of this tool itself is reported
 SHUTDOWN_SECONDS = 2.0  # an environment's, for its extensions
 SPARE = 0.1  # of them, for lambda_local up itself
+MEMORY_SECONDS = 0.05  # between two looks at the memory of a function that may have no more than is said
 SOON = 1.0  # a runtime that ends within this many seconds of its start, without an invocation, ended early
 
 
@@ -181,7 +184,8 @@ class Environment(threading.Thread):
         while not self.stopping.is_set():
             if self.watch.environment(self.number).generation.poll is not None:
                 return True
-            if runtime.ended(0.1):
+            self.enforce_memory(runtime)
+            if runtime.ended(MEMORY_SECONDS if self.look_ms else 0.1):
                 return self.fail_unseen(reason_of(runtime.status()), "Runtime.ExitError")
             if limit is not None and time.monotonic() - runtime.begun > limit:
                 return self.fail_unseen(f"Init timed out after {limit} s", "Init.Timeout")
@@ -211,7 +215,8 @@ class Environment(threading.Thread):
         for process in processes:
             sources.register(process.handle, select.POLLIN)
         told = waiting.sock.fileno()
-        ready = {source for source, _ in sources.poll()}
+        while not (ready := {source for source, _ in sources.poll(self.look_ms)}):
+            self.enforce_memory(runtime)
         if told not in ready:
             # A runtime that is notified of the end can exit before this tool is notified: a short wait tells.
             for process in processes:
@@ -221,6 +226,19 @@ class Environment(threading.Thread):
             return self.shut_down(waiting)
         gone = next(process for process in processes if process.handle in ready)
         return self.runtime_exited(runtime) if gone is runtime else self.extension_exited(gone, waiting)
+
+    @property
+    def look_ms(self) -> Optional[int]:
+        """How long it attends without a look at the memory; none if it need not look."""
+        return round(1000 * MEMORY_SECONDS) if self.function.enforces_memory else None
+
+    def enforce_memory(self, runtime: Process) -> None:
+        """As Lambda's system does, kills a runtime that has used more memory, with those beside it, than there is."""
+        most = self.function.memory
+        if self.look_ms and not runtime.ended() and self.printed.is_above(most * MB):
+            self.say(f"killed: it has used {math.ceil(self.printed.peak() / MB)} MB of {most} MB (enforceMemory)",
+                     level="error", kind="limit", function=self.function.name, limit="memory")
+            runtime.kill()
 
     def runtime_exited(self, runtime: Process) -> bool:
         self.ended_by(reason_of(runtime.status()), "Runtime.ExitError", str(self.identifier))

@@ -17,7 +17,7 @@ import time
 from collections import deque
 from typing import Callable, Deque, List, NamedTuple, Optional, Protocol, Tuple
 
-from .memory import peak_of
+from .memory import is_above, peak_of
 
 MOST_KEPT = 1 << 20  # characters of lines
 OF_A_LINE = 100  # and so many for each line, so that empty ones count too
@@ -109,6 +109,12 @@ class Printed:
             used = sum(peak_of(process.pid) for process in list(self.processes))
             self.starts[-1].peak = max(self.starts[-1].peak, used)
 
+    def is_above(self, most: int) -> bool:
+        """Whether they have used more than so many bytes since the last runtime was started."""
+        self.measure()
+        return bool(self.starts) and self.starts[-1].peak > most and is_above(
+            [process.pid for process in list(self.processes)], most)
+
     def peak(self) -> int:
         """The most that they have used since the last runtime was started, in bytes; 0 if none is known."""
         self.measure()
@@ -136,6 +142,11 @@ class Printed:
                 self.size -= len(self.lines.popleft().text) + OF_A_LINE
         for follower in self.followers:
             follower(line)
+
+    def since(self, place: int) -> List[Line]:
+        """The lines that were taken after so many, as far as they are kept."""
+        with self.lock:
+            return list(itertools.islice(self.lines, max(0, place - self.count + len(self.lines)), None))
 
     def settle(self, cuts: bool = False) -> Settled:
         """Takes all that the processes have written by now. If it cuts, also what is not whole."""

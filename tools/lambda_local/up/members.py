@@ -1,5 +1,4 @@
 """UP.json: a service's configuration in which each function says how its processes are started."""
-import difflib
 import itertools
 import os
 import shlex
@@ -18,6 +17,8 @@ from ..service import Fault
 from ..variables import OF_FUNCTION as VARIABLES
 from ..variables import text_of
 from . import code, layers, programs, room, sources
+from .only import limited
+from .patience import told, with_patience
 from .processes import program_of
 
 NAME = "lambda_local.up"  # under which lambda_local up registers
@@ -65,6 +66,7 @@ OWN = {
     "directory": Kind(is_text, "a string: a folder, or a .zip file"),
     "inline": Kind(lambda value: isinstance(value, str) and is_unicode(value), "a string: code"),
     "memory": Kind(lambda value: is_whole(value, 1 << 32), "a whole number of MB"),
+    "enforceMemory": Kind(lambda value: isinstance(value, bool), "true or false"),
     "watch": Kind(is_list_of(is_text), "a list of files and folders"),
     "extensions": Kind(is_extensions,
                        "an object: the name by which each registers, and its command, or null if you start it"),
@@ -102,6 +104,7 @@ class Function:
         self.layers = layers.folders_of(member.get("layers", []), base, self.where)
         self.variables = self._variables(member.get("variables", {}))
         self.memory: int = member.get("memory", 128)
+        self.enforces_memory: bool = member.get("enforceMemory", False)
         # (a layer that is a .zip file is unpacked once)
         own = [os.path.join(base, name) for name in member.get("layers", [])]
         self.watch = [*(os.path.join(self.directory, name) for name in member.get("watch", ["."])),
@@ -266,36 +269,19 @@ def mistakes_inside(whole: Members) -> Iterator[str]:
             yield from mistakes_of(member["environments"], OF_ENVIRONMENTS, where)
 
 
-def limited(whole: Members, names: Sequence[str], path: str) -> Members:
-    """UP.json with these functions alone, and with what leads to them."""
-    there = [member["name"] for member in whole["functions"]]
-    for name in names:
-        if name not in there:
-            near = difflib.get_close_matches(name, there, 1, 0.6)
-            raise Fault(2, f"--only {name}: {path} has no such function" + (
-                f", did you mean {near[0]}?" if near else f"; there are {', '.join(there)}"))
-    found: Members = {**whole, "functions": [member for member in whole["functions"] if member["name"] in names]}
-    if "routes" in whole:
-        found["routes"] = {route: of for route, of in whole["routes"].items()
-                           if (of["function"] if isinstance(of, dict) else of) in names}
-    given = whole.get("asynchronous")
-    if isinstance(given, dict) and given.get("onFailure") not in (None, *names):
-        found["asynchronous"] = {name: value for name, value in given.items() if name != "onFailure"}
-    return found
-
-
 def load(path: str, debug: Optional[str] = None, salt: Optional[int] = None, only: Optional[Sequence[str]] = None,
-         may_be_unready: bool = False,
-         whole: Optional[Members] = None) -> Tuple[Members, List[Function], settings.Settings]:
+         may_be_unready: bool = False, whole: Optional[Members] = None,
+         times: float = 1) -> Tuple[Members, List[Function], settings.Settings]:
     """Returns the service's configuration, the functions of UP.json, one of which may be for a debugger, and what is in
-    front of them. `whole` is what it says, if that is known."""
+    front of them. `whole` is what it says, if that is known. Their limits are so many times as long."""
     whole = read(path) if whole is None else whole
     if only is not None:
         whole = limited(whole, only, path)
     placed, notes = room.with_environments(whole["functions"])
     whole = {**whole, "functions": placed}
-    functions = [Function(member, path, member["name"] == debug, may_be_unready) for member in whole["functions"]]
-    functions[0].notes_of_all = notes
+    functions = [Function(with_patience(member, times), path, member["name"] == debug, may_be_unready)
+                 for member in whole["functions"]]
+    functions[0].notes_of_all = [*([told(whole["functions"], times)] if times != 1 else []), *notes]
     if debug and not any(function.debug and function.command for function in functions):
         raise Fault(2, f"--debug {debug}: {path} has no such function with a command")
     own = {name: value for name, value in whole.items() if name in OF_SERVICE}

@@ -1,7 +1,7 @@
 """How much memory this process and its service may have, and how much of it is used."""
 import os
 import resource
-from typing import Iterator, List, NamedTuple, Optional
+from typing import Dict, Iterable, Iterator, List, NamedTuple, Optional
 
 CGROUP = "/sys/fs/cgroup"
 PAGE = os.sysconf("SC_PAGE_SIZE")
@@ -74,16 +74,40 @@ def uses(service: int) -> Iterator[Use]:
         folder = os.path.dirname(folder) if folder != CGROUP else None
 
 
-def peak_of(pid: int) -> int:
-    """The most memory that a process and those below it have used, in bytes: the sum of what each has had resident at
-    most. Nothing of one that has ended."""
+def peaks_of(pid: int) -> Dict[int, int]:
+    """What a process and each of those below it has had resident at most, in bytes. Nothing of one that has ended."""
     try:
         with open(f"/proc/{pid}/status", "rb") as file:
-            peaks = [int(line.split()[1]) << 10 for line in file if line.startswith(b"VmHWM:")]
+            peaks = {pid: int(line.split()[1]) << 10 for line in file if line.startswith(b"VmHWM:")}
         tasks = os.listdir(f"/proc/{pid}/task")
     except OSError:
+        return {}
+    for task in tasks:
+        for child in children_of(pid, task):
+            peaks.update(peaks_of(child))
+    return peaks
+
+
+def peak_of(pid: int) -> int:
+    """The most memory that a process and those below it have used, in bytes: the sum of their peaks."""
+    return sum(peaks_of(pid).values())
+
+
+def share_of(pid: int) -> int:
+    """What a process has resident now, in bytes, where several that share a page have a part of it each."""
+    try:
+        with open(f"/proc/{pid}/smaps_rollup", "rb") as file:
+            return sum(int(line.split()[1]) << 10 for line in file if line.startswith(b"Pss:"))
+    except OSError:
         return 0
-    return sum(peaks) + sum(peak_of(child) for task in tasks for child in children_of(pid, task))
+
+
+def is_above(processes: Iterable[int], most: int) -> bool:
+    """Whether these, with those below them, have used more than so many bytes. What several share counts once."""
+    peaks: Dict[int, int] = {}
+    for pid in processes:
+        peaks.update(peaks_of(pid))
+    return sum(peaks.values()) > most and (len(peaks) == 1 or sum(map(share_of, peaks)) > most)
 
 
 def children_of(pid: int, task: str) -> List[int]:

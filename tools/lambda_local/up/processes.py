@@ -1,4 +1,5 @@
 """Processes of functions and extensions."""
+import contextlib
 import os
 import secrets
 import select
@@ -12,6 +13,7 @@ from ..guard import GUARD
 from .invocation_lines import Printed
 from .output import MarkedSplitter, Reader, Splitter
 
+LONGEST_KILL = 2.0  # seconds until a process that was killed is gone
 MARK = "LAMBDA_LOCAL_MARK"  # what a bundled runtime prints before an invocation, after a NUL
 
 
@@ -78,13 +80,17 @@ class Process:
         """The status of a process that has ended."""
         return self.started.status()
 
+    def kill(self) -> None:
+        """Kills its group at once; its status says so."""
+        with contextlib.suppress(ProcessLookupError, PermissionError):
+            os.killpg(self.started.pid, signal.SIGKILL)
+        self.ended(LONGEST_KILL)
+
     def end(self, seconds: float = 0.0) -> None:
         """Asks it to end if there is time for it; then its whole group is killed, with all below it."""
         if seconds > 0 and not self.ended():
-            try:
+            with contextlib.suppress(ProcessLookupError, PermissionError):
                 os.killpg(self.started.pid, signal.SIGTERM)
-            except (ProcessLookupError, PermissionError):
-                pass
             self.ended(seconds)
         self.printed.measure()
         self.started.kill()
@@ -97,5 +103,10 @@ def reason_of(status: int, who: str = "Runtime") -> str:
     """Returns how Lambda reports to a caller that a process has ended."""
     if status == 0:
         return f"{who} exited without providing a reason"
-    return (f"{who} exited with error: signal {-status}" if status < 0
-            else f"{who} exited with error: exit status {status}")
+    return f"{who} exited with error: {name_of_signal(-status) if status < 0 else f'exit status {status}'}"
+
+
+def name_of_signal(number: int) -> str:
+    """A signal in the words of Lambda, whose own programs are in Go: those of the system in lower case."""
+    name = signal.strsignal(number)
+    return f"signal: {name.lower()}" if name else f"signal {number}"

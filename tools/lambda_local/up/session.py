@@ -15,12 +15,13 @@ from ..reports import Report
 from ..service import Fault, Service
 from ..telemetry.beside import Sidecars
 from ..variables import of_callers
-from . import surroundings
+from . import patience, surroundings
 from .environments import Environment
 from .invocation_lines import Line, Printed
 from .invocation_log import Invocations, Tails
 from .invocation_report import InvocationReport
 from .lines import Lines
+from .limits import Limits
 from .log import OUTPUT, Log
 from .looks import Hook, Looks
 from .members import load
@@ -42,6 +43,7 @@ SAVED = "lambda_local.history.txt"
 NAMED = 8  # environments in one line
 FAILED_STARTS = 3  # of an environment in a row, after which a command is not waited for any more
 READY_SECONDS = 60  # for all environments, if no other time is asked for
+DRAIN_SECONDS = 5  # for events at the end, so
 LAST_SECONDS = 20.0  # for all threads at the end
 
 
@@ -59,14 +61,16 @@ class Session:
         self.project = project_by(options, lambda line: log("up", line, kind="template"))
         options.up = self.project.path
         configuration, self.functions, front = load(options.up, options.debug, salt, options.only,
-                                                    options.allow_unready, self.project.whole)
+                                                    options.allow_unready, self.project.whole, options.patient)
         for note in self.functions[0].notes_of_all:
             self.say(note)
         queues = queues_of(front.functions)
         refuse_aws(options.up, queues, options.keep_credentials)
-        self.patience = options.ready or max([READY_SECONDS, *(function.init + READY_SECONDS // 2 for function
-                                                               in self.functions if function.init)])
-        self.front = Front(front, options.up, options.drain, log)
+        ready = options.patient * READY_SECONDS
+        self.patience = options.ready or max([ready, *(function.init + ready / 2 for function in self.functions
+                                                       if function.init)])
+        drain = options.patient * DRAIN_SECONDS if options.drain is None else options.drain
+        self.front = Front(front, options.up, drain, log)
         streaming = {name for name, address in front.urls.items() if address.streams}
         self.sidecars = Sidecars(self.functions, streaming, options.up, log)
         if salt is None and "salt" not in configuration:
@@ -75,7 +79,7 @@ class Session:
         for number in (signal.SIGTERM, signal.SIGINT, signal.SIGHUP):
             signal.signal(number, self.signalled)
         self.service = Service(configuration, options.program, lambda line: log("service", line, kind="service"),
-                               options.up)
+                               options.up, patience.of_service(options.patient))
         self.is_served = True
         self.watch = Watch(self.service, log)
         self.looks = Looks(self.watch, self.stopping)
@@ -84,10 +88,14 @@ class Session:
         self.watch.followers.append(invocations.take)
         self.report = self.make_report(invocations) if options.report else None
         self.watch.lines = Lines(log, self.functions, self.printed)
+        self.limits = Limits(self.functions, streaming, self.watch, self.printed, log, options.patient)
+        self.watch.followers.append(self.limits.take)
+        self.looks.hooks.append(Hook("look at the limits of functions", self.limits.look))
         if self.report:
             self.watch.lines.log = self.report.tell
         self.front.serve(self.service, Tails(invocations, self.watch),
-                         self.sidecars.serve(self.service.configuration, self.printed), self.sidecars.streams)
+                         self.sidecars.serve(self.service.configuration, self.printed), self.sidecars.streams,
+                         self.limits.answered)
         self.watch.takers.append(self.sidecars.pairing(self.front.call).take)
         self.environments = list(self.make_environments())
         self.looks.hooks.append(Hook("look for extensions under another name", Unnamed(
@@ -312,6 +320,7 @@ class Session:
         saved if that is asked, or the command failed."""
         self.ending.set()
         self.step("waiting for events", lambda: self.front.drain(lambda: self.service.process.poll() is not None))
+        self.step("looking at limits", self.limits.look_at_the_end)
         gone = self.service.process.poll() is not None
         is_saved: Optional[bool] = True
         self.step("reading the history", self.watch.refresh)
