@@ -11,4 +11,4 @@ clock_written now false = search (rules, append_assoc)
 
 pub version_written : compact_text version_data ≡ version_text
 unfolding version_text serde_json_on_literals
-version_written = search (rules, append_assoc)
+version_written = search rules
