@@ -11,6 +11,7 @@ OF_TOOLS = "tools/lambda_local/"
 LIES: Dict[str, Tuple[str, str, str, str]] = {
     "authorizers": ("policies", OF_TOOLS + "front/policies.py", 'statement["Effect"] == "Deny"', "False"),
     "ci_files": ("image", "tools/packages/folder.py", "launched(XDG_CACHE_HOME=folder)", "launched(HOME=folder) + 'x'"),
+    "clock": ("times", OF_TOOLS + "clock/durations.py", "        if UNITS[unit] >= before:\n", "        if False:\n"),
     "compatibility": ("finds", "tests/compatibility/run", 'return "" if old == new else', 'return "" if True else'),
     "conformance": ("a_failure_is_explained", OF_TOOLS + "conformance/report.py",
                     "return 1 if self.counts[FAIL]", "return 0 if self.counts[FAIL]"),

@@ -12,6 +12,7 @@ from .paths import LAUNCHER, LIMITS, PACKAGE, own_program
 # The modules of this package that have the `main` of a tool.
 TOOLS = {
     "check": ".check",
+    "clock": ".clock.command",
     "conformance": ".conformance.command",
     "from_template": ".from_template",
     "invoke": ".invoke",

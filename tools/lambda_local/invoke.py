@@ -17,25 +17,23 @@ import binascii
 import datetime
 import difflib
 import glob
-import http.client
 import json
 import os
 import sys
 from email.message import Message
-from typing import Dict, Optional, Tuple
-from urllib.parse import quote, urlsplit
+from typing import Dict
+from urllib.parse import quote
 
 from . import outgoing
+from .endpoint import Answer, add_option, asked
 from .outgoing import printable_lines
 from .paths import bundled
 from .service import Fault
 from .usage import parser_of
 
 USAGE = "[OPTION..] NAME [PAYLOAD | FILE | - | --sample KIND]"
-NOWHERE = "http://127.0.0.1:9000"
 MOST_BYTES = 6 << 20  # of a payload
 LONGEST_SECONDS = 1000  # of an invocation: 900, and what it waits for
-Answer = Tuple[int, Message, bytes]  # status, headers and body
 
 
 # ---- the payload -----------------------------------------------------------------------------------------------------
@@ -115,20 +113,6 @@ def payload_of(options: argparse.Namespace) -> bytes:
 
 # ---- the request -----------------------------------------------------------------------------------------------------
 
-def address_of(given: Optional[str]) -> Tuple[str, int, str]:
-    """The host, port and path at which the service is."""
-    url = given or os.environ.get("AWS_ENDPOINT_URL_LAMBDA") or NOWHERE
-    where = "--endpoint" if given else "AWS_ENDPOINT_URL_LAMBDA"
-    try:
-        parts = urlsplit(url)
-        host, port = parts.hostname, parts.port
-    except ValueError:
-        host = port = None
-    if host is None or parts.scheme != "http" or parts.query or parts.fragment or parts.username is not None:
-        raise Fault(2, f"{where}={url[:200]}: write it as http://127.0.0.1:PORT")
-    return host, port or 80, parts.path.rstrip("/")
-
-
 def headers_of(options: argparse.Namespace) -> Dict[str, str]:
     headers = {"Content-Type": "application/json"}
     if options.event:
@@ -139,20 +123,8 @@ def headers_of(options: argparse.Namespace) -> Dict[str, str]:
 
 
 def ask(options: argparse.Namespace, payload: bytes) -> Answer:
-    """The answer: status, headers and body."""
-    host, port, path = address_of(options.endpoint)
-    connection = http.client.HTTPConnection(host, port, timeout=LONGEST_SECONDS)
-    target = f"{path}/2015-03-31/functions/{quote(options.name, safe=':$')}/invocations"
-    try:
-        connection.request("POST", target, payload, headers_of(options))
-        answer = connection.getresponse()
-        return answer.status, answer.headers, answer.read()
-    except (OSError, http.client.HTTPException) as fault:
-        reason = getattr(fault, "strerror", None) or str(fault) or type(fault).__name__
-        raise Fault(4, f"http://{host}:{port}: {reason}: start the service, for example by `lambda_local up UP.json`, "
-                    "and name the address that it prints by --endpoint or AWS_ENDPOINT_URL_LAMBDA") from None
-    finally:
-        connection.close()
+    target = f"/2015-03-31/functions/{quote(options.name, safe=':$')}/invocations"
+    return asked(options.endpoint, "POST", target, payload, headers_of(options), LONGEST_SECONDS)
 
 
 # ---- what comes of it ------------------------------------------------------------------------------------------------
@@ -222,8 +194,7 @@ def parser() -> argparse.ArgumentParser:
     made.add_argument("--now", action="store_true", help="the payload is the event of a schedule that is due now")
     made.add_argument("--event", action="store_true", help="invoke asynchronously, and do not wait for the result")
     made.add_argument("--tail", action="store_true", help="print the end of what the invocation printed")
-    made.add_argument("--endpoint", metavar="URL",
-                      help=f"the address of the service (AWS_ENDPOINT_URL_LAMBDA, else {NOWHERE})")
+    add_option(made)
     return made
 
 
