@@ -12,6 +12,7 @@ LIES: Dict[str, Tuple[str, str, str, str]] = {
     "authorizers": ("policies", OF_TOOLS + "front/policies.py", 'statement["Effect"] == "Deny"', "False"),
     "ci_files": ("image", "tools/packages/folder.py", "launched(XDG_CACHE_HOME=folder)", "launched(HOME=folder) + 'x'"),
     "compatibility": ("finds", "tests/compatibility/run", 'return "" if old == new else', 'return "" if True else'),
+    "api_stages": ("mistakes", OF_TOOLS + "front/settings.py", 'given.get("stage") == NO_STAGE', "False"),
     "conformance": ("a_failure_is_explained", OF_TOOLS + "conformance/report.py",
                     "return 1 if self.counts[FAIL]", "return 0 if self.counts[FAIL]"),
     "conformance_parts": ("memory", OF_TOOLS + "conformance/leaks.py",

@@ -93,13 +93,14 @@ class Front(threading.Thread):
         for function, listener in self.urls.items():
             yield function, f"{function}: its URL is {url_of(listener)}/", url_of(listener)
         for name, listener in self.api_listeners.items():
-            yield None, f"routes{' of ' * bool(name)}{name}: {url_of(listener)}", url_of(listener)
-            for key, target in self.settings.apis[name].routes.items():
-                yield target.function, f"  {as_link(key, url_of(listener))} -> {target.function}", url_of(listener)
+            api, url = self.settings.apis[name], url_of(listener)
+            yield None, f"routes{' of ' * bool(name)}{name}: {api.below(url)}", url
+            for key, target in api.routes.items():
+                yield target.function, f"  {as_link(key, url + api.prefix(target))} -> {target.function}", url
 
     def variables(self) -> Dict[str, str]:
         """By which a command and functions find the routes, and the URLs."""
-        found = {variable_of("LAMBDA_LOCAL_ROUTES", name): url_of(listener)
+        found = {variable_of("LAMBDA_LOCAL_ROUTES", name): self.settings.apis[name].below(url_of(listener))
                  for name, listener in self.api_listeners.items()}
         found.update({variable_of("LAMBDA_LOCAL_URL", function): f"{url_of(listener)}/"
                       for function, listener in self.urls.items()})

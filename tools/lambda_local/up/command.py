@@ -108,6 +108,8 @@ def parser() -> argparse.ArgumentParser:
                       help="leave your AWS credentials to the command and the functions")
     made.add_argument("--report", action="store_true",
                       help="print START, END and REPORT for each invocation, as Lambda does")
+    made.add_argument("--stage-in-path", action="store_true",
+                      help="paths of requests to routes begin with the stage, as at an API's own address: /prod/orders")
     made.add_argument("--quiet", action="store_true", help="print only failures and function output")
     made.add_argument("--log", choices=("text", "json"), default="text", help="the form of each line (text)")
     made.add_argument("--program", metavar="P",

@@ -74,4 +74,12 @@ def project_by(options: argparse.Namespace, say: Say) -> Project:
         given = given_of(options) if "parameter" in options else NOTHING
     except TemplateFault as fault:
         raise Fault(2, str(fault)) from None
-    return project_of(options.up, given, getattr(options, "values", None), say)
+    project = project_of(options.up, given, getattr(options, "values", None), say)
+    return project._replace(whole=with_stages(project.whole)) if getattr(options, "stage_in_path", False) else project
+
+
+def with_stages(whole: Members) -> Members:
+    """The same, with the stage in the path of each request to a route."""
+    api = {"api": {**whole.get("api", {}), "stageInPath": True}} if whole.get("routes") else {}
+    apis = {name: {**given, "stageInPath": True} for name, given in whole.get("apis", {}).items()}
+    return {**whole, **api, **({"apis": apis} if apis else {})}
