@@ -27,10 +27,16 @@ def of_environment(service: Service, function: Function, number: int, port: int,
     variables = {
         "TZ": ":UTC", "PYTHONUNBUFFERED": "1", **of_callers(service, keeps_credentials), **addresses,
         **({} if keeps_credentials else {"AWS_SESSION_TOKEN": "local"}),
-        "AWS_LAMBDA_RUNTIME_API": f"127.0.0.1:{port}",
+        **address_of(function, port),
         "_HANDLER": function.handler, "LAMBDA_TASK_ROOT": os.path.realpath(function.directory),
         **of_function(function.name, function.memory, number), **function.variables}
     return {**variables, **past_proxies(variables)}
+
+
+def address_of(function: Function, port: int) -> Dict[str, str]:
+    """The variable by which an environment's processes find its port, or what is before that."""
+    name = "AWS_LAMBDA_RUNTIME_API"
+    return {name: function.variables.get(name, f"127.0.0.1:{port}")}
 
 
 def written(version: Sequence[int]) -> str:
