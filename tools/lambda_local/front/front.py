@@ -11,7 +11,7 @@ from ..outgoing import Log, several
 from ..service import Fault, Service, free_ports
 from ..streaming.streams import Streams
 from .client import Client
-from .gateway import Api, Url
+from .events import Identifiers
 from .invoke import InvokePort
 from .management import Management
 from .places import Places, places_for
@@ -123,6 +123,15 @@ class Front(threading.Thread):
         management = Management(port, self.client, self.settings, configuration, urls, streams)
         self.servers: List[Component] = [Server(self.invoke_listener, management, self.places, self.log)]
         service.endpoint_url = url_of(self.invoke_listener)
+        if self.urls or self.api_listeners:
+            self.serve_gateways(identifiers, streams)
+        self.servers += others
+        self.start()
+
+    def serve_gateways(self, identifiers: Identifiers, streams: Streams) -> None:
+        """Function URLs, and APIs."""
+        from .gateway import Api, Url
+        configuration = self.service.configuration
         for function, listener in self.urls.items():
             url = Url(self.client, self.settings.urls[function], identifiers, self.log, function, configuration,
                       streams)
@@ -131,8 +140,6 @@ class Front(threading.Thread):
             given = self.settings.apis[name]
             api = Api(self.client, given.address, identifiers, self.log, given.routes, configuration)
             self.servers.append(Server(listener, api, self.places, self.log))
-        self.servers += others
-        self.start()
 
     def run(self) -> None:
         asyncio.set_event_loop(self.loop)

@@ -44,7 +44,7 @@ import argparse
 import sys
 from typing import List
 
-from ..from_template.command import add_options
+from ..from_template.options import add_options
 from ..outgoing import tell
 from ..service import Fault
 from ..usage import parser_of

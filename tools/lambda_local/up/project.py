@@ -5,11 +5,10 @@ from typing import Callable, List, NamedTuple, Optional
 
 from ..configuration import Members
 from ..from_template import find, own_values
-from ..from_template.command import given_of
 from ..from_template.given import NOTHING, Given
 from ..from_template.messages import Fault as TemplateFault
 from ..from_template.messages import told_to
-from ..from_template.project import up_of_source
+from ..from_template.options import given_of
 from ..outgoing import several
 from ..service import Fault
 from . import members
@@ -42,6 +41,7 @@ def in_full(whole: Members, folder: str) -> Members:
 
 
 def of_template(source: find.Source, given: Given, values: Optional[str], say: Say) -> Project:
+    from ..from_template.project import up_of_source  # (thirty modules, which an UP.json does not need)
     with told_to(say):
         whole = in_full(up_of_source(source, given, values), source.folder)
     own = values or own_values.path_beside(source.path)
