@@ -1,10 +1,10 @@
 """Which environments of lambda_local up have something beside them. All others have their own ports, at no cost.
 
 A proxy in this process is in front of one whose function's extensions may subscribe to telemetry, or whose responses
-are streamed. The relay is in front of one whose processes do not mark what they print, once that is to be divided: always
-if its function says so (`"logs": "exact"`), with `--report`, and while it is debugged; from its next generation on if a
-caller wants the log of an invocation (`up.closer`), or if a generation ended early, since the relay also tells what the
-service refuses."""
+are streamed. The relay is in front of one whose processes do not mark what they print, once that is to be divided:
+always if its function says so (`"logs": "exact"`), with `--report`, and while it is debugged; from its next generation
+on if a caller wants the log of an invocation (`up.closer`), or if a generation ended early, since the relay also tells
+what the service refuses."""
 import threading
 from concurrent.futures import ThreadPoolExecutor
 from typing import Any, Callable, Container, Dict, Iterable, List, Mapping, NamedTuple, Optional, Set
