@@ -344,6 +344,7 @@ class Session:
         self.step("the end of the front", self.front.end)
         self.join()
         self.step("the end of the relay", self.sidecars.end)
+        self.step("the end of those that were asked for their versions", self.clients.end)
         self.refused.end()
         if self.report:
             self.step("the end of the log", self.report.close)
