@@ -6,7 +6,12 @@ const https = require("node:https");
 const { syncBuiltinESMExports } = require("node:module");
 const net = require("node:net");
 
-const HOSTS = ["amazonaws.com", "amazonaws.com.cn", "amazonaws.eu", "api.aws", "api.amazonwebservices.com.cn"];
+// The hosts of AWS, as tools/lambda_local/aws_hosts.py has them.
+const HOSTS = [
+  "amazonaws.com", "amazonaws.com.cn", "amazonaws.eu", "api.aws", "on.aws", "api.amazonwebservices.com.cn",
+  "api.amazonwebservices.eu", "c2s.ic.gov", "api.aws.ic.gov", "sc2s.sgov.gov", "api.aws.scloud", "cloud.adc-e.uk",
+  "api.cloud-aws.adc-e.uk", "csp.hci.ic.gov", "api.aws.hci.ic.gov",
+];
 
 class ReachesAWS extends Error {
   constructor(host) {
@@ -84,4 +89,4 @@ function close(endpoint) {
   };
 }
 
-module.exports = { ReachesAWS, close, isOfAWS };
+module.exports = { HOSTS, ReachesAWS, close };

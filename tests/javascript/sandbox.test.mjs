@@ -54,6 +54,7 @@ const CALLS = {
   "https by name": () => failed(request({ host: "sqs.eu-west-1.amazonaws.com" }).end()),
   fetch: () => fetch("https://s3.us-east-1.amazonaws.com/key").then(assert.fail, (fault) => fault.cause),
   http2: () => failed(http2.connect("https://bedrock.us-east-1.api.aws")),
+  "a Function URL": () => failed(https.get("https://abc.lambda-url.us-east-1.on.aws/")),
   "a socket": () => failed(net.connect(443, "sts.amazonaws.com.cn")),
 };
 for (const [name, call] of Object.entries(CALLS)) {

@@ -1,5 +1,6 @@
 """Chaos under lambda_local up: events, calls, Function URLs and routes beside one another, while functions and
-extensions are killed at random, the queue fills, and the log is not read for a while. Beside it, further runs of
+extensions are killed at random, the queue fills, the log is not read for a while, and followers of the trace come,
+stall and leave. Beside it, further runs of
 lambda_local up, each with a command, are killed themselves (so is their front, a thread of theirs): nothing of them
 may be left."""
 import collections
@@ -16,6 +17,7 @@ import urllib.parse
 from typing import Dict, List
 
 from tests.library.counted import check
+from tests.library.followers import Follower, come_and_go
 from tests.library.threads import together
 from tests.library.up_kit import ROOT, RUNTIME, Up, children, command_of, lives, until
 
@@ -41,6 +43,7 @@ def run(event): return event
 """
 COMMAND = ["--", "sh", "-c", "setsid sleep 88003 >/dev/null 2>&1 & (setsid sleep 88004 >/dev/null 2>&1 &); "
            "exec sleep 88005"]
+FOLLOWERS = 12
 OVER = re.compile(r"ok after|is refused|it is dropped|its record goes to|is lost by the stop")
 
 
@@ -139,6 +142,20 @@ class Chaos:
             self.note("fronts killed" if gone else "fronts that left something")
             up.end(None)
 
+    def follow(self):
+        port = urllib.parse.urlsplit(self.up.endpoint).port
+        come_and_go(port, random.Random(self.random.random()), self.goes_on, self.note)
+
+    def is_followed(self):
+        """Whether a follower that comes now is given the trace."""
+        try:
+            one = Follower(urllib.parse.urlsplit(self.up.endpoint).port)
+            seen = one.tickets(10)[:3]
+            one.leave()
+        except (OSError, IndexError, ValueError):
+            return False
+        return seen == [0, 1, 2]
+
     def stall(self):
         """The log is not read for some seconds, now and then."""
         while self.goes_on():
@@ -159,10 +176,15 @@ def chaos(seconds, seed=None):
     one = Chaos(seconds, seed)
     pid = one.up.process.pid
     before = state_of(pid)
-    together(one.send_events, one.send_events, one.call, one.call, one.get, one.kill, one.stall, one.kill_fronts)
+    together(one.send_events, one.send_events, one.call, one.call, one.get, one.kill, one.stall, one.kill_fronts,
+             *[one.follow] * FOLLOWERS)
     one.up.reading.set()
     check("what was killed itself left nothing", one.counts["fronts that left something"], 0)
     check("lambda_local up is there after chaos", lives(pid), True)
+    check("followers were given the trace, and without a gap",
+          (one.counts["follower 200"] > 0, one.counts["lines followed"] > 0, one.counts["followers with a gap"]),
+          (True, True, 0))
+    check("one that comes then is, from the first entry on", until(one.is_followed, 60), True)
     ended = lambda: {found[1] for line in list(one.up.lines) if (found := EVENT.search(line)) and OVER.search(found[2])}
     until(lambda: set(one.taken) <= ended() or left_out_of(list(one.up.lines)), 120)
     after = state_of(pid)

@@ -13,6 +13,7 @@ LIES: Dict[str, Tuple[str, str, str, str]] = {
     "ci_files": ("image", "tools/packages/folder.py", "launched(XDG_CACHE_HOME=folder)", "launched(HOME=folder) + 'x'"),
     "clock": ("times", OF_TOOLS + "clock/durations.py", "        if UNITS[unit] >= before:\n", "        if False:\n"),
     "compatibility": ("finds", "tests/compatibility/run", 'return "" if old == new else', 'return "" if True else'),
+    "api_stages": ("mistakes", OF_TOOLS + "front/settings.py", 'given.get("stage") == NO_STAGE', "False"),
     "conformance": ("a_failure_is_explained", OF_TOOLS + "conformance/report.py",
                     "return 1 if self.counts[FAIL]", "return 0 if self.counts[FAIL]"),
     "conformance_parts": ("memory", OF_TOOLS + "conformance/leaks.py",

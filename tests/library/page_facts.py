@@ -17,7 +17,7 @@ NUMBERS = {word: number for number, word in enumerate(
 COMMAND = re.compile(r"(\./lambda_local conformance (?:runtime|extension|service)"
                      r"|\./lambda_local (?:check|from_template|invoke|package|rerun|timeline|up)|tools/\w+"
                      r"|tests/\w+/run|tests/must_fail/gate|tests/\w+|tables/run"
-                     r"|bench/serve/\w+|bench/\w+|\./lambda_local)\b(.*)")
+                     r"|bench/serve/\w+|bench/up/\w+|bench/\w+|\./lambda_local)\b(.*)")
 
 
 def text_of(*parts):
@@ -94,7 +94,7 @@ HELPS = {"docs/up.md": ("./lambda_local up", "./lambda_local invoke"), "docs/rer
          "docs/conformance_service.md": ("./lambda_local conformance service",),
          "docs/checks.md": ("tests/hours", "tests/memory", "tests/newcomer", "tests/pages", "tests/release",
                             "tests/tools/run", "tools/release"),
-         "docs/proof_costs.md": ("tools/proof_costs",), "docs/speed.md": ("bench/serve/run",)}
+         "docs/proof_costs.md": ("tools/proof_costs",), "docs/speed.md": ("bench/serve/run", "bench/up/run")}
 
 
 def help_of(root, command):

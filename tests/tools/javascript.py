@@ -9,6 +9,7 @@ import subprocess
 import unittest
 from typing import Iterator, Optional, Tuple
 
+from lambda_local.aws_hosts import HOSTS
 from tests import ROOT
 from tests.library.cases import Case
 
@@ -73,6 +74,10 @@ class JavaScript(Case):
             self.check("package.json has the version", package["version"], file.read().strip())
         missing = [name for name in package["files"] if not os.path.exists(os.path.join(ROOT, name))]
         self.check("the files of package.json are there", missing, [])
+        network = os.path.join(ROOT, "javascript", "network.js")
+        said = subprocess.run(["node", "-p", f"JSON.stringify(require({json.dumps(network)}).HOSTS)"],
+                              stdout=subprocess.PIPE, text=True).stdout
+        self.check("network.js has the hosts of AWS that the tools have", json.loads(said), list(HOSTS))
         module = os.path.join(ROOT, "javascript", "index.js")
         said = subprocess.run(["node", "-p", f"Object.keys(require({json.dumps(module)})).sort().join()"],
                               stdout=subprocess.PIPE, text=True).stdout.strip()

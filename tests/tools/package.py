@@ -330,6 +330,14 @@ class Package(Case):
             control = run(["dpkg-deb", "-f", self.made.deb, "Version", "Architecture", "Depends"])[1]
             seen = (bool(VERSION.search(control)), "Architecture: amd64" in control, "libc6 (>= 2.34)" in control)
             self.check("its control file", seen, (True, True, True))
+            subprocess.run(["dpkg-deb", "-e", self.made.deb, os.path.join(folder, "DEBIAN")], check=True)
+            write(os.path.join(folder, "stub", "py3compile"), b"#!/bin/sh\necho \"$@\"\n")
+            os.chmod(os.path.join(folder, "stub", "py3compile"), 0o755)
+            seen = [run([os.path.join(folder, "DEBIAN", "postinst"), word],
+                        PATH=f"{os.path.join(folder, 'stub')}:{os.environ['PATH']}")[:2]
+                    for word in ("configure", "abort-upgrade")]
+            self.check("the tools are compiled once, by its installation", seen,
+                       [(0, "-p lambda-local /usr/lib/lambda_local\n"), (0, "")])
         if shutil.which("lintian"):
             said = run(["lintian", "--allow-root", self.made.deb])
             self.check("lintian finds no error", said[0] == 0, shown=said[1])

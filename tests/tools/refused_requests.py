@@ -127,7 +127,8 @@ class RefusedRequests(Case):
         self.check("and to a line", len(long) < 250)
 
     def test_by_up(self):
-        up = Up("--ready", "30", functions=[{"name": "f", "command": ["./asks"], "handler": "app.run"}],
+        asking = {"name": "f", "command": ["./asks"], "handler": "app.run", "logs": "exact"}
+        up = Up("--ready", "30", functions=[asking],
                 files={"asks": ASKS.format(python=sys.executable, runtime=RUNTIME)}, command=("--", "true"))
         self.check("up ends", up.process.wait(60), 0)
         up.reader.join(10)

@@ -105,7 +105,7 @@ class Rerun(Case):
         self.check("those that reached a function", [each.was_served for each in recording.invocations],
                    [True, True, False, False])
         self.check("the others in words", report.left_out(recording.invocations), "1 throttled, 1 without an answer")
-        found = record.find(recording.invocations, "f", REQUEST + "2")
+        found = record.Identified(recording.invocations).find("f", REQUEST + "2")
         self.check("by a request identifier", found and found.ticket, 3)
         for name, text, words in (
             ("another file", "hello\n", "2: h: configuration: NotJson"),

@@ -4,6 +4,7 @@ import json
 import os
 import re
 import subprocess
+import sys
 import tempfile
 
 from lambda_local.rerun.again import matched
@@ -42,8 +43,10 @@ ZEROS = "Root=1-00000000-000000000000000000000000;Sampled=0"
 REQUESTS = [f"01a227f0-4e4d-8000-8001-00000000000{number}" for number in range(1, 6)]
 
 
-def write_up(folder, **variables):
-    functions = [{"name": name, "runtime": "python", "handler": f"app.{name}", "timeout": 20, "variables": variables}
+def write_up(folder, command=(), **variables):
+    """Functions of the bundled runtime, or of these words and a handler."""
+    functions = [{"name": name, "timeout": 20, "variables": variables, **(
+        {"command": [*command, f"app.{name}"]} if command else {"runtime": "python", "handler": f"app.{name}"})}
                  for name in ("orders", "pay", "mail")]
     with open(os.path.join(folder, "up.json"), "w") as file:
         json.dump({"asynchronous": True, "functions": functions}, file)
@@ -78,6 +81,11 @@ class RerunInner(Case):
         roots.end(7)
         self.check("a caller that sends the same trace again", roots.begin(8, None, "Root=1-2-3;Sampled=1"), None)
         roots.end(8)
+        front = "Root=1-6a0b-77;Sampled=0;From=lambda_local"
+        self.check("a caller's whose root the front has made", roots.begin(10, REQUESTS[0], front), None)
+        roots.end(10)
+        self.check("one of that, also later", roots.begin(11, None, "Root=1-6a0b-77;Parent=9"), Made(10))
+        roots.end(11)
         self.check("zeros when nothing is in flight", roots.begin(9, None, ZEROS), None)
 
     def test_matches(self):
@@ -98,6 +106,21 @@ class RerunInner(Case):
         self.check("a failure now", of_made(same, other._replace(kind="timeout", body=None), [])[1:3],
                    ("failed now", ["its event: the whole: 1 -> 2", "timeout"]))
         self.check("a new one", of_new(other)[1:3], ("changed", ["only now: a function makes it, output 1"]))
+
+    def test_of_commands(self):
+        """For runtimes that make no root, the front does."""
+        with tempfile.TemporaryDirectory() as folder:
+            with open(os.path.join(folder, "app.py"), "w") as file:
+                file.write(APP)
+            write_up(folder, [sys.executable, os.path.join(ROOT, "examples", "runtime.py")])
+            status, _, said = run(folder, "up", "--history", "h", "up.json", "--", LAUNCHER, "invoke", "orders",
+                                  '{"n": 1}')
+            with open(os.path.join(folder, "h")) as file:
+                roots = re.findall(r"^\d+ invoke \w+ - =Root=1-([0-9a-f]{8}-[0-9a-f]{24});Sampled=0;From=lambda_local ",
+                                   file.read(), re.M)
+            self.check("its invocations have one root", (status, len(roots), len(set(roots))), (0, 3, 1), shown=said)
+            status, output, said = run(folder, "rerun", "h", "up.json")
+            self.check("unchanged functions are equal", (status, output, said), (0, ["3 invocations: 3 equal"], ""))
 
     def test_calls(self):
         """Three orders that are paid for: once when recorded, once by each rerun, and once in each updated history."""

@@ -14,6 +14,7 @@ import unittest
 from datetime import datetime, timedelta, timezone
 from typing import Tuple
 
+from lambda_local.aws_hosts import is_of_aws
 from lambda_local.configuration import Members
 from lambda_local.up import sources
 from lambda_local.expressions import WrongExpression, cron_of, expression_of, rate_of
@@ -135,6 +136,20 @@ class Sources(Case):
         kinds = sources.OF_FUNCTION["schedule"]
         others: Tuple[object, ...] = ([], 5, None, True, [5], ["rate(1 day)"] * 101)
         self.check("other types", [kinds.accepts(value) for value in others], [False] * 6)
+
+    def test_hosts(self):
+        """Those of AWS, with botocore as the oracle."""
+        others = ("localhost", "aws", "moto.aws", "amazonaws.com.localhost", "notamazonaws.com", "api.aws.example", "")
+        self.check("hosts of others", [host for host in others if is_of_aws(host)], [])
+        try:
+            import botocore
+        except ImportError:
+            print("note botocore is not here")
+            return
+        with open(os.path.join(os.path.dirname(botocore.__file__), "data", "partitions.json"), "rb") as file:
+            partitions = [one["outputs"] for one in json.load(file)["partitions"]]
+        names = {one[suffix] for one in partitions for suffix in ("dnsSuffix", "dualStackDnsSuffix")}
+        self.check("hosts of each partition", sorted(name for name in names if not is_of_aws(f"SQS.x-1.{name}.")), [])
 
     def test_of_aws(self):
         """No queue of AWS is read with a user's own messages in it, unless they say so."""

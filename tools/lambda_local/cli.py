@@ -5,7 +5,8 @@ import shutil
 import sys
 from typing import List, Tuple
 
-from . import explain
+from . import explain, program as found
+from .ending import leave
 from .outgoing import tell
 from .paths import LAUNCHER, LIMITS, PACKAGE, own_program
 
@@ -61,7 +62,19 @@ def show_help() -> None:
 
 
 def main() -> int:
+    """Does what the words of the command line say, and ends this process by their status."""
+    try:
+        status = run()
+    except SystemExit as end:
+        if not isinstance(end.code, int):
+            raise
+        status = end.code
+    return leave(status)
+
+
+def run() -> int:
     """Does what the words of the command line say."""
+    found.take_from_launcher()
     words = SAME.get(" ".join(sys.argv[1:]), sys.argv[1:])
     if not words and os.isatty(0):
         words = ["--help"]

@@ -11,6 +11,8 @@ from typing import Optional
 from .outgoing import tell
 from .paths import LAUNCHER, own_program
 
+FOUND = "LAMBDA_LOCAL_FOUND"  # by which the launcher says which program it has found, to the tool that it becomes alone
+
 
 class Fault(Exception):
     """What ends a tool: a status, and a line that says what to do."""
@@ -40,9 +42,21 @@ def program_path(given: Optional[str] = None) -> str:
     return program
 
 
+class FromLauncher:
+    """What the launcher that became this process has found, if it did."""
+    program: Optional[str] = None
+
+
+def take_from_launcher() -> None:
+    """Once, at the start: what this process starts is not to find it."""
+    FromLauncher.program = os.environ.pop(FOUND, None)
+
+
 @functools.lru_cache(maxsize=None)
 def ask_launcher(launcher: str) -> str:
     """The program that the launcher finds: it is asked once a process. What it says beside that is passed on."""
+    if FromLauncher.program and os.path.isfile(FromLauncher.program):
+        return FromLauncher.program
     variables = {name: value for name, value in os.environ.items() if name != "LAMBDA_LOCAL_PROGRAM"}
     done = subprocess.run([launcher, "path"], stdin=subprocess.DEVNULL, capture_output=True, text=True,
                           errors="replace", env=variables)

@@ -7,12 +7,12 @@ import threading
 from typing import Any, Callable, List, Mapping, Optional, Protocol, Set
 from urllib.parse import urlsplit
 
+from .aws_hosts import is_of_aws
 from .paths import bundled_module
 from .variables import DUMMIES, LEFT_OUT, Serving, leading_to
 
 LONGEST_SECONDS = 1000  # of an invocation
 TRACE = "_X_AMZN_TRACE_ID"
-HOSTS = ("amazonaws.com", "amazonaws.com.cn", "amazonaws.eu", "api.aws", "api.amazonwebservices.com.cn")
 
 
 class ReachesAWS(RuntimeError):
@@ -65,10 +65,6 @@ class Patches:
             self.undoings.pop()()
 
 
-def is_of_aws(host: str) -> bool:
-    return any(host == name or host.endswith("." + name) for name in HOSTS)
-
-
 class Sending:
     """What becomes of a request of botocore: what is for Lambda goes to the service, also from a client that was made
     before it was started, or whose boto3 does not read AWS_ENDPOINT_URL_LAMBDA; other requests to AWS are refused."""
@@ -78,7 +74,7 @@ class Sending:
 
     def __call__(self, endpoint: Any, request: Any) -> object:
         url = urlsplit(request.url)
-        host = (url.hostname or "").rstrip(".").lower()
+        host = url.hostname or ""
         if not is_of_aws(host):
             return self.send(endpoint, request)
         if host.partition(".")[0] in ("lambda", "lambda-fips"):

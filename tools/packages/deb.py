@@ -41,7 +41,14 @@ CHANGELOG = """{name} ({version}) unstable; urgency=low
 
  -- {person}  {date}
 """
-# What Python leaves beside the tools, when root runs them.
+# Nobody but root can write there, so the tools are compiled once: else each start of a user's would.
+POSTINST = """#!/bin/sh
+set -e
+if [ "$1" = configure ] && command -v py3compile >/dev/null; then
+  py3compile -p lambda-local /usr/lib/lambda_local
+fi
+"""
+# What Python leaves beside the tools.
 PRERM = """#!/bin/sh
 set -e
 find /usr/lib/lambda_local -name __pycache__ -prune -exec rm -rf {} +
@@ -100,6 +107,7 @@ def describe(source: Commit, root: str) -> None:
     write(root, f"{DOC}/copyright", COPYRIGHT.format(**said))
     write(root, f"{DOC}/changelog.gz", packed(CHANGELOG.format(**said)))
     write(root, "DEBIAN/control", CONTROL.format(**said))
+    write(root, "DEBIAN/postinst", POSTINST, 0o755)
     write(root, "DEBIAN/prerm", PRERM, 0o755)
 
 

@@ -1,4 +1,6 @@
 """Makes an UP.json of a SAM, CloudFormation, CDK or Serverless template."""
-from .command import main
 
-__all__ = ["main"]
+
+def main() -> int:
+    from .command import main as run  # (lambda_local up, which takes templates too, needs its parts alone)
+    return run()

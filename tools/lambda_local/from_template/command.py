@@ -12,7 +12,6 @@ what from_template wrote there itself is not overwritten without --force. Values
 lambda_local.json beside the template, which is merged over it. YAML needs a reader: pip install pyyaml.
 Exit statuses: 0; 2 for a template that cannot be read, or has no function, and for a file that would be overwritten; 4
 without the reader, or if UP.json cannot be written."""
-import argparse
 import hashlib
 import json
 import os
@@ -24,32 +23,13 @@ from ..configuration import Members
 from ..outgoing import is_written_in_place, written
 from ..usage import parser_of
 from .find import Source, source_of
-from .given import Given, given_by
 from .messages import Fault, tell
+from .options import add_options, given_of
 from .project import up_of, up_of_source
 
-__all__ = ["add_options", "given_of", "main", "place", "up_of"]
+__all__ = ["main", "place", "up_of"]
 
 MARK = "fromTemplate"  # the member with the sum of what from_template wrote
-
-
-def add_options(parser: argparse.ArgumentParser) -> None:
-    """The options by which users give values for a template."""
-    group = parser.add_argument_group("for templates")
-    group.add_argument("--parameter", "--parameter-overrides", metavar="NAME=VALUE", action="append", default=[],
-                       help="a parameter of the template; of a serverless.yml, ${param:NAME} and ${opt:NAME}")
-    group.add_argument("--parameters", metavar="FILE", action="append", default=[],
-                       help="parameters in JSON, or the samconfig.toml of sam deploy")
-    group.add_argument("--stage", metavar="S", help="the stage of a serverless.yml, or of an app of CDK")
-    group.add_argument("--env-file", metavar="FILE", action="append", default=[],
-                       help="lines NAME=VALUE: variables of all functions")
-    group.add_argument("--env-vars", metavar="FILE", help="variables by function, in JSON as sam local has them")
-    group.add_argument("--values", metavar="FILE",
-                       help="members of UP.json that are merged over the template (lambda_local.json beside it)")
-
-
-def given_of(options: argparse.Namespace) -> Given:
-    return given_by(options.parameter, options.parameters, options.stage, options.env_file, options.env_vars)
 
 
 def place(functions: List[Members], source: Source, folder: Optional[str]) -> None:

@@ -4,11 +4,11 @@ from typing import Iterator, List, NamedTuple, Optional
 
 from ..json_reader import NotJson, read_json
 from .messages import Fault
-from .stacks import MANIFEST
 
 UP = "up.json"
 SAM = ("template.yaml", "template.yml", "template.json")
 SERVERLESS = ("serverless.yml", "serverless.yaml", "serverless.json")
+MANIFEST = "manifest.json"  # of a cloud assembly, as CDK writes it
 BUILT, ASSEMBLY = os.path.join(".aws-sam", "build"), "cdk.out"
 LONGEST = 16 << 20
 

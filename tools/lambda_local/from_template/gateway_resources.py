@@ -175,9 +175,14 @@ class HttpApis:
         return text_of(self.apis.get(api or "", {}), "ProtocolType", self.scope) == "WEBSOCKET"
 
     def properties(self) -> Dict[str, Members]:
-        return {self.scope.prefix + key: {"CorsConfiguration": given["CorsConfiguration"]}
-                if "CorsConfiguration" in given else {}
-                for key, given in self.apis.items() if not self.is_web_socket(key)}
+        by_api: Dict[str, Members] = {
+            key: {"CorsConfiguration": given["CorsConfiguration"]} if "CorsConfiguration" in given else {}
+            for key, given in self.apis.items() if not self.is_web_socket(key)}
+        for _, given in resources_of(HTTP + "Stage", self.scope):
+            api = by_api.get(referenced(given.get("ApiId")) or "")
+            if api is not None:
+                api.update({name: given[name] for name in ("StageName", "StageVariables") if name in given})
+        return {self.scope.prefix + key: members for key, members in by_api.items()}
 
 
 def add_routes(functions: List[Members], scope: Scope) -> Dict[str, Members]:

@@ -4,6 +4,7 @@ from typing import Any, Dict, List, NamedTuple, Optional, Sequence, Set, Tuple
 
 from ..configuration import Members
 from ..front import settings
+from ..front.http import NO_STAGE
 from ..front.routes import DEFAULT, Route, WrongRoute
 from .cors import cors_of, rest_cors_of
 from .messages import excerpt, tell
@@ -14,7 +15,8 @@ IMPLICIT, IMPLICIT_REST = "ServerlessHttpApi", "ServerlessRestApi"
 OF_SERVERLESS, REST_OF_SERVERLESS = "provider.httpApi", "provider.apiGateway"
 UNNAMED = {IMPLICIT, IMPLICIT_REST, OF_SERVERLESS, REST_OF_SERVERLESS}
 # What is taken of an API's properties, or has no meaning here
-READ_OF_HTTP = {"CorsConfiguration", "Name", "DefinitionBody", "DefinitionUri", "Description", "Tags"}
+READ_OF_HTTP = {"StageName", "StageVariables", "CorsConfiguration", "Name", "DefinitionBody", "DefinitionUri",
+                "Description", "Tags"}
 READ_OF_REST = {"StageName", "Variables", "BinaryMediaTypes", "Cors", "Name", "DefinitionBody", "DefinitionUri",
                 "Description", "Tags", "EndpointConfiguration", "OpenApiVersion", "AlwaysDeploy", "PropagateTags"}
 
@@ -140,19 +142,28 @@ class Apis:
         read = READ_OF_REST if of.is_rest else READ_OF_HTTP
         if left := sorted(str(name) for name in set(self.properties.get(of.key, {})) - read):
             tell(f"leaves out {', '.join(left)} of {of.name}")
-        if not of.is_rest:
-            return {"payload": "1.0", "type": "HTTP"} if of.payload == "1.0" else {}
-        integration: Members = {"payload": "1.0", "stage": self.value(of, "StageName"),
-                                "stageVariables": self.variables(of), "binaryMediaTypes": self.binary(of)}
-        if integration["stage"] is not None and not settings.OF_INTEGRATION["stage"].accepts(integration["stage"]):
-            tell(f"leaves out StageName of {of.name}: {excerpt(integration['stage'])}")
-            integration["stage"] = None
+        integration: Members = {"stage": self.stage(of), "stageVariables": self.variables(of)}
+        if of.is_rest:
+            integration = {"payload": "1.0", **integration, "binaryMediaTypes": self.binary(of)}
+        elif of.payload == "1.0":
+            integration = {"payload": "1.0", "type": "HTTP", **integration}
         return {name: value for name, value in integration.items() if value}
 
+    def stage(self, of: Of) -> Optional[str]:
+        """The stage; none for that of an HTTP API which is in no path."""
+        given = self.value(of, "StageName")
+        if given is None or not of.is_rest and given == NO_STAGE:
+            return None
+        if given == NO_STAGE or not settings.OF_INTEGRATION["stage"].accepts(given):
+            tell(f"leaves out StageName of {of.name}: {excerpt(given)}")
+            return None
+        return str(given)
+
     def variables(self, of: Of) -> Optional[Dict[str, str]]:
-        given = self.value(of, "Variables") or {}
+        name = "Variables" if of.is_rest else "StageVariables"
+        given = self.value(of, name) or {}
         if not isinstance(given, dict):
-            tell(f"leaves out Variables of {of.name}: they must be an object, not {excerpt(given)}")
+            tell(f"leaves out {name} of {of.name}: they must be an object, not {excerpt(given)}")
             return None
         return {str(name): text_of(value) for name, value in given.items() if is_scalar(value)}
 

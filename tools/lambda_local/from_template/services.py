@@ -5,13 +5,13 @@ import re
 from typing import TYPE_CHECKING, Iterator, NamedTuple, Optional
 from urllib.parse import urlsplit
 
+from ..aws_hosts import is_of_aws
 from ..configuration import Members
 
 if TYPE_CHECKING:
     from .values import Scope
 
 PAGE = "docs/services.md"
-OF_AWS = re.compile(r"(?:.*\.)?(?:amazonaws\.com(?:\.cn)?|aws|amazonaws\.eu)\.?")
 
 
 class Kind(NamedTuple):
@@ -46,7 +46,7 @@ def endpoint_of(service: str) -> Optional[str]:
         host = urlsplit(url).hostname or ""
     except ValueError:
         return None
-    return url.rstrip("/") if host and not OF_AWS.fullmatch(host.lower()) else None
+    return url.rstrip("/") if host and not is_of_aws(host) else None
 
 
 def name_of(key: str, resource: Members, scope: "Scope") -> Optional[str]:

@@ -6,12 +6,12 @@ from typing import Dict, Iterator, List, NamedTuple, Optional, Tuple
 from ..configuration import Members
 from . import cloudformation, serverless
 from .files import Folder
+from .find import MANIFEST
 from .given import Given, check_names
 from .messages import Fault, excerpt, tell
 from .reader import LONGEST, parse, read
 from .values import Scope, Shared, members_of, type_of
 
-MANIFEST = "manifest.json"  # of a cloud assembly, as CDK writes it
 MOST_STACKS, DEEPEST = 200, 10
 NESTED = {"AWS::Serverless::Application": "Location", "AWS::CloudFormation::Stack": "TemplateURL"}
 STACK, ASSEMBLY = "aws:cloudformation:stack", "cdk:cloud-assembly"  # kinds of artifacts

@@ -69,6 +69,11 @@ class OfHttpApi(OfUrl):
         """For a request that no route takes."""
         return message(404, "Not Found")
 
+    @staticmethod
+    def no_stage_reply() -> Reply:
+        """For a request whose path does not begin with a stage."""
+        return message(404, "Not Found")
+
     # ---- an authorizer -----------------------------------------------------------------------------------------------
 
     def authorizer_event(self, request: Request, context: Members, parameters: Optional[Dict[str, str]],
@@ -144,6 +149,10 @@ class OfRestApi(OfHttpApi):
     @staticmethod
     def no_route_reply() -> Reply:
         return message(403, "Missing Authentication Token")
+
+    @staticmethod
+    def no_stage_reply() -> Reply:
+        return message(403, "Forbidden")
 
 
 def format_of(integration: Integration) -> OfHttpApi:

@@ -11,7 +11,7 @@ from ..outgoing import Log, several
 from ..service import Fault, Service, free_ports
 from ..streaming.streams import Streams
 from .client import Client
-from .gateway import Api, Url
+from .events import Identifiers
 from .invoke import InvokePort
 from .management import Management
 from .places import Places, places_for
@@ -93,13 +93,14 @@ class Front(threading.Thread):
         for function, listener in self.urls.items():
             yield function, f"{function}: its URL is {url_of(listener)}/", url_of(listener)
         for name, listener in self.api_listeners.items():
-            yield None, f"routes{' of ' * bool(name)}{name}: {url_of(listener)}", url_of(listener)
-            for key, target in self.settings.apis[name].routes.items():
-                yield target.function, f"  {as_link(key, url_of(listener))} -> {target.function}", url_of(listener)
+            api, url = self.settings.apis[name], url_of(listener)
+            yield None, f"routes{' of ' * bool(name)}{name}: {api.below(url)}", url
+            for key, target in api.routes.items():
+                yield target.function, f"  {as_link(key, url + api.prefix(target))} -> {target.function}", url
 
     def variables(self) -> Dict[str, str]:
         """By which a command and functions find the routes, and the URLs."""
-        found = {variable_of("LAMBDA_LOCAL_ROUTES", name): url_of(listener)
+        found = {variable_of("LAMBDA_LOCAL_ROUTES", name): self.settings.apis[name].below(url_of(listener))
                  for name, listener in self.api_listeners.items()}
         found.update({variable_of("LAMBDA_LOCAL_URL", function): f"{url_of(listener)}/"
                       for function, listener in self.urls.items()})
@@ -122,6 +123,15 @@ class Front(threading.Thread):
         management = Management(port, self.client, self.settings, configuration, urls, streams)
         self.servers: List[Component] = [Server(self.invoke_listener, management, self.places, self.log)]
         service.endpoint_url = url_of(self.invoke_listener)
+        if self.urls or self.api_listeners:
+            self.serve_gateways(identifiers, streams)
+        self.servers += others
+        self.start()
+
+    def serve_gateways(self, identifiers: Identifiers, streams: Streams) -> None:
+        """Function URLs, and APIs."""
+        from .gateway import Api, Url
+        configuration = self.service.configuration
         for function, listener in self.urls.items():
             url = Url(self.client, self.settings.urls[function], identifiers, self.log, function, configuration,
                       streams)
@@ -130,8 +140,6 @@ class Front(threading.Thread):
             given = self.settings.apis[name]
             api = Api(self.client, given.address, identifiers, self.log, given.routes, configuration)
             self.servers.append(Server(listener, api, self.places, self.log))
-        self.servers += others
-        self.start()
 
     def run(self) -> None:
         asyncio.set_event_loop(self.loop)

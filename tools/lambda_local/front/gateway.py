@@ -1,6 +1,6 @@
 """Ports at which HTTP requests invoke functions: a Function URL, and the routes of an HTTP API or a REST API."""
 import json
-from typing import Any, Callable, Dict, Mapping, NamedTuple, Optional
+from typing import Any, Callable, Dict, List, Mapping, NamedTuple, Optional, Tuple
 
 from ..configuration import Members
 from ..outgoing import Log
@@ -11,7 +11,7 @@ from .budget import Budget, Full, Held
 from .client import Client
 from .events import Identifiers, target_of
 from .formats import OfHttpApi, OfUrl, format_of, message
-from .http import PHRASES, Headers, Malformed, Reply, Request, TooLong, first
+from .http import NO_STAGE, PHRASES, Headers, Malformed, Reply, Request, TooLong, first
 from .origins import FOREIGN_CODING, Refusal, further_hosts, refusal_of
 from .payload import Unmappable
 from .rest_payload import Tell
@@ -28,6 +28,7 @@ class Backend(NamedTuple):
     context: Dict[str, Any]  # the members of requestContext that do not depend on the request
     parameters: Optional[Dict[str, str]]
     format: OfUrl
+    below: Optional[str] = None  # the request's path below the stage that it begins with
 
 
 def trace_of(request: Request) -> Headers:
@@ -46,7 +47,7 @@ class Gateway:
     def find(self, request: Request) -> Optional[Backend]:
         raise NotImplementedError
 
-    def no_route_reply(self) -> Reply:
+    def no_route_reply(self, request: Request) -> Reply:
         raise NotImplementedError
 
     async def handle(self, request: Request) -> Reply:
@@ -56,7 +57,7 @@ class Gateway:
         if self.cors and cors.is_preflight(request):
             return cors.preflight(self.cors, request, self.preflight_status)
         backend = self.find(request)
-        reply = self.no_route_reply() if backend is None else await self.invoke(request, backend)
+        reply = self.no_route_reply(request) if backend is None else await self.invoke(request, backend)
         if self.cors and (backend is None or backend.format.replaces_cors):
             return cors.with_cors(self.cors, request, reply)
         return reply
@@ -96,6 +97,7 @@ class Gateway:
             return self.too_large(backend, request, "its body")
         held.is_whole()
         context = {**backend.context, "requestId": self.identifiers.next(backend.function)}
+        request = request._replace(below=backend.below)
         try:
             context.update(await self.authorizer_of(request, backend, context, tell))
         except Refused as fault:
@@ -189,27 +191,37 @@ class Api(Gateway):
     def __init__(self, client: Client, address: Address, identifiers: Identifiers, log: Log,
                  routes: Mapping[str, Target], configuration: Members) -> None:
         super().__init__(client, address, identifiers, log)
-        self.routes, self.context = Routes(routes), {
+        self.context = {
             "accountId": configuration["account"], "apiId": "local",
-            "domainName": f"local.execute-api.{configuration['region']}.amazonaws.com", "domainPrefix": "local",
-            "stage": "$default"}
+            "domainName": f"local.execute-api.{configuration['region']}.amazonaws.com", "domainPrefix": "local"}
+        by_stage: Dict[str, Dict[str, Target]] = {}  # all are of none if paths have no stages
+        for key, target in routes.items():
+            by_stage.setdefault(target.integration.stage if address.stage_in_path else NO_STAGE, {})[key] = target
+        self.routes = {stage: Routes(own) for stage, own in by_stage.items()}
         self.authorizers, self.region = Authorizers(client), str(configuration["region"])
         self.formats = {key: format_of(target.integration) for key, target in routes.items()}
         # (what no route takes is answered as by the kind that all routes have)
         formats = list(self.formats.values())
         self.common = formats[0] if len(set(map(type, formats))) == 1 else OfHttpApi(Integration())
 
-    def no_route_reply(self) -> Reply:
-        return self.common.no_route_reply()
+    def no_route_reply(self, request: Request) -> Reply:
+        return self.common.no_route_reply() if self.stages(request.path) else self.common.no_stage_reply()
+
+    def stages(self, path: str) -> List[Tuple[Routes, Optional[str]]]:
+        """The routes of the stage that a path begins with, and the path below it; then those that are of none."""
+        stage, _, rest = path[1:].partition("/")
+        named = [(self.routes[stage], f"/{rest}")] if stage in self.routes and stage != NO_STAGE else []
+        return [*named, *([(self.routes[NO_STAGE], None)] if NO_STAGE in self.routes else [])]
 
     def find(self, request: Request) -> Optional[Backend]:
-        match = self.routes.find(request.method, request.path)
-        if match is None:
-            return None
-        route, parameters = match
-        assert route.target is not None
-        context = {**self.context, "routeKey": route.key}
-        return Backend(route.target.function, context, parameters, self.formats[route.key])
+        for routes, below in self.stages(request.path):
+            match = routes.find(request.method, request.path if below is None else below)
+            if match is not None:
+                route, parameters = match
+                assert route.target is not None
+                context = {**self.context, "routeKey": route.key, "stage": route.target.integration.stage}
+                return Backend(route.target.function, context, parameters, self.formats[route.key], below)
+        return None
 
     async def authorizer_of(self, request: Request, backend: Backend, context: Members, tell: Tell) -> Members:
         form = self.formats[str(context["routeKey"])]

@@ -68,9 +68,13 @@ class Body:
         return parts[0] if len(parts) == 1 else b"".join(parts)
 
 
+NO_STAGE = "$default"  # the stage of an HTTP API that is in no path
+
+
 class Request(NamedTuple):
     head: Head
     body: Body
+    below: Optional[str] = None  # its path below the stage that it begins with
 
     @property
     def method(self) -> str:
@@ -86,7 +90,13 @@ class Request(NamedTuple):
 
     @property
     def path(self) -> str:
-        return self.head.parts.path
+        return self.head.parts.path if self.below is None else self.below
+
+    def path_with(self, stage: str) -> str:
+        """Its path with the stage, as AWS has it at an API's own address."""
+        if self.below is not None:
+            return self.head.parts.path
+        return self.path if stage == NO_STAGE else f"/{stage}{self.path}"
 
     @property
     def query(self) -> str:

@@ -1,4 +1,5 @@
 """The invoke port: asynchronous invocations are taken here, and the service is asked for all else."""
+import functools
 import json
 from typing import Optional, Set
 
@@ -32,6 +33,8 @@ class InvokePort:
         self.client, self.drain_seconds = client, drain_seconds
         self.identifiers, self.hosts = Identifiers(configuration), further_hosts()
         self.known: Set[str] = set()
+        # A bundled runtime makes a root of the request identifier if there is none, and others do not.
+        self.rootless = {member["name"] for member in settings.functions if "runtime" not in member}
         self.queue = Queue(client, settings.asynchronous, configuration, self.identifiers, log,
                            settings.of_functions) if settings.asynchronous else None
         self.budget = Budget()
@@ -46,10 +49,13 @@ class InvokePort:
         try:
             if (self.queue is None or function is None or request.method != "POST"
                     or kind not in ("Event", "DryRun")):
+                if is_following(request):
+                    return await self.followers.relay(self.client, request, self.budget)
+                has_root = function not in self.rootless or request.method != "POST"
+                ask = functools.partial(relay, self.client, request, self.budget, has_root)
                 if self.tails and function is not None and first(request.headers, LOG_TYPE) == "Tail":
-                    return await with_tail(self.tails, function, lambda: relay(self.client, request, self.budget))
-                how = self.followers.relay if is_following(request) else relay
-                return await how(self.client, request, self.budget)
+                    return await with_tail(self.tails, function, ask)
+                return await ask()
             reply = await self.unknown(request)
             if reply:
                 return reply

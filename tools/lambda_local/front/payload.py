@@ -32,12 +32,13 @@ def members_of(request: Request, context: Members, parameters: Optional[Dict[str
                variables: Optional[Dict[str, str]] = None) -> Dict[str, object]:
     """The members of an event without the body."""
     now, agent = time.time(), first(request.headers, "user-agent")
+    path = request.path_with(context["stage"])
     return {
-        "version": "2.0", "routeKey": context["routeKey"], "rawPath": request.path, "rawQueryString": request.query,
+        "version": "2.0", "routeKey": context["routeKey"], "rawPath": path, "rawQueryString": request.query,
         **cookies_of(request), "headers": headers_of(request), **query_of(request),
         "requestContext": {
             **context,
-            "http": {"method": request.method, "path": request.path, "protocol": request.version, "sourceIp": HERE,
+            "http": {"method": request.method, "path": path, "protocol": request.version, "sourceIp": HERE,
                      "userAgent": agent or ""},
             "time": time.strftime("%d/%b/%Y:%H:%M:%S +0000", time.gmtime(now)), "timeEpoch": int(1000 * now)},
         **({"pathParameters": parameters} if parameters else {}),

@@ -1,5 +1,7 @@
 """Requests that are asked of the service in the front's own words, and its answers as they come."""
 import contextlib
+import secrets
+import time
 from typing import AsyncIterator, Optional, Tuple
 
 from .budget import Budget
@@ -8,6 +10,7 @@ from .http import OF_CONNECTION, Body, Headers, Reply, Request, TooLong, first, 
 
 LONGEST = 6 << 20  # bytes of a body that the service reads; a longer one it refuses by its length alone
 TYPE, TRACE = "X-Amz-Invocation-Type", "X-Amzn-Trace-Id"
+OF_FRONT = "From=lambda_local"  # in a trace that is made here
 OF_REFUSALS = ("content-type", "x-amzn-errortype", "x-amzn-requestid")
 # The service refuses any other type once it knows the function (docs/formats.md): so it is it that judges a name.
 KNOWN = b"Invocation type is not RequestResponse"
@@ -17,6 +20,12 @@ def headers_to_send(headers: Headers) -> Headers:
     """The headers that the service reads at its invoke port, but for those by which a request is refused: of these it
     has been asked already. If one comes twice, the first counts."""
     return [(name, value) for name in (TYPE, TRACE) for value in [first(headers, name.lower())] if value is not None]
+
+
+def own_root() -> str:
+    """The trace of an invocation whose caller gave none. The SDKs of AWS pass it on with what its function invokes, and
+    `rerun` knows those invocations by it."""
+    return f"Root=1-{int(time.time()):08x}-{secrets.token_hex(12)};Sampled=0;{OF_FRONT}"
 
 
 def headers_to_return(headers: Headers) -> Headers:
@@ -38,12 +47,15 @@ async def unknown(client: Client, target: str) -> Optional[Reply]:
     return None if status == 400 and KNOWN in body else refusal_by_service(status, headers, body)
 
 
-async def relay(client: Client, request: Request, budget: Budget) -> Reply:
-    """A Reply whose body is the service's, while it is read. What breaks off there breaks off here."""
+async def relay(client: Client, request: Request, budget: Budget, has_root: bool = True) -> Reply:
+    """A Reply whose body is the service's, while it is read. What breaks off there breaks off here. An invocation that
+    has no root otherwise is given one."""
+    sent = headers_to_send(request.headers)
+    if not has_root and first(request.headers, TRACE.lower()) is None:
+        sent = [*sent, (TRACE, own_root())]
     async with contextlib.AsyncExitStack() as stack:
         length, pieces, body = await body_to_send(request, budget, stack)
-        answer = await stack.enter_async_context(client.exchange(request.method, request.target,
-                                                                 headers_to_send(request.headers), length, pieces,
+        answer = await stack.enter_async_context(client.exchange(request.method, request.target, sent, length, pieces,
                                                                  body))
         headers = headers_to_return(answer.headers)
         if answer.body.is_here:

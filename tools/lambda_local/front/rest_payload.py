@@ -37,7 +37,8 @@ def members_of(request: Request, context: Members, parameters: Optional[Dict[str
     headers, query = headers_of(request, integration.is_rest), parameters_in(request.query)
     return {
         **({} if integration.is_rest else {"version": "1.0"}),
-        "resource": resource, "path": request.path, "httpMethod": request.method,
+        "resource": resource, "httpMethod": request.method,
+        "path": request.path if integration.is_rest else request.path_with(integration.stage),
         "headers": last_of_each(headers), "multiValueHeaders": headers,
         "queryStringParameters": last_of_each(query) or None, "multiValueQueryStringParameters": query or None,
         "pathParameters": parameters or None, "stageVariables": integration.variables or None,
@@ -78,7 +79,7 @@ def context_of(request: Request, context: Members, resource: str, integration: I
     return {
         **({} if is_rest else {"authorizer": {"claims": None, "scopes": None}}), **members,
         "extendedRequestId": context["requestId"], "httpMethod": request.method, "identity": identity,
-        "path": f"/{integration.stage}{request.path}" if is_rest else request.path, "protocol": request.version,
+        "path": request.path_with(integration.stage), "protocol": request.version,
         "requestTime": time.strftime("%d/%b/%Y:%H:%M:%S +0000", time.gmtime(now)), "requestTimeEpoch": int(1000 * now),
         "resourceId": "local" if is_rest else None, "resourcePath": resource, "stage": integration.stage}
 

@@ -6,6 +6,7 @@ from ..configuration import PORT, Kind, Members, is_list_of, is_text, is_whole, 
 from ..http1 import is_token
 from . import authorizers
 from .authorizers import Authorizer, authorizer_of
+from .http import NO_STAGE
 from .routes import Route, WrongRoute
 
 DELAYS = (1.0, 2.0)  # seconds; Lambda's are 60 and 120
@@ -39,18 +40,19 @@ OBJECT = Kind(lambda value: isinstance(value, dict), "an object")
 OF_ADDRESS = {"port": PORT, "cors": OBJECT}
 OF_URL = {**OF_ADDRESS, "invoke": Kind(lambda value: value in ("BUFFERED", "RESPONSE_STREAM"),
                                        '"BUFFERED" or "RESPONSE_STREAM"')}
+STAGE = re.compile(r"[A-Za-z0-9_-]{1,128}|\$default")
 OF_INTEGRATION = {
     "payload": Kind(lambda value: value in ("1.0", "2.0"), '"1.0" or "2.0"'),
     "type": Kind(lambda value: value in ("REST", "HTTP"), '"REST" or "HTTP"'),
-    "stage": Kind(lambda value: isinstance(value, str) and re.fullmatch("[A-Za-z0-9_-]{1,128}", value) is not None,
-                  "a string of 1 to 128 letters, digits, - and _"),
+    "stage": Kind(lambda value: isinstance(value, str) and STAGE.fullmatch(value) is not None,
+                  "a string of 1 to 128 letters, digits, - and _, or $default"),
     "stageVariables": Kind(lambda value: isinstance(value, dict) and all(map(is_text, value.values())),
                            "an object of strings"),
     "binaryMediaTypes": TEXTS,
     "authorizer": Kind(lambda value: value is None or isinstance(value, dict),
                        'an object with "claims", "lambda", "jwt" or "function", or null'),
 }
-OF_API = {**OF_ADDRESS, **OF_INTEGRATION}
+OF_API = {**OF_ADDRESS, **OF_INTEGRATION, "stageInPath": YES}
 OF_ROUTE = {"function": Kind(is_text, "a string: the name of a function"), **OF_INTEGRATION}
 SWITCH = Kind(lambda value: isinstance(value, (bool, dict)), "true, or an object")
 AT_THE_TOP = {
@@ -96,13 +98,14 @@ class Address(NamedTuple):
     port: int = 0
     cors: Optional[Cors] = None
     streams: bool = False  # a function's response is passed on as it comes
+    stage_in_path: bool = False  # a request's path begins with the stage of its route
 
 
 class Integration(NamedTuple):
     """How the requests of a route become events, and results answers."""
     version: str = "2.0"  # of the payload format
     is_rest: bool = False
-    stage: str = "$default"
+    stage: str = NO_STAGE
     variables: Optional[Dict[str, str]] = None
     binary: Tuple[str, ...] = ()  # media types of a REST API, in lower case
     authorizer: Optional[Authorizer] = None
@@ -118,6 +121,16 @@ class RoutedApi(NamedTuple):
     """An API: a port with its routes."""
     address: Address
     routes: Dict[str, Target]
+
+    def prefix(self, target: Target) -> str:
+        """What the path of a request to a target begins with."""
+        has_none = not self.address.stage_in_path or target.integration.stage == NO_STAGE
+        return "" if has_none else f"/{target.integration.stage}"
+
+    def below(self, url: str) -> str:
+        """The address that all routes are below."""
+        prefixes = set(map(self.prefix, self.routes.values()))
+        return url + prefixes.pop() if len(prefixes) == 1 else url
 
 
 class Settings(NamedTuple):
@@ -185,9 +198,10 @@ def mistakes_of_integration(given: Members, whole: Members, where: str) -> Itera
     kind = kind_of(whole)
     if kind == "REST" and whole.get("payload") == "2.0":
         yield f'{where}the events of a REST API have "payload": "1.0": write that, or "type": "HTTP"'
-    for name in ("stage", "binaryMediaTypes"):
-        if kind == "HTTP" and name in given:
-            yield f'{where}{name} is of a REST API: leave it out, or write "type": "REST"'
+    if kind == "REST" and given.get("stage") == NO_STAGE:
+        yield f'{where}the stage {NO_STAGE} is of an HTTP API: write another one, or "type": "HTTP"'
+    if kind == "HTTP" and "binaryMediaTypes" in given:
+        yield f'{where}binaryMediaTypes is of a REST API: leave it out, or write "type": "REST"'
 
 
 def mistakes_of_authorizer(given: Members, whole: Members, names: List[str], where: str) -> Iterator[str]:
@@ -228,7 +242,8 @@ def cors_of(given: Optional[Members]) -> Optional[Cors]:
 
 def address_of(given: object) -> Address:
     given = given if isinstance(given, dict) else {}
-    return Address(given.get("port", 0), cors_of(given.get("cors")), given.get("invoke") == "RESPONSE_STREAM")
+    return Address(given.get("port", 0), cors_of(given.get("cors")), given.get("invoke") == "RESPONSE_STREAM",
+                   given.get("stageInPath", False))
 
 
 def kind_of(given: Members) -> str:
@@ -243,8 +258,8 @@ def target_of(given: object, api: Members) -> Target:
     variables = whole.get("stageVariables") or None
     authorizer = authorizer_of(whole.get("authorizer"), is_rest)
     if not is_rest:
-        return Target(given["function"], Integration(whole.get("payload", "2.0"), variables=variables,
-                                                     authorizer=authorizer))
+        return Target(given["function"], Integration(whole.get("payload", "2.0"), False, whole.get("stage", NO_STAGE),
+                                                     variables, authorizer=authorizer))
     binary = tuple(kind.lower() for kind in whole.get("binaryMediaTypes", ()))
     return Target(given["function"], Integration("1.0", True, whole.get("stage", "local"), variables, binary,
                                                  authorizer))

@@ -6,6 +6,7 @@ from .http import Reply, first
 
 LOG_TYPE, LOG_RESULT = "x-amz-log-type", "X-Amz-Log-Result"
 LONGEST_SECONDS = 5.0  # until it is known
+PREPARE_SECONDS = 15.0  # until what a function prints is divided
 T = TypeVar("T")
 
 
@@ -15,9 +16,17 @@ class Tails(Protocol):
     def result_of(self, function: str, identifier: str) -> Optional[str]:
         """The log result of an invocation that was answered just now; none if nothing is known of it."""
 
+    def is_prepared(self, function: str) -> bool:
+        """Whether what an invocation of it prints will be known. Does not wait."""
+
+    def prepare(self, function: str) -> None:
+        """Sees to that, before it is invoked."""
+
 
 async def with_tail(tails: Tails, function: str, invoke: Callable[[], Awaitable[Reply]]) -> Reply:
     """The answer of `invoke` with the end of the log; without it if that is not known in time."""
+    if not tails.is_prepared(function):
+        await result_in_time(lambda: tails.prepare(function), PREPARE_SECONDS)
     reply = await invoke()
     identifier = first(reply.headers, "x-amzn-requestid")
     if reply.status != 200 or identifier is None:
@@ -27,9 +36,9 @@ async def with_tail(tails: Tails, function: str, invoke: Callable[[], Awaitable[
     return reply if result is None else reply._replace(headers=[*reply.headers, (LOG_RESULT, result)])
 
 
-async def result_in_time(look: Callable[[], T]) -> Optional[T]:
+async def result_in_time(look: Callable[[], T], seconds: float = LONGEST_SECONDS) -> Optional[T]:
     """Returns what a function that may wait gives; none if it takes long."""
     try:
-        return await asyncio.wait_for(asyncio.get_running_loop().run_in_executor(None, look), LONGEST_SECONDS)
+        return await asyncio.wait_for(asyncio.get_running_loop().run_in_executor(None, look), seconds)
     except asyncio.TimeoutError:
         return None

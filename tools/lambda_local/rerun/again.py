@@ -9,7 +9,7 @@ from ..service import Fault, Service
 from .compare import Pointer
 from .inner import Made
 from .play import Sent, play
-from .record import Invocation, Recording, find, parsed
+from .record import Identified, Invocation, Recording, parsed
 from .report import Result, judged, of_made, of_new
 
 SETTLES = 5.0  # seconds for what functions have made and did not wait for
@@ -34,8 +34,8 @@ def rerun(service: Service, recording: Recording, pointers: Sequence[Pointer] = 
     except (OSError, ValueError, http.client.HTTPException) as fault:
         raise Fault(2, f"the service has ended before its history could be read: {fault}") from None
     now = parsed(history, "the new history", service.program).invocations
-    answers = [find(now, then.function, made.identifier) if made.identifier else None
-               for then, made in zip(of_callers, sent)]
+    identified = Identified(now)
+    answers = [identified.find(then.function, made.identifier) for then, made in zip(of_callers, sent)]
     results = [of_caller(then, made, answer, pointers, exact)
                for then, made, answer in zip(of_callers, sent, answers)]
     own = {answer.ticket for answer in answers if answer}

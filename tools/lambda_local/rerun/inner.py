@@ -1,10 +1,11 @@
 """Which invocations of a history were made by functions themselves. The SDKs of AWS send the trace of the invocation in
-which they run with each call; a bundled runtime that is given none makes a root of its own of the request
-identifier."""
+which they run with each call; a bundled runtime that is given none makes a root of its own of the request identifier,
+and for others the front of `lambda_local up` makes one, with a word that says so."""
 import re
 from typing import Dict, List, NamedTuple, Optional
 
 ROOT = re.compile(r"(?:^|;)[ \t]*Root=([^;]*)")
+OF_FRONT = re.compile(r"(?:^|;)From=lambda_local(?:;|$)")
 NO_ROOT = "1-00000000-000000000000000000000000"  # what the service gives a runtime for a caller that gave none
 
 
@@ -28,7 +29,7 @@ class Roots:
     """Follows the Invokes of a history."""
 
     def __init__(self) -> None:
-        self.own: Dict[str, int] = {}  # tickets, by the roots that runtimes make
+        self.own: Dict[str, int] = {}  # tickets, by the roots that runtimes and the front make
         self.given: Dict[str, List[int]] = {}  # those in flight, by the roots that callers gave
         self.open: Dict[int, Optional[str]] = {}  # the roots of all in flight
 
@@ -40,6 +41,8 @@ class Roots:
         self.open[ticket] = root
         if request is not None:
             self.own.setdefault(own_root(request), ticket)
+        if root is not None and made is None and OF_FRONT.search(trace or ""):
+            self.own[root] = ticket
         if root is not None and made is None:
             self.given.setdefault(root, []).append(ticket)
         return made

@@ -1,7 +1,7 @@
 """The invocations of a history, each with its answer."""
 import re
 from collections import Counter
-from typing import Counter as Counts, Dict, Iterable, List, NamedTuple, Optional, Sequence
+from typing import Counter as Counts, Dict, Iterable, List, NamedTuple, Optional
 
 from ..history.comparison import compared
 from ..history.entries import Entry, count_in
@@ -96,7 +96,12 @@ def invocations_of(entries: Iterable[Entry], path: str) -> List[Invocation]:
     return list(found.values())
 
 
-def find(invocations: Sequence[Invocation], function: str, identifier: str) -> Optional[Invocation]:
-    """The invocation that has this request identifier."""
-    place = count_in(identifier)
-    return next((each for each in invocations if each.function == function and each.place == place), None)
+class Identified:
+    """Some invocations by their request identifiers."""
+
+    def __init__(self, invocations: Iterable[Invocation]) -> None:
+        self.all = {(each.function, each.place): each for each in invocations}
+
+    def find(self, function: str, identifier: Optional[str]) -> Optional[Invocation]:
+        """The invocation of the function that has this identifier, if there is one."""
+        return None if identifier is None else self.all.get((function, count_in(identifier)))

@@ -76,6 +76,12 @@ class Own:
 
 class Ears:
     """What a conversation is read for."""
+    is_quick = False  # whether of plain exchanges only the delivery of an invocation is heard
+
+    def given(self, identifier: str) -> Optional[Awaitable[object]]:
+        """An invocation comes to a runtime, of whose exchange nothing else is heard. What is returned is awaited before
+        it goes on."""
+        return None
 
     def exchange(self, head: Request) -> Exchange:
         """A request that passes begins."""
@@ -111,6 +117,12 @@ class Conversation:
         self._current: Union[Exchange, Own, None] = None  # whose request comes
         self._refusal: Optional[Response] = None  # the answer that comes, if it is one
         self._reason = bytearray()
+
+    @property
+    def is_between(self) -> bool:
+        """Whether nothing of a message is here, and no request waits for an answer."""
+        return not (self.open or self.is_blind or self.closes or self._from_client or self._from_service or self._ahead
+                    or self.requests.buffer or self.responses.buffer)
 
     # ---- requests ----------------------------------------------------------------------------------------------------
 

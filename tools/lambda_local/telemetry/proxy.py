@@ -10,6 +10,7 @@ from ..front.newcomers import Newcomers
 from ..front.places import A_PROXY
 from ..front.tasks import begin_task
 from .conversation import Conversation, Ears
+from .quick import Quick
 
 MOST = 64  # connections at once; a runtime and ten extensions have eleven polls
 AT_ONCE = 16  # newcomers that are accepted before others have their turn
@@ -91,6 +92,7 @@ class Pair:
 
     def __init__(self, proxy: "Proxy"):
         self.proxy, self.conversation = proxy, Conversation(proxy.ears)
+        self.quick = Quick(proxy.ears, self.conversation) if proxy.ears.is_quick else None
         self.client, self.service = Side(self, True), Side(self, False)
         self.task: Optional["asyncio.Task[None]"] = None
         self.holding: Optional[asyncio.TimerHandle] = None
@@ -99,7 +101,7 @@ class Pair:
     @property
     def is_idle(self) -> bool:
         """Whether no request of it waits for an answer."""
-        return not self.conversation.open
+        return not self.conversation.open and not (self.quick and self.quick.is_open)
 
     def other(self, side: Side) -> Side:
         return self.service if side.is_client else self.client
@@ -119,7 +121,21 @@ class Pair:
             self.client.close()
 
     def came(self, side: Side, data: bytes) -> None:
+        if self.quick and (self.quick.client_sent if side.is_client else self.quick.service_sent)(data):
+            return self._pass(side, data, self.quick)
         (self.conversation.client_sent if side.is_client else self.conversation.service_sent)(data)
+        self._flush()
+
+    def _pass(self, side: Side, data: bytes, quick: Quick) -> None:
+        other = self.other(side)
+        if side.is_client or not (self.is_waiting or quick.waits):
+            if other.transport and not other.is_lost:
+                other.transport.write(data)
+            return
+        self.conversation.to_client += data
+        if quick.waits:
+            self.conversation.waits.append(quick.waits)
+            quick.waits = None
         self._flush()
 
     def _flush(self) -> None:

@@ -67,11 +67,16 @@ class Refusals:
 
     def refused(self, head: Request, answer: Response, body: bytes) -> None:
         """A request was answered with a status of 400 or more, and this body."""
-        path = IDENTIFIED.sub("ID", head.parts.path)
-        reason = type_of(body)
-        kind = Kind(answer.status, f"{head.method} {shortened(path)}", reason)
-        self._count(kind, f"{head.method} {shortened(head.parts.path)}: {answer.status}, "
-                          f"{sentence(head.method, path, answer, reason)}")
+        self.answered(head.method, head.parts.path, answer.status, type_of(body), first(answer.headers, "allow"),
+                      answer.reason)
+
+    def answered(self, method: str, whole_path: str, status: int, kind: str, allowed: Optional[str] = None,
+                 phrase: str = "") -> None:
+        """The same, by the type in the body, the method that is allowed, and the reason phrase."""
+        path = IDENTIFIED.sub("ID", whole_path)
+        told = sentence(method, path, status, kind, allowed, phrase)
+        self._count(Kind(status, f"{method} {shortened(path)}", kind), f"{method} {shortened(whole_path)}: {status}, "
+                                                                       f"{told}")
 
     def unreadable(self, fault: Malformed, head: Optional[Request], begun: bytes) -> None:
         """What came is no request, or the end of its connection came within one."""
@@ -120,19 +125,19 @@ def type_of(body: bytes) -> str:
     return value if isinstance(value, str) else ""
 
 
-def sentence(method: str, path: str, answer: Response, reason: str) -> str:
+def sentence(method: str, path: str, status: int, reason: str, allowed: Optional[str], phrase: str) -> str:
     """What is wrong with a request that was answered so, and what to do. The path has no identifier."""
-    if answer.status == 404:
+    if status == 404:
         return missing(method, path)
-    if answer.status == 405:
-        return f"this route has the method {first(answer.headers, 'allow') or ROUTES.get(path, 'another')}"
+    if status == 405:
+        return f"this route has the method {allowed or ROUTES.get(path, 'another')}"
     if reason == "MissingHeader":
         return f"it needs the header {HEADERS.get(path, FUNCTION_ERROR)}"
     if reason == "InvalidRequestFormat" and path == EXTENSION + "register":
         return 'its body is to be {"events": [..]}, in JSON'
     if reason == "InvalidStateTransition":
         return LATE.get(f"{method} {path}", "it comes too early or too late")
-    return SENTENCES.get(reason) or f"it is refused ({reason or answer.reason})"
+    return SENTENCES.get(reason) or f"it is refused ({reason or phrase})"
 
 
 def missing(method: str, path: str) -> str:

@@ -44,7 +44,7 @@ import argparse
 import sys
 from typing import List
 
-from ..from_template.command import add_options
+from ..from_template.options import add_options
 from ..outgoing import tell
 from ..service import Fault
 from ..usage import parser_of
@@ -108,6 +108,8 @@ def parser() -> argparse.ArgumentParser:
                       help="leave your AWS credentials to the command and the functions")
     made.add_argument("--report", action="store_true",
                       help="print START, END and REPORT for each invocation, as Lambda does")
+    made.add_argument("--stage-in-path", action="store_true",
+                      help="paths of requests to routes begin with the stage, as at an API's own address: /prod/orders")
     made.add_argument("--quiet", action="store_true", help="print only failures and function output")
     made.add_argument("--log", choices=("text", "json"), default="text", help="the form of each line (text)")
     made.add_argument("--program", metavar="P",

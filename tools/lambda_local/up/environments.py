@@ -13,8 +13,9 @@ from typing import Dict, List, Optional, Tuple
 
 from ..life import Generation
 from ..reports import kind_in
-from ..service import EXTENSION, RUNTIME, Service, ask
-from ..telemetry.beside import Beside
+from ..service import EXTENSION, RUNTIME, Fault, Service, ask
+from ..telemetry.sidecars import Sidecars
+from . import surroundings
 from .invocation_lines import Printed
 from .invocation_log import MB
 from .log import Log
@@ -35,11 +36,12 @@ SOON = 1.0  # a runtime that ends within this many seconds of its start, without
 class Environment(threading.Thread):
     def __init__(self, service: Service, watch: Watch, function: Function, number: int, port: int,
                  variables: Dict[str, str], restarts: Restarts, stopping: threading.Event, log: Log,
-                 printed: Printed, beside: Beside) -> None:
+                 printed: Printed, sidecars: Sidecars) -> None:
         self.number, self.function, self.port, self.variables = number, function, port, variables
         self.service, self.watch, self.stopping, self.log, self.printed = service, watch, stopping, log, printed
         super().__init__(name=watch.environment(number).name, daemon=True)
-        self.beside = beside  # what is between its processes and its port
+        self.sidecars = sidecars
+        self.beside = sidecars.of(number, port)  # what is between the processes of this generation and its port
         self.runtime: Optional[Process] = None
         self.extensions: List[Tuple[str, Process]] = []  # each with the name by which it registers
         self.generation = 0
@@ -86,6 +88,7 @@ class Environment(threading.Thread):
         self.wait_until_wanted()
         self.wait_out_pause()
         self.identifier = None
+        self.look_beside()
         self.printed.divide()
         self.beside.begins()
         if self.stopping.is_set() or self.begins_unseen and not self.begin_unseen():
@@ -106,6 +109,16 @@ class Environment(threading.Thread):
             return self.attend(waiting)
         finally:
             waiting.close()
+
+    def look_beside(self) -> None:
+        """After a generation that ended early, what the service refuses of the next one is told."""
+        if self.restarts.early:
+            try:
+                self.sidecars.divide(self.number)
+            except (OSError, Fault) as fault:
+                self.say(f"what the service refuses of it is not told: {fault}", level="warning")
+        self.beside = self.sidecars.of(self.number, self.port)
+        self.variables.update(surroundings.address_of(self.function, self.beside.port))
 
     @property
     def begins_unseen(self) -> bool:
@@ -159,14 +172,15 @@ class Environment(threading.Thread):
         for name, words in self.function.extensions.items():
             if words:
                 self.extensions.append((name, Process(f"{self.name} {name}", words, self.function.directory,
-                                                      self.variables, self.printed)))
+                                                      self.variables, self.printed, marker=self.beside.marker)))
 
     def start_runtime(self) -> Process:
         assert self.function.command is not None  # (what has none is started by hand)
         self.generation += 1
         self.printed.begins()
         self.runtime = Process(self.name, self.function.command, self.function.directory, self.variables, self.printed,
-                               self.function.forks, self.function.is_bundled and not self.beside.divides)
+                               self.function.forks, self.function.is_bundled and not self.beside.divides,
+                               self.beside.marker)
         return self.runtime
 
     def begin_unseen(self) -> bool:

@@ -2,9 +2,9 @@
 
 An environment handles one invocation at a time: so what its processes print from the delivery of one to that of the
 next, or to the end of the generation, is that invocation's. What they wrote before a delivery is in their pipes by
-then: a division is made there, by the mark that a bundled runtime prints once it has an invocation, or by the
-environment's proxy, which reads the pipes before it passes a delivery on. So it does not matter how late a line is
-read.
+then: a division is made there, by the mark that a bundled runtime prints once it has an invocation, or that the relay
+does before it passes a delivery on (`passing`), or by a proxy, which reads the pipes before. So it does not matter how
+late a line is read.
 
     printed = Printed()                      # of one environment, for all its processes, one generation after the other
     printed.follow(lambda line: ..)          # called for each line as it comes, by the thread that reads it
@@ -18,6 +18,7 @@ from collections import deque
 from typing import Callable, Deque, List, NamedTuple, Optional, Protocol, Tuple
 
 from .memory import is_above, peak_of
+from .passing import Passing
 
 MOST_KEPT = 1 << 20  # characters of lines
 OF_A_LINE = 100  # and so many for each line, so that empty ones count too
@@ -86,6 +87,7 @@ class Printed:
         self.dividers: List[Callable[[str], None]] = []
         self.processes: List[Readable] = []
         self.starts: Deque[Start] = deque(maxlen=MOST_STARTS)
+        self.passing = Passing(self.take, self.divide)
 
     # ---- the processes -----------------------------------------------------------------------------------------------
 

@@ -166,11 +166,22 @@ class Watching(Protocol):
         """Takes what the history has now."""
 
 
+class Dividing(Protocol):
+    """Has what a function's environments print divided."""
+
+    def is_divided(self, function: str) -> bool:
+        """Whether it is. Does not wait."""
+
+    def prepare(self, function: str) -> None:
+        """Waits until it is."""
+
+
 class Tails:
     """What Invoke answers with the log type Tail."""
 
-    def __init__(self, invocations: Invocations, watch: Watching):
+    def __init__(self, invocations: Invocations, watch: Watching, dividing: Dividing):
         self.invocations, self.watch = invocations, watch
+        self.is_prepared, self.prepare = dividing.is_divided, dividing.prepare
 
     def result_of(self, function: str, identifier: str) -> Optional[str]:
         """The log result of an invocation that was answered just now; none if nothing is known of it."""

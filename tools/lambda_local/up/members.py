@@ -71,6 +71,7 @@ OWN = {
     "extensions": Kind(is_extensions,
                        "an object: the name by which each registers, and its command, or null if you start it"),
     "telemetry": Kind(lambda value: isinstance(value, bool), "true or false"),
+    "logs": Kind(lambda value: value == "exact", "\"exact\", or is left out"),
 }
 MEMBERS = {**OF_FUNCTION, **OWN, **settings.OF_FUNCTION, **sources.OF_FUNCTION}
 AT_THE_TOP = {**OF_SERVICE, **settings.AT_THE_TOP, "fromTemplate": TEXT}
@@ -120,7 +121,9 @@ class Function:
         self.command = self._command(member)
         self.extensions = self._extensions(member.get("extensions", {}))
         self.expected = list(self.extensions) + ([NAME] if self.command else [])
-        # Whether what an invocation prints is known by its environment's proxy alone.
+        # Whether what an invocation prints is known only by what stands in front of its environment; and whether it is
+        # to be known from the start.
+        self.has_exact_logs = "logs" in member
         self.is_unmarked = self.command is not None and (not self.is_bundled or any(self.extensions.values()))
         self._look()
         self.has_telemetry = self._telemetry(member)

@@ -6,10 +6,11 @@ import select
 import shutil
 import signal
 import time
-from typing import List, Mapping, Tuple
+from typing import List, Mapping, Optional, Tuple
 
 from ..executables import why_not_found, why_not_started
 from ..guard import GUARD
+from ..telemetry.beside import Marker
 from .invocation_lines import Printed
 from .output import MarkedSplitter, Reader, Splitter
 
@@ -24,16 +25,20 @@ def program_of(word: str, directory: str) -> str:
 
 class Process:
     """A process in a session of its own, whose lines `printed` takes under its name. One that `marks` is a bundled
-    runtime, which prints where the lines of an invocation begin."""
+    runtime, which prints where the lines of an invocation begin; in what any other prints, a `marker` may do that."""
 
     def __init__(self, name: str, words: List[str], directory: str, variables: Mapping[str, str], printed: Printed,
-                 forks: bool = False, marks: bool = False):
+                 forks: bool = False, marks: bool = False, marker: Optional[Marker] = None):
         self.name, self.printed, self.begun = name, printed, time.monotonic()
-        splitter = Splitter(lambda line: printed.take(name, line))
+        self.marker, self.marked = marker, 0
+        splitter, mark = Splitter(lambda line: printed.take(name, line)), secrets.token_hex(16)
         if marks:
-            mark = secrets.token_hex(16)
             variables = {**variables, MARK: mark}
             splitter = MarkedSplitter(splitter.take, printed.divide, b"\0" + mark.encode())
+        elif marker:
+            passing = printed.passing
+            splitter = MarkedSplitter(lambda line: passing.take(name, line),
+                                      lambda identifier: passing.passes(name, identifier), b"\0" + mark.encode())
         program = program_of(words[0], directory)
         if not shutil.which(program):
             raise FileNotFoundError(f"{words[0]} {why_not_found(program) or 'is not a program (any more)'}")
@@ -44,14 +49,25 @@ class Process:
         self.reader.start()
         printed.add(self)
         try:
+            if marker:
+                printed.passing.add(name)
+                self.marked = marker.begins(writing, mark)
             self.started = GUARD.start([program, *words[1:]], directory, variables, writing, forks)
             self.pid = self.started.pid
             self.handle = self._handle()
         except OSError as fault:
-            printed.remove(self)
+            self._leave(0.0)
             raise OSError(f"{words[0]} {why_not_started(shutil.which(program) or program, fault)}") from None
         finally:
             os.close(writing)
+
+    def _leave(self, seconds: float = 1.0) -> None:
+        """It has ended. (The marker, which has its pipe open, is notified first.)"""
+        if self.marker:
+            self.marker.ended(self.marked)
+        self.reader.join(seconds)
+        self.printed.passing.remove(self.name)
+        self.printed.remove(self)
 
     def _handle(self) -> int:
         try:
@@ -95,8 +111,7 @@ class Process:
         self.printed.measure()
         self.started.kill()
         os.close(self.handle)
-        self.reader.join(1)
-        self.printed.remove(self)
+        self._leave()
 
 
 def reason_of(status: int, who: str = "Runtime") -> str:

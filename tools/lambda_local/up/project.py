@@ -5,11 +5,10 @@ from typing import Callable, List, NamedTuple, Optional
 
 from ..configuration import Members
 from ..from_template import find, own_values
-from ..from_template.command import given_of
 from ..from_template.given import NOTHING, Given
 from ..from_template.messages import Fault as TemplateFault
 from ..from_template.messages import told_to
-from ..from_template.project import up_of_source
+from ..from_template.options import given_of
 from ..outgoing import several
 from ..service import Fault
 from . import members
@@ -42,6 +41,7 @@ def in_full(whole: Members, folder: str) -> Members:
 
 
 def of_template(source: find.Source, given: Given, values: Optional[str], say: Say) -> Project:
+    from ..from_template.project import up_of_source  # (thirty modules, which an UP.json does not need)
     with told_to(say):
         whole = in_full(up_of_source(source, given, values), source.folder)
     own = values or own_values.path_beside(source.path)
@@ -74,4 +74,12 @@ def project_by(options: argparse.Namespace, say: Say) -> Project:
         given = given_of(options) if "parameter" in options else NOTHING
     except TemplateFault as fault:
         raise Fault(2, str(fault)) from None
-    return project_of(options.up, given, getattr(options, "values", None), say)
+    project = project_of(options.up, given, getattr(options, "values", None), say)
+    return project._replace(whole=with_stages(project.whole)) if getattr(options, "stage_in_path", False) else project
+
+
+def with_stages(whole: Members) -> Members:
+    """The same, with the stage in the path of each request to a route."""
+    api = {"api": {**whole.get("api", {}), "stageInPath": True}} if whole.get("routes") else {}
+    apis = {name: {**given, "stageInPath": True} for name, given in whole.get("apis", {}).items()}
+    return {**whole, **api, **({"apis": apis} if apis else {})}

@@ -13,9 +13,10 @@ from ..guard_process import end_all_below
 from ..outgoing import written
 from ..reports import Report
 from ..service import Fault, Service
-from ..telemetry.beside import Sidecars
+from ..telemetry.sidecars import Sidecars
 from ..variables import of_callers
 from . import patience, surroundings
+from .closer import Closer
 from .environments import Environment
 from .invocation_lines import Line, Printed
 from .invocation_log import Invocations, Tails
@@ -27,6 +28,7 @@ from .looks import Hook, Looks
 from .members import load
 from .project import project_by
 from .queues import Poller, pollers_of
+from .refused_calls import RefusedCalls
 from .reload import Reload
 from .restarts import Restarts
 from .run import Run
@@ -72,7 +74,7 @@ class Session:
         drain = options.patient * DRAIN_SECONDS if options.drain is None else options.drain
         self.front = Front(front, options.up, drain, log)
         streaming = {name for name, address in front.urls.items() if address.streams}
-        self.sidecars = Sidecars(self.functions, streaming, options.up, log)
+        self.sidecars = Sidecars(self.functions, streaming, options.up, log, options.report, self.relay_lost)
         if salt is None and "salt" not in configuration:
             configuration["salt"] = int(1000 * time.time()) << 16  # so that no two runs have the same identifiers
         # From here on a signal ends it in order; a second one kills.
@@ -93,11 +95,15 @@ class Session:
         self.looks.hooks.append(Hook("look at the limits of functions", self.limits.look))
         if self.report:
             self.watch.lines.log = self.report.tell
-        self.front.serve(self.service, Tails(invocations, self.watch),
+        self.closer = Closer(self.sidecars, self.service, self.watch, log)
+        self.front.serve(self.service, Tails(invocations, self.watch, self.closer),
                          self.sidecars.serve(self.service.configuration, self.printed), self.sidecars.streams,
                          self.limits.answered)
         self.watch.takers.append(self.sidecars.pairing(self.front.call).take)
+        self.refused = RefusedCalls(self.service.configuration, self.sidecars, self.sidecars.tell)
+        self.watch.takers.append(self.refused.take)
         self.environments = list(self.make_environments())
+        self.closer.environments += self.environments
         self.looks.hooks.append(Hook("look for extensions under another name", Unnamed(
             self.watch.life.environments.values(),
             lambda name, line: log(name, f"-- {line}", level="warning", kind="init")).look))
@@ -166,7 +172,7 @@ class Session:
                                                             self.front.variables())
                     restarts = Restarts(self.options.reload)
                     yield Environment(self.service, self.watch, function, number, port, variables, restarts,
-                                      self.stopping, self.log, self.printed[number], beside)
+                                      self.stopping, self.log, self.printed[number], self.sidecars)
 
     def signalled(self, number: int, _frame: object) -> None:
         if not self.is_served:  # it is being built, or does not listen yet: nothing has to end in order
@@ -183,6 +189,10 @@ class Session:
         """The guard has been killed: all that it had started is below this process now, and ends with it."""
         self.has_guard = False
         self.supervisor.broken("its guard process has ended")
+
+    def relay_lost(self) -> None:
+        if not self.stopping.is_set():
+            self.supervisor.broken("its relay has ended")
 
     def note_end(self) -> None:
         self.service.process.wait()
@@ -333,6 +343,9 @@ class Session:
         status, counts = self.step("the stop", self.service.stop) or (4, "")
         self.step("the end of the front", self.front.end)
         self.join()
+        self.step("the end of the relay", self.sidecars.end)
+        self.step("the end of those that were asked for their versions", self.clients.end)
+        self.refused.end()
         if self.report:
             self.step("the end of the log", self.report.close)
         self.step("counting", lambda: self.watch.lines.tell_throttled(at_the_end=True))

@@ -3,14 +3,13 @@ import re
 from typing import Any, Dict, Iterator, List, NamedTuple, Optional
 from urllib.parse import SplitResult, urlsplit
 
+from ..aws_hosts import is_of_aws
 from ..configuration import Kind, is_text, is_whole, mistakes_of, shown
-from ..service import Fault
 from ..expressions import EXAMPLES, Cron, Rate, WrongExpression, expression_of
+from ..service import Fault
 
 MOST_OF_FIFO, MOST_AT_ONCE = 10, 10  # messages: in a batch of a FIFO queue, and in one answer of a queue
 MOST_SCHEDULES = 100  # of a function (the quota of a rule bus is 300 in all)
-OF_AWS = re.compile(r"(?:.*\.)?(?:amazonaws\.com(?:\.cn)?|amazonaws\.eu|api\.aws|on\.aws|amazonaws\.com\.[a-z.]+"
-                    r"|api\.amazonwebservices\.com\.cn|c2s\.ic\.gov|sc2s\.sgov\.gov|csp\.hci\.ic\.gov)\.?")
 OF_QUEUE = {
     "url": Kind(is_text,
                 "a string: the address of an SQS queue, such as \"http://127.0.0.1:9324/000000000000/orders\""),
@@ -134,7 +133,7 @@ def schedules_of(member: Dict[str, Any]) -> List[Schedule]:
 def refuse_aws(path: str, queues: Dict[str, Queue], keeps_credentials: bool) -> None:
     """No queue of AWS itself is read, and so emptied, by mistake."""
     for name, queue in queues.items():
-        host = (urlsplit(queue.url).hostname or "").lower()
-        if not keeps_credentials and OF_AWS.fullmatch(host):
+        host = urlsplit(queue.url).hostname or ""
+        if not keeps_credentials and is_of_aws(host):
             raise Fault(2, f"{path}: function {name}: queue: url: {host} is AWS itself, whose messages would be taken "
                            "and deleted: name a local queue, or start lambda_local up with --keep-credentials")

@@ -1,4 +1,5 @@
 """The environment variables of the command and of functions, and whether the clients on PATH read them."""
+import contextlib
 import os
 import re
 import shutil
@@ -27,10 +28,16 @@ def of_environment(service: Service, function: Function, number: int, port: int,
     variables = {
         "TZ": ":UTC", "PYTHONUNBUFFERED": "1", **of_callers(service, keeps_credentials), **addresses,
         **({} if keeps_credentials else {"AWS_SESSION_TOKEN": "local"}),
-        "AWS_LAMBDA_RUNTIME_API": f"127.0.0.1:{port}",
+        **address_of(function, port),
         "_HANDLER": function.handler, "LAMBDA_TASK_ROOT": os.path.realpath(function.directory),
         **of_function(function.name, function.memory, number), **function.variables}
     return {**variables, **past_proxies(variables)}
+
+
+def address_of(function: Function, port: int) -> Dict[str, str]:
+    """The variable by which an environment's processes find its port, or what is before that."""
+    name = "AWS_LAMBDA_RUNTIME_API"
+    return {name: function.variables.get(name, f"127.0.0.1:{port}")}
 
 
 def written(version: Sequence[int]) -> str:
@@ -82,6 +89,9 @@ class Clients(threading.Thread):
     def __init__(self, log: Log, stopping: threading.Event) -> None:
         super().__init__(name="clients", daemon=True)
         self.log, self.stopping = log, stopping
+        self.lock = threading.Lock()
+        self.child: "Optional[subprocess.Popen[str]]" = None  # that is asked
+        self.is_over = False
 
     def run(self) -> None:
         for sentence in old_clients(self.version_of):
@@ -93,8 +103,12 @@ class Clients(threading.Thread):
             return None
         command, pipe = GUARD.announcing(words)
         try:
-            child = subprocess.Popen(command, stdin=pipe, stdout=subprocess.PIPE, stderr=subprocess.STDOUT, text=True,
-                                     errors="replace", start_new_session=True)
+            with self.lock:
+                if self.is_over:
+                    return None
+                self.child = child = subprocess.Popen(command, stdin=pipe, stdout=subprocess.PIPE,
+                                                      stderr=subprocess.STDOUT, text=True, errors="replace",
+                                                      start_new_session=True)
         except OSError:  # (nothing else needs this: it waits for no descriptor or process)
             return None
         printed, end = None, time.monotonic() + LONGEST_SECONDS
@@ -104,5 +118,16 @@ class Clients(threading.Thread):
             except subprocess.TimeoutExpired:
                 if self.stopping.is_set() or time.monotonic() > end:
                     os.killpg(child.pid, signal.SIGKILL)
-        GUARD.release(child.pid)
+        with self.lock:
+            if not self.is_over:  # (then the guard may be ending)
+                GUARD.release(child.pid)
         return version_in(printed) if child.returncode == 0 else None
+
+    def end(self) -> None:
+        """Ends what is asked at once, and waits for nothing else: the process may end while the thread goes on."""
+        with self.lock:
+            self.is_over = True
+            if self.child is not None and self.child.poll() is None:
+                with contextlib.suppress(ProcessLookupError):
+                    os.killpg(self.child.pid, signal.SIGKILL)
+                self.child.wait()

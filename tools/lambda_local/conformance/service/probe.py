@@ -1,4 +1,4 @@
-"""The function that `lambda_local conformance remote` asks: deploy it as `probe.handler`, and once more as
+"""The function that `lambda_local conformance service --endpoint` asks: deploy it as `probe.handler`, and once more as
 `probe.missing`, whose Init fails. It stores nothing and reaches nothing."""
 import os
 import time

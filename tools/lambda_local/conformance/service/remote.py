@@ -73,14 +73,13 @@ def signed(url: str, headers: Dict[str, str], body: bytes, region: str) -> Dict[
 
 
 def endpoint_of(text: str, region: Optional[str]) -> Endpoint:
-    url = urllib.parse.urlsplit(text)
     try:
-        is_right = url.scheme in ("http", "https") and bool(url.hostname) and url.port != 0 and not url.username
+        url = urllib.parse.urlsplit(text)
+        if url.scheme in ("http", "https") and url.hostname and url.port != 0 and not url.username:
+            return Endpoint(url, region)
     except ValueError:
-        is_right = False
-    if not is_right:
-        raise Fault(2, f"--endpoint {text}: write a URL such as http://127.0.0.1:3001")
-    return Endpoint(url, region)
+        pass
+    raise Fault(2, f"--endpoint {text}: write a URL such as http://127.0.0.1:3001")
 
 
 def agreed(endpoint: Endpoint, function: str, is_allowed: bool, count: int) -> None:

@@ -67,14 +67,14 @@ def address_of(option: str, text: str) -> Tuple[str, int]:
 
 def tested_by(invoke: str, runtime: str, function: str, second: Optional[str] = None) -> Tested:
     """What --invoke, --runtime, --function and --second name."""
-    found = urllib.parse.urlsplit(invoke)
     try:
-        port = found.port or 80
+        found = urllib.parse.urlsplit(invoke)
+        host, port = found.hostname if found.scheme == "http" else None, 80 if found.port is None else found.port
     except ValueError:
-        port = 0
-    if found.scheme != "http" or not found.hostname or not port:
+        host, port = None, 0
+    if not host or not port:
         raise Fault(2, f"--invoke {invoke}: write the URL of the port for callers, for example http://127.0.0.1:8080")
     path = found.path if found.path.endswith("/invocations") else (
         f"{found.path.rstrip('/')}/2015-03-31/functions/{function}/invocations")
-    return Tested((found.hostname, port), path, address_of("--runtime", runtime),
+    return Tested((host, port), path, address_of("--runtime", runtime),
                   address_of("--second", second) if second else None)

@@ -1,0 +1,75 @@
+"""The log of an invocation, asked for by a caller (the log type Tail), of a function whose environments were started
+without the relay: they are started again with it, each as soon as it is idle."""
+import contextlib
+import http.client
+import threading
+import time
+from typing import Iterable, Iterator, List, Set
+
+from ..service import Service, ask
+from ..telemetry.sidecars import Sidecars
+from .environments import Environment
+from .log import Log
+from .watch import Watch
+
+LONGEST_SECONDS = 10.0  # for the first of them
+BETWEEN_LOOKS = 0.02
+
+
+class Closer:
+    """Those of all functions; `environments` are what `up` starts."""
+
+    def __init__(self, sidecars: Sidecars, service: Service, watch: Watch, log: Log):
+        self.sidecars, self.service, self.watch, self.log = sidecars, service, watch, log
+        self.environments: List[Environment] = []
+        self.lock = threading.Lock()
+        self.told: Set[str] = set()  # functions
+
+    def of(self, function: str) -> List[Environment]:
+        """Those that are started."""
+        return [each for each in self.environments if each.function.name == function and each.is_started]
+
+    def is_divided(self, function: str) -> bool:
+        """Whether what each of its environments prints is divided. Does not wait."""
+        return all(map(is_divided, self.of(function)))
+
+    def prepare(self, function: str) -> None:
+        """Waits until what the function's idle environments print is divided. One that is busy, or in its Init, is left
+        for the next caller, unless there is no other."""
+        with self.lock:
+            for environment in self.environments:
+                if environment.function.name == function:
+                    self.sidecars.divide(environment.number)
+            asked: Set[Environment] = set()
+            end = time.monotonic() + LONGEST_SECONDS
+            while time.monotonic() < end:
+                here = self.of(function)
+                due = [each for each in here if not is_divided(each)]
+                if due and function not in self.told:
+                    self.tell(function)
+                asked.update(self.spun_down(each for each in due if each not in asked))
+                if all(map(self.is_ready, asked)) and (asked or len(due) < len(here)):
+                    return
+                time.sleep(BETWEEN_LOOKS)
+
+    def is_ready(self, environment: Environment) -> bool:
+        """Whether one that was spun down has been started again."""
+        return is_divided(environment) and self.watch.environment(environment.number).generation.is_ready
+
+    def tell(self, function: str) -> None:
+        self.told.add(function)
+        self.log("up", f"restarting {function}: a caller wants the log of an invocation (\"logs\": \"exact\" starts "
+                       "it so)")
+
+    def spun_down(self, due: Iterable[Environment]) -> Iterator[Environment]:
+        """Those that are idle, and end now."""
+        with contextlib.suppress(OSError, http.client.HTTPException):  # (the service has ended)
+            for environment in due:
+                path = f"/_local/env/{environment.number}/spindown"
+                if ask(self.service.port, "POST", path)[0] == 202:
+                    yield environment
+
+
+def is_divided(environment: Environment) -> bool:
+    """Whether what its processes print is divided, one way or another."""
+    return environment.beside.divides or not environment.function.is_unmarked
