@@ -1,5 +1,5 @@
 -- What answers a request on a connection of a port answers it at the port.
-use Rattle.std.proofs.Common.{◌≡◌, ◌⊎◌, ℕ, List, [], Option, Some, None, Result, Ok, Err, MatchOption, subst, sym, ap, ◌∙◌, inl, inr}
+use Rattle.std.proofs.Common.{◌≡◌, ◌⊎◌, ◌+◌, ◌<◌, ◌^◌, ℕ, Bool, List, [], Option, Some, None, Result, Ok, Err, MatchOption, subst, sym, ap, ◌∙◌, inl, inr}
 use Rattle.std.specs.Arc.{arc_value}
 use Rattle.account_lock.specs.Shown.{IsTaken}
 use Rattle.account_lock.specs.Submits.{IsTurnedAway}
@@ -33,7 +33,7 @@ use Rattle.long_poll.specs.Lengths.{declares_too_long}
 use Rattle.long_poll.specs.Outcomes.{IsStreamOf}
 use Rattle.long_poll.specs.Reads.{Counts, Lists, Reserves}
 use Rattle.long_poll.specs.Replies.{IsReplyAt, IsRefusalOf}
-use Rattle.long_poll.specs.Views.{stats_reply, environments_reply, reservation_reply}
+use Rattle.long_poll.specs.Views.{clock_reply, stats_reply, environments_reply, reservation_reply}
 use Rattle.long_poll.specs.declared.clock.Clock as Clock
 use Rattle.long_poll.specs.declared.connection.Connection.{Connection}
 use Rattle.long_poll.specs.declared.fault.ExchangeFault.{ExchangeFault}
@@ -61,12 +61,22 @@ of_body has source head held is less weaken (inr x) = inr (x.0, λ body long. we
 module _ (reads : ℕ → Type 0) (ticks less : ℕ → Type 0) (turned fewer : ℕ → Reply → Type 0)
     (ticked : (now : ℕ) → ticks now → less now)
     (away : (now : ℕ) (reply : Reply) → turned now reply → fewer now reply) where
+  abbrev Shows : ℕ → Reply → Type 0
+  Shows now reply = (running : Bool) × (reply ≡ clock_reply now running)
+
+  of_tick : (now : ℕ) (reply : Reply) → (ticks now × Shows now reply) ⊎ turned now reply
+      → (less now × Shows now reply) ⊎ fewer now reply
+  of_tick now reply (inl x) = inl (ticked now x.0, x.1)
+  of_tick now reply (inr x) = inr (away now reply x)
+
+  of_move : (now : ℕ) (reply : Reply) {P : Type 0}
+      → P ⊎ (reads now × (now < 2 ^ 53) × ((ticks now × Shows now reply) ⊎ turned now reply))
+      → P ⊎ (reads now × (now < 2 ^ 53) × ((less now × Shows now reply) ⊎ fewer now reply))
+  of_move now reply (inl past) = inl past
+  of_move now reply (inr x) = inr (x.0, x.1, of_tick now reply x.2)
+
   advance : (by : ℕ) (reply : Reply) → IsAdvance reads ticks turned by reply → IsAdvance reads less fewer by reply
-  advance by reply (from, read, inl past) = (from, read, inl past)
-  advance by reply (from, read, inr (later, few, inl x)) =
-      (from, read, inr (later, few, inl (ticked (from + by) x.0, x.1)))
-  advance by reply (from, read, inr (later, few, inr x)) =
-      (from, read, inr (later, few, inr (away (from + by) reply x)))
+  advance by reply x = (x.0, x.1, of_move (x.0 + by) reply x.2)
 
   of_clock : (request : ClockRequest) (reply : Reply) → IsClockReply reads ticks turned request reply
       → IsClockReply reads less fewer request reply
