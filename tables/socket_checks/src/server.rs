@@ -1,6 +1,6 @@
 //! A service on its own thread.
 
-ghost use Rattle.std.specs.Prelude.{◌≡◌, ◌^◌};
+ghost use Rattle.std.specs.Prelude.{◌≡◌, ◌<◌, ◌^◌};
 ghost use Rattle.std.specs.Arc.{arc_value};
 
 use account_lock::{Account, Identity, SettleFault};
@@ -8,7 +8,7 @@ use call_model::Stats;
 use case_tables::{CaseFault, Part};
 use http_front::{Alarm, Host, HostFault, Hosted, Machine, Plan};
 use lambda_wire::read_config;
-use long_poll::{Clock, OneShotBell};
+use long_poll::{Clock, ClockFace, OneShotBell};
 use request_guard::KnownHosts;
 use socket_peers::{Progress, number};
 use std::alloc::{AllocError, Global};
@@ -23,7 +23,21 @@ use usage_ledger::{Blanks, Keep, KeepAll, Ledgers, Tally};
 /// The most connections that a service has at once, unless a step says otherwise.
 const PLACES: u32 = 64;
 
-/// A clock that a check sets, in milliseconds, and a time of day that it also sets.
+/// The latest moment, in milliseconds.
+const LATEST: u64 = (1 << 53) - 1;
+
+/// Returns what a clock shows that reads this.
+fn shown(reading: u64, is_running: bool) -> ClockFace
+    ensures few { result.now < 2 ^ 53 }
+    ensures running { result.is_running ≡ is_running }
+{
+    ClockFace {
+        now: reading.min(LATEST),
+        is_running,
+    }
+}
+
+/// A clock that a check sets, in milliseconds, and a time of day that it also sets. It runs only so, paused or not.
 #[derive(Drop)]
 struct SetClock {
     board: Arc<Board>,
@@ -40,6 +54,27 @@ impl Clock for SetClock {
 
     fn set_forward(&self, by: u64) {
         self.board.moment.fetch_add(by, SeqCst);
+    }
+
+    fn face(&self) -> ClockFace {
+        shown(self.now(), true)
+    }
+
+    fn pause(&self) -> ClockFace {
+        shown(self.now(), false)
+    }
+
+    fn resume(&self) -> ClockFace {
+        shown(self.now(), true)
+    }
+
+    fn advance(&self, by: u64) -> Option<ClockFace> {
+        let from = shown(self.now(), true).now;
+        if by > LATEST - from {
+            return None;
+        }
+        self.board.moment.fetch_add(by, SeqCst);
+        Some(shown(from + by, true))
     }
 }
 

@@ -5,26 +5,59 @@ ghost use Rattle.call_types.specs.Within.{IsEnv, IsFunction, is_body};
 ghost use Rattle.decisions.specs.Decisions.{IsAllowed};
 
 use account_lock::Identity;
-use arn_ids::LONGEST_BODY;
+use arn_ids::{GREATEST_MOMENT, LONGEST_BODY};
 use bytes::Bytes;
 use call_model::{Call, Ticket};
 use case_tables::{CaseFault, value_of};
 use decisions::{Decide, Decision, Received, Shown};
 use http::request::Parts;
 use lambda_wire::{PayloadScratch, Reply, fault_reply, json_headers};
-use long_poll::{Clock, Heard, OneShotBell, Service};
+use long_poll::{Clock, ClockFace, Heard, OneShotBell, Service};
 use std::alloc::{AllocError, Global};
 use std::marker::PhantomData;
 use std::sync::Wait;
 use usage_ledger::{KeepNone, Tally, Token};
 
-/// A clock that does not advance.
+/// A clock that does not advance by itself, and forgets what it is asked for.
 #[derive(Clone, Copy)]
 pub struct At(pub u64);
+
+impl At {
+    /// Returns what it shows, if it is running or not.
+    fn shown(&self, is_running: bool) -> ClockFace {
+        ClockFace {
+            now: self.0.min(GREATEST_MOMENT),
+            is_running,
+        }
+    }
+}
 
 impl Clock for At {
     fn now(&self) -> u64 {
         self.0
+    }
+
+    fn face(&self) -> ClockFace {
+        self.shown(true)
+    }
+
+    fn pause(&self) -> ClockFace {
+        self.shown(false)
+    }
+
+    fn resume(&self) -> ClockFace {
+        self.shown(true)
+    }
+
+    fn advance(&self, by: u64) -> Option<ClockFace> {
+        let from = self.shown(true).now;
+        if by > GREATEST_MOMENT - from {
+            return None;
+        }
+        Some(ClockFace {
+            now: from + by,
+            is_running: true,
+        })
     }
 }
 
