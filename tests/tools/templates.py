@@ -320,8 +320,8 @@ class Templates(Case):
                        (["live"], ["blue"], {"ALIAS": f"{arn}F:live", "VERSION": f"{arn}F", "OWN": f"{arn}G:blue"}))
             self.check("asynchronous invocations", (made["F"]["asynchronous"], made["G"]["asynchronous"]),
                        ({"retries": 0, "maximumAge": 60, "onFailure": "G"}, {"retries": 1}))
-            wanted = ('G: leaves out DeadLetterQueue, arn:aws:sqs:us-east-1:1:dead, which would get each event that failed: '
-                      'set "asynchronous": {"onFailure": "FUNCTION"} of it in lambda_local.json')
+            wanted = ('G: leaves out DeadLetterQueue, arn:aws:sqs:us-east-1:1:dead, which would get each event that '
+                      'failed: set "asynchronous": {"onFailure": "FUNCTION"} of it in lambda_local.json')
             self.check("a queue for dead letters", wanted in said, shown=said)
             write(folder, {"lambda_local.json": {"functions": {"G": {"asynchronous": {"onFailure": "F"}}}}})
             self.check("what that line says to write", made_by(os.path.join(folder, "template.json"))[0]["G"][
