@@ -7,7 +7,7 @@ on if a caller wants the log of an invocation (`up.closer`), or if a generation 
 what the service refuses."""
 import threading
 from concurrent.futures import ThreadPoolExecutor
-from typing import Any, Callable, Container, Dict, Iterable, List, Mapping, NamedTuple, Optional, Set
+from typing import Any, Callable, Container, Dict, Iterable, List, Mapping, NamedTuple, Set
 
 from ..front.front import Other, listener_at
 from ..streaming.pairing import Pairing
