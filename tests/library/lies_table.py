@@ -102,6 +102,8 @@ LIES: Dict[str, Tuple[str, str, str, str]] = {
                           'return "failure" if status == "error" else status', "return status"),
     "template_values": ("env_files", OF_TOOLS + "from_template/env_file.py", "text[begin + 1:close]",
                         "text[begin:close]"),
+    "template_authorizers": ("sam_rest", OF_TOOLS + "from_template/authorizers.py",
+                             'given.text("FunctionPayloadType") != "REQUEST"', "True"),
     "templates": ("globals", OF_TOOLS + "from_template/cloudformation.py", "return [*shared, *own]", "return [*own]"),
     "template_oracle": ("templates", OF_TOOLS + "from_template/cloudformation.py",
                         "and not is_intrinsic(own):", "and True:"),

@@ -97,6 +97,10 @@ class ServerlessScope(Scope):
                                   if isinstance(resources, dict) else {})
 
     @property
+    def authorizers(self) -> Members:
+        return members_of(members_of(self.provider, "httpApi"), "authorizers")
+
+    @property
     def payload(self) -> str:
         """The format of the events of its HTTP API."""
         return "1.0" if str(members_of(self.provider, "httpApi").get("payload")) == "1.0" else "2.0"
