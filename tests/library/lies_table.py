@@ -80,6 +80,7 @@ LIES: Dict[str, Tuple[str, str, str, str]] = {
     "real_projects": ("sam", OF_TOOLS + "from_template/schedules.py", '("Schedule", "ScheduleV2")', '("ScheduleV2",)'),
     "refused_requests": ("counted", OF_TOOLS + "telemetry/refusals.py",
                          "elif count == 10 * self.told[kind]:", "elif False:"),
+    "relay": ("passing", OF_TOOLS + "up/passing.py", "all(self.held.values())", "any(self.held.values())"),
     "rerun": ("compares", OF_TOOLS + "rerun/compare.py", "return [Difference(\"\", then, now)]", "return []"),
     "rerun_command": ("faults", OF_TOOLS + "rerun/functions.py", "there is no function", "there is a function"),
     "rerun_inner": ("roots", OF_TOOLS + "rerun/inner.py", "if root == NO_ROOT:", "if False:"),
