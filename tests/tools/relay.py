@@ -9,7 +9,9 @@ import signal
 import sys
 import threading
 import time
+from unittest import mock
 
+from lambda_local.telemetry import relay
 from lambda_local.telemetry.conversation import Conversation
 from lambda_local.telemetry.quick import Quick
 from lambda_local.telemetry.refusals import Refusals
@@ -232,6 +234,29 @@ class Relay(Case):
             item = left[name].pop(0)
             passing.passes(name, item[0]) if isinstance(item, tuple) else passing.take(name, item)
         return wrong + ([(now, passing.held)] if now[0] != "5" or any(passing.held.values()) else [])
+
+    def test_one_that_hangs(self):
+        """Whoever has a message for a relay that takes none waits for a while, and no longer."""
+        with mock.patch.object(relay, "SEND_SECONDS", 1):
+            one = relay.Relay(lambda *_: None, lambda: None)
+        os.kill(one.process.pid, signal.SIGSTOP)
+        reading, writing = os.pipe()
+        faults = []
+
+        def send():
+            try:
+                while True:
+                    one.prints(1, writing, "mark")
+            except OSError as fault:
+                faults.append(fault)
+        sender = threading.Thread(target=send, daemon=True)
+        sender.start()
+        sender.join(30)
+        self.check("it ends by a fault", len(faults), 1)
+        one.process.kill()
+        one.end()
+        os.close(reading)
+        os.close(writing)
 
     def test_who_has_one(self):
         """Only what is to be divided, or told, has something before it."""
