@@ -1,7 +1,7 @@
 "use strict";
 // The runtime of one environment, for a handler in this process: it asks for an invocation, calls the handler as
-// Lambda's Node runtime does, and posts what it comes to. (examples/runtime.mjs is that of processes: a handler comes to
-// the same in both.)
+// Lambda's Node runtime does, and posts what it comes to. (examples/runtime.mjs is that of processes: a handler comes
+// to the same in both.)
 const http = require("node:http");
 const util = require("node:util");
 const { setTimeout: sleep } = require("node:timers/promises");

@@ -41,7 +41,8 @@ PARAMETERS = b'{"Parameters": {"A": "x", "B": 2}}\n'
 ENV_VARS = b'{"F": {"B": "json", "N": 5, "X": null}, "Parameters": {"P": true}}\n'
 VALUES = (b'{"api": {"port": 8080}, "functions": [{"name": "F", "variables": {"B": "2"}, "environments": 1, "layers": '
           b'["l"], "queue": {"url": "http://127.0.0.1:9324/0/q"}}]}\n')
-SERVERLESS = (b"service: s\nuseDotenv: true\nprovider: {name: aws, runtime: python3.12, stage: \"${opt:stage, 'dev'}\"}\n"
+SERVERLESS = (b"service: s\nuseDotenv: true\n"
+              b"provider: {name: aws, runtime: python3.12, stage: \"${opt:stage, 'dev'}\"}\n"
               b"custom: {a: \"${file(own.json):text}\", b: {c: \"${self:custom.a}${env:A, 'x'}\"}}\nfunctions:\n  f:\n"
               b"    handler: a.b\n    environment: {A: \"${self:custom.b.c}\", B: \"${param:p, 'q'}\"}\n"
               b"    events: [{httpApi: 'GET /a'}, {schedule: rate(1 hour)}]\nresources:\n  - ${file(more.yml)}\n")

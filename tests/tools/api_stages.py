@@ -1,7 +1,7 @@
-"""Checks stages of APIs: with `stageInPath` of an API, or `--stage-in-path`, the path of a request begins with the stage
-of its route, as at an API's own address, and else it does not; the event is the same. What is expected is what the API
-Gateway Developer Guide has on "Stages", "Set up Lambda proxy integrations" and "Create AWS Lambda proxy integrations
-for HTTP APIs". The program is LAMBDA_LOCAL_PROGRAM, else ./lambda_local."""
+"""Checks stages of APIs: with `stageInPath` of an API, or `--stage-in-path`, the path of a request begins with the
+stage of its route, as at an API's own address, and else it does not; the event is the same. What is expected is what
+the API Gateway Developer Guide has on "Stages", "Set up Lambda proxy integrations" and "Create AWS Lambda proxy
+integrations for HTTP APIs". The program is LAMBDA_LOCAL_PROGRAM, else ./lambda_local."""
 import contextlib
 import json
 import os

@@ -4,6 +4,7 @@ import asyncio
 import errno
 import json
 import os
+import re
 import socket
 import struct
 import time
@@ -73,7 +74,11 @@ class FrontConnections(Case):
                 self.check("it is sent once", service.runs, [(1, deed)])
 
     def test_written_anew(self):
-        """What the service is asked is the front's own: whatever else a head has, it does not come there."""
+        """What the service is asked is the front's own: whatever else a head has, it does not come there. An invocation
+        of a command that has no trace gets one."""
+        def asked():
+            return [re.sub(rb"Root=1-[0-9a-f]{8}-[0-9a-f]{24};Sampled=0;From=lambda_local", b"OWN", head)
+                    for head in service.heads]
         service = Service("ok", "ok", "ok")
         with front_of(service) as (front, caller, _):
             path = invoke_path("f")
@@ -86,15 +91,15 @@ class FrontConnections(Case):
                      f"POST {path}?Qualifier=$LATEST HTTP/1.1\r\n{own}X-Amzn-Trace-Id: Root=1\r\n"
                      "Content-Length: 12\r\n"),
                     ("absolute form", f"POST http://a.localhost{path} HTTP/1.0\r\nContent-Length: 12\r\n\r\n",
-                     f"POST {path} HTTP/1.1\r\n{own}Content-Length: 12\r\n")):
+                     f"POST {path} HTTP/1.1\r\n{own}X-Amzn-Trace-Id: OWN\r\nContent-Length: 12\r\n")):
                 service.heads.clear()
                 status, _ = answer_to(front, data.encode() + b'{"number":1}')
-                self.check(f"what the service is asked: {name}", (status, service.heads), (200, [wanted.encode()]))
+                self.check(f"what the service is asked: {name}", (status, asked()), (200, [wanted.encode()]))
             service.heads.clear()
             chunked = (f"POST {path} HTTP/1.1\r\nHost: a\r\nTransfer-Encoding: chunked\r\n\r\n").encode()
             status, _ = answer_to(front, chunked + b'6;x=y\r\n{"numb\r\n6\r\ner":1}\r\n0\r\nHost: evil\r\n\r\n')
-            self.check("what the service is asked: a body in chunks", (status, service.heads),
-                       (200, [f"POST {path} HTTP/1.1\r\n{own}Content-Length: 12\r\n".encode()]))
+            wanted = f"POST {path} HTTP/1.1\r\n{own}X-Amzn-Trace-Id: OWN\r\nContent-Length: 12\r\n"
+            self.check("what the service is asked: a body in chunks", (status, asked()), (200, [wanted.encode()]))
             absolute = f"POST http://localhost{path} HTTP/1.1\r\nHost: a\r\nX-Amz-Invocation-Type: Event\r\n"
             self.check("an event in absolute form is taken",
                        answer_to(front, absolute.encode() + b'Content-Length: 12\r\n\r\n{"number":2}')[0], 202)
@@ -194,7 +199,7 @@ class FrontConnections(Case):
             front.client.connection = kept
             self.check("nor is there one to the service", (status, json.loads(body)["Message"]),
                        (503, "There are too many connections (ulimit -n)"))
-            self.check("one line says so", sum("there is no descriptor" in line for line in told.lines), 1)
+            self.check("one line says so", sum("no file descriptor is left" in line for line in told.lines), 1)
             self.check("and all goes on", answer_to(front, STATS)[0], 200)
 
     def test_tasks(self):

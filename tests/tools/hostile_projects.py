@@ -182,8 +182,8 @@ class Hostile(Case):
             seen = self.seen(path)
             took = time.process_time() - begun
             more = (resource.getrusage(resource.RUSAGE_SELF).ru_maxrss - before) << 10
-            self.check(f"{name}: it ends ({took:.1f} s, {more >> 20} MiB)", took < LONGEST_SECONDS and more < MOST_MEMORY,
-                       shown=(took, more))
+            self.check(f"{name}: it ends ({took:.1f} s, {more >> 20} MiB)",
+                       took < LONGEST_SECONDS and more < MOST_MEMORY, shown=(took, more))
             said = seen.split("\n", 1)[1]
             self.check(f"{name}: what is said is short", len(said) < 500_000 and max(map(len, said.split("\n"))) < 2100,
                        shown=len(said))
@@ -256,7 +256,8 @@ class Hostile(Case):
         """Files of values whose readers looked at each blank once for each other one."""
         blanks = " " * 500_000
         for name, options, text in (
-                ("blanks in a value", "env_files", f"A=a{blanks}b{blanks}#\n"), ("quotes", "env_files", "A='" * 300_000),
+                ("blanks in a value", "env_files", f"A=a{blanks}b{blanks}#\n"),
+                ("quotes", "env_files", "A='" * 300_000),
                 ("quotes that are escaped", "env_files", 'A="' + '\\"' * 500_000),
                 ("a long name", "env_files", "A" * 1_000_000), ("lines", "env_files", "A=1\n" * 250_000)):
             path = self.write("given.env", text)

@@ -40,10 +40,10 @@ TOLD = (
     (f"POST /2020-01-01/extension/exit/error{HEAD}\r\n", 400, "", '{"errorType":"MissingHeader"}',
      "POST /2020-01-01/extension/exit/error: 400, it needs the header Lambda-Extension-Function-Error-Type"),
     (f"POST /2020-01-01/extension/register{HEAD}\r\n", 400, "", '{"errorType":"InvalidRequestFormat"}',
-     'POST /2020-01-01/extension/register: 400, its body is to be {"events": [..]}, in JSON'),
+     'POST /2020-01-01/extension/register: 400, its body must be {"events": [..]}, in JSON'),
     (f"GET /2020-01-01/extension/event/next{HEAD}\r\n", 403, "", '{"errorType":"Extension.UnknownIdentifier"}',
-     "GET /2020-01-01/extension/event/next: 403, Lambda-Extension-Identifier is to be the one that its registration "
-     "was answered with"),
+     "GET /2020-01-01/extension/event/next: 403, Lambda-Extension-Identifier must be the one that the answer to its "
+     "registration had"),
     (f"GET {API}invocation/next{HEAD}\r\n", 418, "", '{"errorType":"Teapot"}',
      f"GET {API}invocation/next: 418, it is refused (Teapot)"),
 )
@@ -101,7 +101,7 @@ class RefusedRequests(Case):
     def test_what_is_no_request(self):
         half = f"POST {API}init/error{HEAD}Content-Length: 9\r\n\r\nx".encode()
         for name, sent, wanted in (
-                ("other bytes", b"hello\r\n\r\n", "what came is no HTTP/1.1 request: "),
+                ("other bytes", b"hello\r\n\r\n", "what came is not an HTTP/1.1 request: "),
                 ("a body that is cut", half,
                  f"POST {API}init/error: its body is cut short: the connection ended within it"),
                 ("broken chunks", f"POST {API}init/error{HEAD}Transfer-Encoding: chunked\r\n\r\nxyz\r\n".encode(),
@@ -122,7 +122,7 @@ class RefusedRequests(Case):
         others = [f"GET /{'x' * number}{HEAD}\r\n".encode() for number in range(60)]
         lines = told(others, [refused] * 60).lines
         self.check("there is an end to what is told", (len(lines), lines[-1]),
-                   (MOST_KINDS + 1, f"of the requests that are refused, {MOST_KINDS} kinds are told, and no others"))
+                   (MOST_KINDS + 1, f"{MOST_KINDS} kinds of refused requests are reported; further kinds are not"))
         (long,) = told([f"GET /{'x' * 5000}{HEAD}\r\n".encode()], [refused]).lines
         self.check("and to a line", len(long) < 250)
 
@@ -134,7 +134,7 @@ class RefusedRequests(Case):
         up.reader.join(10)
         for line in (f"[f/1] -- GET {API}next: 404, there is no such route: did you mean GET {API}invocation/next?",
                      f"[f/1] -- GET {API}next: 404, 10 times so far", f"[f/1] -- GET {API}next: 404, 12 times so far",
-                     f"[f/1] -- POST {API}invocation/7/response: 4", "[f/1] -- what came is no HTTP/1.1 request: ",
+                     f"[f/1] -- POST {API}invocation/7/response: 4", "[f/1] -- what came is not an HTTP/1.1 request: ",
                      f"[f/1] -- POST {API}init/error: its body is cut short"):
             self.check(f"a line has {line[10:70]} ..", up.count(line.replace("[", r"\[").replace("?", r"\?")), 1)
 
@@ -149,7 +149,7 @@ def elf(machine, loader=b""):
 class Executables(Case):
     def test_why_not(self):
         own = {"x86_64": 62, "aarch64": 183}[os.uname().machine]
-        cases = (("a script without #!", b"echo\n", errno.ENOEXEC, "begins with no #! line"),
+        cases = (("a script without #!", b"echo\n", errno.ENOEXEC, "has no #! line"),
                  ("no interpreter", b"#!/no/such\necho\n", errno.ENOENT, "needs the interpreter /no/such"),
                  ("line ends of Windows", b"#!/bin/sh\r\necho\r\n", errno.ENOENT, "has the line ends of Windows"),
                  ("nothing", b"", errno.ENOEXEC, "is empty"),

@@ -7,22 +7,27 @@ import os
 import random
 import signal
 import sys
+import threading
 import time
+from unittest import mock
 
+from lambda_local.telemetry import relay
 from lambda_local.telemetry.conversation import Conversation
 from lambda_local.telemetry.quick import Quick
 from lambda_local.telemetry.refusals import Refusals
-from lambda_local.telemetry.relay_process import Marking
+from lambda_local.telemetry.relay_process import Marking, Pipe
 from lambda_local.up.passing import MOST_HELD, Passing
 from tests.library import http_mutants
 from tests.library.cases import Case
 from tests.library.up_kit import RUNTIME, Up, children, command_of, lives, until
+from tests.tools.invocation_log import parts, tail_of
 
 SEED, MUTANTS = 20261129, 3000
 IDENTIFIERS = [f"01a228d3-ff4a-8000-8001-{number:012d}" for number in range(1, 10)]
 OK = b'{"status":"OK"}\n'
 LATE = b'{"errorMessage":"Not allowed in the current phase","errorType":"InvalidStateTransition"}'
 ADDRESS = "import os\ndef run(event, context):\n    return os.environ['AWS_LAMBDA_RUNTIME_API']\n"
+SLOW = "import time\n" + ADDRESS.replace("return", "time.sleep(event.get('for', 0)); print('said'); return")
 WRONG_ROUTE = '''#!{python}
 import http.client, os, sys
 api = http.client.HTTPConnection(os.environ["AWS_LAMBDA_RUNTIME_API"])
@@ -146,7 +151,6 @@ class Relay(Case):
         """An invocation goes on once each pipe has its mark, and that has waited for room."""
         async def tried():
             relay, loop = Telling(), asyncio.get_running_loop()
-            from lambda_local.telemetry.relay_process import Pipe
             ears = Marking(relay, Refusals(lambda _: None))
             ends = [os.pipe(), os.pipe()]
             for number, (_, writing) in enumerate(ends):
@@ -231,6 +235,29 @@ class Relay(Case):
             passing.passes(name, item[0]) if isinstance(item, tuple) else passing.take(name, item)
         return wrong + ([(now, passing.held)] if now[0] != "5" or any(passing.held.values()) else [])
 
+    def test_one_that_hangs(self):
+        """Whoever has a message for a relay that takes none waits for a while, and no longer."""
+        with mock.patch.object(relay, "SEND_SECONDS", 1):
+            one = relay.Relay(lambda *_: None, lambda: None)
+        os.kill(one.process.pid, signal.SIGSTOP)
+        reading, writing = os.pipe()
+        faults = []
+
+        def send():
+            try:
+                while True:
+                    one.prints(1, writing, "mark")
+            except OSError as fault:
+                faults.append(fault)
+        sender = threading.Thread(target=send, daemon=True)
+        sender.start()
+        sender.join(30)
+        self.check("it ends by a fault", len(faults), 1)
+        one.process.kill()
+        one.end()
+        os.close(reading)
+        os.close(writing)
+
     def test_who_has_one(self):
         """Only what is to be divided, or told, has something before it."""
         command = {"name": "f", "command": RUNTIME}
@@ -265,24 +292,37 @@ class Relay(Case):
 
     def test_a_first_tail(self):
         """A caller who wants the log has idle environments started again, once; one that is busy is left."""
-        slow = "import time\n" + ADDRESS.replace("return", "time.sleep(event.get('for', 0)); print('said'); return")
-        up = Up(functions=[{"name": "f", "command": RUNTIME, "environments": 2, "timeout": 20}], app=slow)
+        up = Up(functions=[{"name": "f", "command": RUNTIME, "environments": 2, "timeout": 20}], app=SLOW)
         up.until("[up] ready")
         told = "restarting f: a caller wants the log of an invocation"
         self.check("as long as nobody does, nothing is restarted", (up.invoke()[0] != "", up.has(told)), (True, False))
-        import threading
         busy = threading.Thread(target=up.invoke, kwargs={"for": 6})
         busy.start()
         until(lambda: json.loads(up.get("/_local/stats"))["inFlight"] == 1, 5)
         begun = time.monotonic()
         tail = up.get("/2015-03-31/functions/f/invocations", b"{}")
-        from tests.tools.invocation_log import parts, tail_of
         seen = parts(tail_of(up))[0]
         self.check("the log has what was printed", (seen, bool(tail)), (["said"], True))
         self.check("the busy one was not waited for", time.monotonic() - begun < 5.5)
         busy.join()
         self.check("each later one too", [parts(tail_of(up))[0] for _ in range(4)], [["said"]] * 4)
         self.check("it was told once", up.count(told), 1)
+        self.check("nothing is left", up.end(), (0, []))
+
+    def test_further_environments(self):
+        """One that was started for parallel callers ends for a log, and nobody waits until it is wanted again."""
+        up = Up(functions=[{"name": "f", "command": RUNTIME, "environments": {"min": 1, "max": 3}, "timeout": 20}],
+                app=SLOW)
+        up.until("[up] ready")
+        together = [threading.Thread(target=up.invoke, kwargs={"for": 1}) for _ in range(2)]
+        for each in together:
+            each.start()
+        for each in together:
+            each.join()
+        self.check("two are started", up.count("starting: all other environments are busy"), 1)
+        begun = time.monotonic()
+        self.check("the log has what was printed", parts(tail_of(up))[0], ["said"])
+        self.check("the other one was not waited for", time.monotonic() - begun < 9)
         self.check("nothing is left", up.end(), (0, []))
 
     def test_its_end(self):

@@ -94,7 +94,8 @@ class TemplateValues(Case):
         for name, text, wanted in (
                 ("escapes", '[default.deploy.parameters]\nparameter_overrides = "A=\\"a\\tb\\" B=\\u00e9"\n',
                  {"A": "a\tb", "B": "é"}),
-                ("dotted keys", "default.deploy.parameters.parameter_overrides = ['A=1', 'B=2']\n", {"A": "1", "B": "2"}),
+                ("dotted keys", "default.deploy.parameters.parameter_overrides = ['A=1', 'B=2']\n",
+                 {"A": "1", "B": "2"}),
                 ("inline tables", "[default]\ndeploy = {parameters = {parameter_overrides = 'A=1'}}\n", {"A": "1"}),
                 ("several lines", '[default.deploy.parameters]\nparameter_overrides = """\nA=1 \\\n   B=2"""\n',
                  {"A": "1", "B": "2"}),
@@ -104,7 +105,8 @@ class TemplateValues(Case):
         for text, wanted in (
                 ("[default\n", "--parameters it: this is not TOML: line 1: the name of a table must end with ]"),
                 ("a = 1\na = 2\n", "line 2: 'a' is there twice"),
-                ("default.deploy.parameters.parameter_overrides = 5\n", "parameter_overrides of deploy must be a string, or a list of strings, not 5"),
+                ("default.deploy.parameters.parameter_overrides = 5\n",
+                 "parameter_overrides of deploy must be a string, or a list of strings, not 5"),
                 ("a = {b = [1, {c = \"x\n", "line 1: a string has no end")):
             with self.assertRaises(Fault) as caught:
                 given.of_samconfig(text, "it")

@@ -276,9 +276,11 @@ class Templates(Case):
             self.check("a URL that streams", made["s-dev-f"]["url"], {"invoke": "RESPONSE_STREAM"})
             for words in ("leaves out tracing of provider", "its URL takes requests without a signature here",
                           "leaves out colour of its URL",
-                          "leaves out async, authorizer, private, request of its event http",
+                          "leaves out async, private, request of its event http",
+                          "leaves out the authorizer auth of get a, so its routes take each caller: there is no",
                           "its event http is a proxy integration here, and not lambda",
-                          "leaves out authorizer of its event httpApi", "leaves out inputPath of its schedule",
+                          "leaves out the authorizer jwt of get /b, which takes each caller",
+                          "leaves out inputPath of its schedule",
                           "leaves out events: stream", "s-dev-f: leaves out tracing"):
                 self.check(f"Serverless: {words}", words in said, shown=said)
         template = {"Resources": {"F": sam(Tracing="Active", VpcConfig={}, Role="x", Tags={"a": "b"}, Events={
@@ -294,7 +296,7 @@ class Templates(Case):
                                                               "timezone": "Europe/Berlin"})
             self.check("the log's format", variables_of(made), {"AWS_LAMBDA_LOG_FORMAT": "JSON",
                                                                 "AWS_LAMBDA_LOG_LEVEL": "DEBUG"})
-            for words in ("F: leaves out Tracing, VpcConfig\n", "leaves out Auth of its event A",
+            for words in ("F: leaves out Tracing, VpcConfig\n", "leaves out the authorizer x of GET /a of F,",
                           "leaves out KmsKeyArn of its event B", "leaves out its event D, DynamoDB\n",
                           "leaves out its event E, S3: lambda_local invoke --sample s3 sends one like it"):
                 self.check(f"SAM: {words.strip()}", words in said, shown=said)
@@ -320,8 +322,8 @@ class Templates(Case):
                        (["live"], ["blue"], {"ALIAS": f"{arn}F:live", "VERSION": f"{arn}F", "OWN": f"{arn}G:blue"}))
             self.check("asynchronous invocations", (made["F"]["asynchronous"], made["G"]["asynchronous"]),
                        ({"retries": 0, "maximumAge": 60, "onFailure": "G"}, {"retries": 1}))
-            wanted = ('G: leaves out DeadLetterQueue, arn:aws:sqs:us-east-1:1:dead, which would get each event that failed: '
-                      'set "asynchronous": {"onFailure": "FUNCTION"} of it in lambda_local.json')
+            wanted = ('G: leaves out DeadLetterQueue, arn:aws:sqs:us-east-1:1:dead, which would get each event that '
+                      'failed: set "asynchronous": {"onFailure": "FUNCTION"} of it in lambda_local.json')
             self.check("a queue for dead letters", wanted in said, shown=said)
             write(folder, {"lambda_local.json": {"functions": {"G": {"asynchronous": {"onFailure": "F"}}}}})
             self.check("what that line says to write", made_by(os.path.join(folder, "template.json"))[0]["G"][

@@ -5,9 +5,15 @@ import re
 import subprocess
 import tempfile
 import threading
+import unittest.mock
 import xml.etree.ElementTree as ElementTree
 
 from lambda_local.service import Service, ask
+from lambda_local.timeline import command
+from lambda_local.timeline.rest import Rest
+from lambda_local.timeline.window import Window
+from tests import ROOT
+from tests.library.records import text_of
 from tests.library.timelines import TimelineCase, NOWHERE, ONE, PROGRAM, WHOLE, calls_of, events, run
 
 HISTORY = ("form 2\n" + WHOLE % 1000000
@@ -289,6 +295,31 @@ class TimelineHistory(TimelineCase):
         self.check("--help", status == 0 and all(word in said for word in (
             "--text", "--trace", "--html", "--svg", "--program", "--answers", "--script", "--limit", "--from", "--to",
             "--all", "--live", "--scale", "-o FILE")))
+
+    def test_rest(self):
+        """What comes after the window of a log is counted as it would be if all of it was followed."""
+        path = os.path.join(ROOT, "tests", "compatibility", "1.0", "histories", "many.txt")
+        moments = sorted({int(line.split()[0]) for line in text_of(path).splitlines()[2:] if line[:1].isdigit()})
+        begin, wrong, counted = moments[0], [], []
+
+        def shown(words, quick):
+            written, said, closing = [], [], []
+            with unittest.mock.patch.object(Rest, "take_all", lambda *_: counted.append(1)) if quick is None else (
+                    unittest.mock.patch.object(Window, "is_over", quick and Window.is_over)):
+                command.run(command.arguments([*words, "--program", PROGRAM, path]), written.append, closing,
+                            said.append)
+            for close in closing:
+                close()
+            return "".join(written), said
+        for words in (*(["--limit", str(limit)] for limit in (1, 2, 3, 5, 8, 13, 40, 100, 400)),
+                      *(["--to", str(moment)] for moment in moments[::max(1, len(moments) // 9)]),
+                      ["--limit", "7", "--all"], ["--from", f"+{(moments[len(moments) // 2] - begin) / 1000:.3f}",
+                                                  "--limit", "9"]):
+            if shown(words, True) != shown(words, False):
+                wrong.append(words)
+        self.check("with each of these limits", wrong, [])
+        shown(["--limit", "3"], None)
+        self.check("it is not followed", len(counted), 1)
 
     def test_windows(self):
         """What is left out is said, and the rest is drawn, in each form."""

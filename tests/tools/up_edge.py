@@ -254,7 +254,7 @@ class UpEdge(Case):
         log.writer.join(10)
         log.stream.close()
         lines = stream.read().decode().splitlines()
-        self.check("what it lacks is told once", [line.count("no descriptor to read the history by") for line in lines],
+        self.check("what it lacks is told once", [line.count("no file descriptor is left to read") for line in lines],
                    [1])
         service.kill()
 

@@ -26,8 +26,8 @@ def told(text, folder, *options):
 
 # Members of the function greet, whose command is `true`, and what is said after "up: up.json: function greet: ".
 MEMBERS = ("aliases, asynchronous, command, directory, enforceMemory, environments, extensions, handler, init, "
-           "inline, layers, memory, name, ports, python, queue, reserved, runtime, schedule, telemetry, timeout, url, "
-           "variables, watch")
+           "inline, layers, logs, memory, name, ports, python, queue, reserved, runtime, schedule, telemetry, timeout, "
+           "url, variables, watch")
 ENVIRONMENTS = 'environments must be a whole number from 1 to 256, or an object with "min" and "max", not '
 OF_FUNCTION: Dict[str, Tuple[Members, str]] = {
     "a member that nobody knows": ({"timeuot": 5}, "unknown member timeuot, did you mean timeout?"),
@@ -37,6 +37,7 @@ OF_FUNCTION: Dict[str, Tuple[Members, str]] = {
     "what a template has": ({"events": []}, f"unknown member events; there are {MEMBERS}"),
     "a text for a number": ({"timeout": "5"}, 'timeout must be a whole number of seconds, from 1 to 900, not "5"'),
     "a broken number": ({"memory": 1.5}, "memory must be a whole number of MB, not 1.5"),
+    "logs that are not exact": ({"logs": "all"}, 'logs must be "exact", or is left out, not "all"'),
     "a number for true": ({"enforceMemory": 1}, "enforceMemory must be true or false, not 1"),
     "true for a number": ({"reserved": True}, "reserved must be a whole number, not true"),
     "a text for environments": ({"environments": "2"}, ENVIRONMENTS + '"2"'),

@@ -1,5 +1,5 @@
-"""The hosts of AWS, to which no tool and no test goes by mistake: those of each partition, as botocore's partitions.json
-has them, and those that AWS gives what users deploy. (javascript/network.js has the same ones.)"""
+"""The hosts of AWS, to which no tool and no test goes by mistake: those of each partition, as botocore's
+partitions.json has them, and those that AWS gives what users deploy. (javascript/network.js has the same ones.)"""
 
 HOSTS = ("amazonaws.com", "amazonaws.com.cn", "amazonaws.eu", "api.aws", "on.aws", "api.amazonwebservices.com.cn",
          "api.amazonwebservices.eu", "c2s.ic.gov", "api.aws.ic.gov", "sc2s.sgov.gov", "api.aws.scloud",

@@ -46,7 +46,7 @@ def _why(begun: bytes, is_refused: bool) -> Optional[str]:
         return _of_elf(begun)
     if not begun:
         return "is empty"
-    return ("begins with no #! line, such as #!/bin/sh, and is no program of this machine"
+    return ("has no #! line, such as #!/bin/sh, and is not a program for this machine"
             if is_refused else None)
 
 

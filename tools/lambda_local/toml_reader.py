@@ -235,7 +235,7 @@ class Reader:
                 self.refuse(f"\\{letter} needs {4 if letter == 'u' else 8} digits")
             number = int(digits, 16)
             if number > 0x10FFFF or 0xD800 <= number < 0xE000:
-                self.refuse(f"\\{letter}{digits} is no character")
+                self.refuse(f"\\{letter}{digits} is not a character")
             self.at += len(digits)
             return chr(number)
         match = re.compile(r"[ \t]*\r?\n(?:[ \t]|\r?\n)*").match(self.text, self.at - 1) if has_lines else None

@@ -1,80 +1,64 @@
 """What pyproject.toml says of the project, as a wheel says it ("Core metadata specifications", "Entry points
-specification", packaging.python.org). Python has a reader of TOML from 3.11 on: this one reads the part of it that the
-file keeps to, and refuses the rest."""
-import json
-import re
-from typing import Dict, Iterator, List, Union
+specification", packaging.python.org)."""
+from typing import Iterator, List
 
-Value = Union[str, List[str]]
-Tables = Dict[str, Dict[str, Value]]
-TABLE = re.compile(r"\[([\w.-]+)\]")
-MEMBER = re.compile(r"([\w-]+) = (.+)")
-COMMA = re.compile(r",\s*\]\Z")  # (TOML has one after the last value too)
+from lambda_local.toml_reader import NotToml, Table, read_toml, table_in
 
 
 class NotProject(ValueError):
-    """A line of pyproject.toml that is not read."""
+    """What is wrong with pyproject.toml."""
 
 
-def is_value(value: object) -> bool:
-    return isinstance(value, str) or isinstance(value, list) and all(isinstance(it, str) for it in value)
+def tables_of(text: str) -> Table:
+    """All tables of the file."""
+    try:
+        return read_toml(text)
+    except NotToml as fault:
+        raise NotProject(f"pyproject.toml: {fault}") from None
 
 
-def tables_of(text: str) -> Tables:
-    """The tables of the file, by their names."""
-    tables: Tables = {}
-    table: Dict[str, Value] = {}
-    lines = enumerate((line.strip() for line in text.splitlines()), 1)
-    for number, line in lines:
-        if not line or line.startswith("#"):
-            continue
-        if found := TABLE.fullmatch(line):
-            table = tables.setdefault(found[1], {})
-            continue
-        found = MEMBER.fullmatch(line)
-        if not found or found[1] in table:
-            raise NotProject(f"pyproject.toml:{number}: neither a table nor a new member: {line}")
-        written = found[2]
-        while written.startswith("[") and not written.endswith("]"):
-            written += next(lines, (0, "]?"))[1]
-        try:
-            value = json.loads(COMMA.sub("]", written))
-        except ValueError:
-            value = None
-        if not is_value(value):
-            raise NotProject(f"pyproject.toml:{number}: {found[1]} is neither a string in double quotes nor a list of "
-                             f"them")
-        table[found[1]] = value
-    return tables
+def text_in(table: Table, name: str) -> str:
+    value = table.get(name)
+    if not isinstance(value, str):
+        raise NotProject(f"pyproject.toml: {name} must be a string")
+    return value
 
 
-def metadata_of(tables: Tables, version: str, readme: str) -> str:
+def texts_in(table: Table, name: str) -> List[str]:
+    value = table.get(name)
+    found = [it for it in value if isinstance(it, str)] if isinstance(value, list) else []
+    if found != value:
+        raise NotProject(f"pyproject.toml: {name} must be a list of strings")
+    return found
+
+
+def metadata_of(tables: Table, version: str, readme: str) -> str:
     """The core metadata, which end with the readme."""
-    lines = ["Metadata-Version: 2.1", *fields_of(tables, version), "", readme]
+    lines = ["Metadata-Version: 2.1", *fields_of(table_in(tables, "project"), version), "", readme]
     return "\n".join(lines)
 
 
-def fields_of(tables: Tables, version: str) -> Iterator[str]:
-    project = tables["project"]
-    yield f"Name: {project['name']}"
+def fields_of(project: Table, version: str) -> Iterator[str]:
+    yield f"Name: {text_in(project, 'name')}"
     yield f"Version: {version}"
-    yield f"Summary: {project['description']}"
-    yield f"License: {project['license']}"
-    yield from (f"License-File: {name}" for name in project["license-files"])
-    yield f"Keywords: {','.join(project['keywords'])}"
-    yield from (f"Classifier: {it}" for it in project["classifiers"])
-    yield from (f"Project-URL: {label}, {url}" for label, url in tables.get("project.urls", {}).items())
-    yield f"Requires-Python: {project['requires-python']}"
-    for extra, needs in tables.get("project.optional-dependencies", {}).items():
+    yield f"Summary: {text_in(project, 'description')}"
+    yield f"License: {text_in(project, 'license')}"
+    yield from (f"License-File: {name}" for name in texts_in(project, "license-files"))
+    yield f"Keywords: {','.join(texts_in(project, 'keywords'))}"
+    yield from (f"Classifier: {it}" for it in texts_in(project, "classifiers"))
+    urls, extras = table_in(project, "urls"), table_in(project, "optional-dependencies")
+    yield from (f"Project-URL: {label}, {text_in(urls, label)}" for label in urls)
+    yield f"Requires-Python: {text_in(project, 'requires-python')}"
+    for extra in extras:
         yield f"Provides-Extra: {extra}"
-        yield from (f'Requires-Dist: {need}; extra == "{extra}"' for need in needs)
+        yield from (f'Requires-Dist: {need}; extra == "{extra}"' for need in texts_in(extras, extra))
     yield "Description-Content-Type: text/markdown"
 
 
-def entry_points_of(tables: Tables) -> str:
+def entry_points_of(tables: Table) -> str:
     """The commands, and the plugins by their groups."""
-    groups = {"console_scripts": tables.get("project.scripts", {})}
-    prefix = "project.entry-points."
-    groups.update({name[len(prefix):]: table for name, table in tables.items() if name.startswith(prefix)})
-    return "\n".join(f"[{group}]\n" + "".join(f"{name} = {where}\n" for name, where in table.items())
+    project = table_in(tables, "project")
+    points = table_in(project, "entry-points")
+    groups = {"console_scripts": table_in(project, "scripts"), **{group: table_in(points, group) for group in points}}
+    return "\n".join(f"[{group}]\n" + "".join(f"{name} = {text_in(table, name)}\n" for name in table)
                      for group, table in groups.items())

@@ -5,6 +5,7 @@ from typing import Iterator, List, Optional, Union
 from ..configuration import Members
 from ..front.routes import WrongRoute
 from . import schedules
+from .authorizers import of_serverless
 from .cors import Tell, cors_of, rest_cors_of
 from .messages import VALUES, excerpt
 from .objects import Object, members_by_key
@@ -99,7 +100,9 @@ class Addresses:
             else:
                 payload = given.raw("PayloadFormatVersion")
                 of = Of(self.api(given.raw("ApiId"), IMPLICIT), payload="1.0" if str(payload) == "1.0" else "2.0")
-            yield from self.route(f"event {name}", given.raw("Method"), given.raw("Path"), of)
+            auth = given.raw("Auth")
+            yield from self.route(f"event {name}", given.raw("Method"), given.raw("Path"), of,
+                                  auth=auth if isinstance(auth, dict) else {})
             given.close()
 
     def api(self, named: object, otherwise: str) -> str:
@@ -133,18 +136,21 @@ class Addresses:
             integration = event.raw("integration")
             if str(integration or "proxy").lower().replace("_", "-") not in ("proxy", "lambda-proxy", "aws-proxy"):
                 self.tell(f"its event {kind} is a proxy integration here, and not {excerpt(integration)}")
-        made = self.route(f"events: {kind}", event.raw("method"), event.raw("path"), of, cors)
+        authorizer = of_serverless(kind, event.raw("authorizer"), self.scope.authorizers, self.scope,
+                                   f"{event.raw('method')} {event.raw('path')}")
+        made = self.route(f"events: {kind}", event.raw("method"), event.raw("path"), of, cors, authorizer=authorizer)
         event.close()
         return made
 
     def route(self, where: str, method: object, path: object, of: Of,
-              cors: Optional[Members] = None) -> List[FunctionRoute]:
+              cors: Optional[Members] = None, auth: Optional[Members] = None,
+              authorizer: Optional[Members] = None) -> List[FunctionRoute]:
         """Returns one route, or reports it if it is unknown."""
         both, placeholders = self.scope.evaluate_or_reason([method, path])
         why = f"it needs {' and '.join(placeholders)}"
         if isinstance(both, list) and len(both) == 2 and not placeholders:
             try:
-                return [FunctionRoute(key_of(both[0], both[1]), of, cors)]
+                return [FunctionRoute(key_of(both[0], both[1]), of, cors, auth, authorizer)]
             except WrongRoute as fault:
                 why = str(fault)
         self.tell(f"leaves out its {where}: {why}")

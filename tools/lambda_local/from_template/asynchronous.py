@@ -75,8 +75,8 @@ def tell_dead_letters(properties: Members, scope: Scope, tell_: Tell) -> None:
         given = scope.chosen(properties.get(name))
         target = given if name == "onError" else members_of({name: given}, name).get("TargetArn")
         if target is not None:
-            tell_(f"leaves out {name}, {excerpt(scope.evaluate_or_reason(target).value)}, which would get each event that "
-                  f"failed: {INSTEAD}")
+            tell_(f"leaves out {name}, {excerpt(scope.evaluate_or_reason(target).value)}, which would get each event "
+                  f"that failed: {INSTEAD}")
 
 
 def add_configs(functions: List[Members], scope: Scope) -> None:

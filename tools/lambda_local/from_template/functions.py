@@ -181,8 +181,8 @@ class Maker:
                     text = text_of(value)
                     left -= len(str(name)) + len(text)
                     if left < 0 or len(text.encode(errors="replace")) > LONGEST_VARIABLE:
-                        self.tell(f"leaves out the variable {name}: one has at most {LONGEST_VARIABLE:,} bytes, and all "
-                                  f"of a function {MOST_OF_VARIABLES:,}")
+                        self.tell(f"leaves out the variable {name}: one has at most {LONGEST_VARIABLE:,} bytes, and "
+                                  f"all of a function {MOST_OF_VARIABLES:,}")
                         continue
                     found[str(name)] = text.replace("\0", "")
                 elif value is None:

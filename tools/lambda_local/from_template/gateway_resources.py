@@ -1,20 +1,19 @@
 """Routes and APIs that CDK and CloudFormation write as resources of their own: the methods of a REST API
 (AWS::ApiGateway) and the routes of an HTTP API (AWS::ApiGatewayV2)."""
 import functools
-import re
 from typing import Callable, Dict, List, Optional, Set
 
 from ..configuration import Members
 from ..front.routes import DEFAULT, WrongRoute
+from .authorizers import Resources
 from .cloudformation import referenced
 from .objects import Object
-from .resources import function_of, resources_of
+from .named import function_of, resources_of
 from .routes import FunctionRoute, Of, check_key, key_of
 from .messages import excerpt, tell
 from .values import Scope, Unknown, members_of
 
 REST, HTTP = "AWS::ApiGateway::", "AWS::ApiGatewayV2::"
-INVOKED = re.compile(r"functions/(.+)/invocations")  # the function in the URI of an integration
 # What a method or a route has that has no meaning here, or is read elsewhere
 OF_METHOD = {"RestApiId", "ResourceId", "HttpMethod", "Integration", "MethodResponses", "OperationName"}
 OF_INTEGRATION = {"Type", "Uri", "IntegrationHttpMethod", "Credentials", "PassthroughBehavior", "TimeoutInMillis",
@@ -36,16 +35,14 @@ def function_invoked_by(uri: object, functions: List[Members], scope: Scope) -> 
         text = scope.evaluate(uri).value
     except Unknown:
         return None
-    match = INVOKED.search(text) if isinstance(text, str) else None
-    return function_of(match[1] if match else text, functions, scope)
+    return function_of(text, functions, scope)
 
 
 def tell_unread(where: str, members: Members, read: Set[str], scope: Scope) -> None:
     """Says which members of a method, a route or an integration nobody reads."""
     given = Object(members, where, scope, tell)
     given.without_meaning(read)
-    if given.raw("AuthorizationType") not in ("NONE", None):
-        given.asked.discard("AuthorizationType")
+    given.without_meaning(["AuthorizationType", "AuthorizerId", "AuthorizationScopes"])  # (see `authorizers`)
     if given.raw("ApiKeyRequired") in (False, None):
         given.without_meaning(["ApiKeyRequired"])
     else:
@@ -53,10 +50,10 @@ def tell_unread(where: str, members: Members, read: Set[str], scope: Scope) -> N
     given.close()
 
 
-def put(made: Members, where: str, of: Of, key: Callable[[], str]) -> None:
+def put(made: Members, where: str, of: Of, key: Callable[[], str], authorizer: Optional[Members] = None) -> None:
     """Gives a function the route whose key this makes."""
     try:
-        made["routes"] = [*made.get("routes", ()), FunctionRoute(key(), of)]
+        made["routes"] = [*made.get("routes", ()), FunctionRoute(key(), of, authorizer=authorizer)]
     except WrongRoute as fault:
         tell(f"{made['name']}: leaves out its {where}: {fault}")
 
@@ -69,6 +66,7 @@ class RestApis:
         self.apis = dict(resources_of(REST + "RestApi", scope))
         self.parts = dict(resources_of(REST + "Resource", scope))
         self.cors: Dict[str, Members] = {}
+        self.authorizers = Resources(REST, True, scope)
 
     def path(self, resource: object) -> Optional[str]:
         """The path of a resource; None if it is not known."""
@@ -101,7 +99,8 @@ class RestApis:
                 integration = {name: value for name, value in integration.items() if not name.startswith("Request")}
             tell_unread(f"{method} {path}", properties, OF_METHOD, self.scope)
             tell_unread(f"the integration of {method} {path}", integration, OF_INTEGRATION, self.scope)
-            put(made, f"method {key}", Of(self.scope.prefix + api, True), functools.partial(key_of, method, path))
+            put(made, f"method {key}", Of(self.scope.prefix + api, True), functools.partial(key_of, method, path),
+                self.authorizers.of_route(properties, f"{method} {path}", [one["name"] for one in functions]))
 
     @staticmethod
     def why_not(kind: object, made: Optional[Members], api: Optional[str], path: Optional[str]) -> str:
@@ -141,6 +140,7 @@ class HttpApis:
         self.scope = scope
         self.apis = dict(resources_of(HTTP + "Api", scope))
         self.integrations = dict(resources_of(HTTP + "Integration", scope))
+        self.authorizers = Resources(HTTP, False, scope)
 
     def integration_of(self, target: object) -> Optional[Members]:
         """The integration that a route's target names, `integrations/ID`; None if it is not here."""
@@ -163,7 +163,8 @@ class HttpApis:
             payload = "2.0" if str(integration.get("PayloadFormatVersion")) == "2.0" else "1.0"
             tell_unread(f"the route {route}", properties, OF_ROUTE, self.scope)
             of = Of(self.scope.prefix + api, payload=payload)
-            put(made, f"route {key}", of, functools.partial(check_key, route))
+            put(made, f"route {key}", of, functools.partial(check_key, route),
+                self.authorizers.of_route(properties, f"the route {route}", [one["name"] for one in functions]))
         for key, properties in self.apis.items():  # (one whose only route is part of it)
             made = (function_invoked_by(properties.get("Target"), functions, self.scope)
                     if "Target" in properties else None)

@@ -2,7 +2,7 @@
 import difflib
 import re
 import shlex
-from typing import Dict, Iterator, List, Mapping, NamedTuple, Optional, Sequence, Tuple
+from typing import Dict, Iterator, Mapping, NamedTuple, Optional, Sequence, Tuple
 
 from ..json_reader import NotJson, read_json
 from ..outgoing import is_for_the_system, is_name_of_variable
@@ -114,8 +114,8 @@ def of_samconfig(text: str, path: str) -> Dict[str, str]:
             words = parameters[OVERRIDES]
             for text in words if isinstance(words, list) else [words]:
                 if not isinstance(text, str):
-                    raise Fault(f"--parameters {path}: {OVERRIDES} of {command} must be a string, or a list of strings, "
-                                f"not {excerpt(text)}")
+                    raise Fault(f"--parameters {path}: {OVERRIDES} of {command} must be a string, or a list of "
+                                f"strings, not {excerpt(text)}")
                 pairs.update(pairs_in(text, f"--parameters {path}"))
     if not is_found:
         raise Fault(f"--parameters {path}: it has no {OVERRIDES} in [default.deploy.parameters] or "
@@ -161,8 +161,8 @@ def of_env_vars(path: str) -> Tuple[Dict[str, Dict[str, str]], Dict[str, str]]:
     for name, variables in by_function.items():
         for variable, text in variables.items():
             if not is_name_of_variable(variable) or not is_for_the_system(text):
-                raise Fault(f"--env-vars {path}: {name or 'all functions'}: {excerpt(variable)}: no variable has a NUL, "
-                            "or half a character, and no name of one a =")
+                raise Fault(f"--env-vars {path}: {name or 'all functions'}: {excerpt(variable)}: no variable has a "
+                            "NUL, or half a character, and no name of one a =")
     return by_function, by_function.pop("Parameters", {})
 
 

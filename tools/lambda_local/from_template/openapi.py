@@ -9,7 +9,7 @@ from .gateway_resources import function_invoked_by
 from .messages import Fault, excerpt, tell
 from .objects import Object
 from .reader import LONGEST, parse
-from .resources import resources_of
+from .named import resources_of
 from .routes import FunctionRoute, Of, key_of
 from .values import Scope, members_of
 

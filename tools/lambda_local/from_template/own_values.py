@@ -10,6 +10,7 @@ from .files import Folder, text_in
 from .messages import VALUES, Fault, excerpt
 
 MOST_BYTES = 16 << 20
+AUTHORIZER = "authorizer"  # which is one's own as a whole
 
 
 def path_beside(path: str) -> Optional[str]:
@@ -29,7 +30,8 @@ def path_beside(path: str) -> Optional[str]:
 def merged(base: Any, own: Any) -> Any:
     """Objects member by member; anything else is one's own."""
     if isinstance(base, dict) and isinstance(own, dict):
-        return {**base, **{name: merged(base[name], value) if name in base else value for name, value in own.items()}}
+        return {**base, **{name: merged(base[name], value) if name in base and name != AUTHORIZER else value
+                           for name, value in own.items()}}
     return own
 
 
@@ -65,9 +67,19 @@ def merge(made: Members, path: str, keys: Dict[str, str]) -> Members:
                 f", did you mean {near[0]}?" if near else f"; there are {', '.join(by_name)}"))
         by_name[name] = merged_function(by_name[name], {**member, "name": name}, folder)
     functions: List[Members] = list(by_name.values())
+    if AUTHORIZER in (own.get("api") or {}):
+        made = {**made, "routes": {route: without_authorizer(given) for route, given in made.get("routes", {}).items()}}
     rest = {name: value for name, value in own.items() if name != "functions"}
     return {**merged({name: value for name, value in made.items() if name != "functions"}, rest),
             "functions": functions}
+
+
+def without_authorizer(given: Any) -> Any:
+    """A route, whose API has one's own authorizer."""
+    if not isinstance(given, dict):
+        return given
+    left = {name: value for name, value in given.items() if name != AUTHORIZER}
+    return left if len(left) > 1 else left["function"]
 
 
 def merged_function(made: Members, own: Members, folder: str) -> Members:

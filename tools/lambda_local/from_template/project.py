@@ -3,7 +3,7 @@ import os
 from typing import Dict, List, Optional
 
 from ..configuration import Members
-from . import asynchronous, openapi, own_values, queues, serverless
+from . import asynchronous, authorizers, openapi, own_values, queues, serverless
 from .files import Folder
 from .find import Source
 from .functions import Listed, functions_of, tell_services
@@ -42,6 +42,7 @@ def apis_in(stacks: List[Stack], functions: List[Members], folder: str) -> Dict[
         asynchronous.add_configs(functions, scope)
         of_events = serverless.apis_of(scope) if isinstance(scope, serverless.ServerlessScope) else apis_of(
             stack.template, scope)
+        authorizers.resolve(functions, of_events, scope)
         apis = {**apis, **of_events, **add_routes(functions, scope)}
         openapi.add_routes(functions, scope, files, stack.base)
         tell_services(scope)

@@ -6,6 +6,7 @@ from typing import Iterator, List, Optional
 from ..configuration import Members
 from .cloudformation import is_wanted
 from .messages import VALUES, excerpt, tell
+from .named import function_of
 from .objects import Object, Tell, members_by_key
 from .services import PAGE, endpoint_of
 from .values import Scope
@@ -91,7 +92,6 @@ def put(made: Members, queues: List[Members], tell_: Tell) -> None:
 
 def add_mappings(functions: List[Members], scope: Scope) -> None:
     """Those that are resources of their own."""
-    from .resources import function_of
     for key, resource in scope.resources.items():
         if not isinstance(resource, dict) or resource.get("Type") != MAPPING or not is_wanted(key, resource, scope):
             continue

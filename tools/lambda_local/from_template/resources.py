@@ -1,29 +1,16 @@
 """Function URLs and APIs that a template has as resources of their own: AWS::Lambda::Url, which CDK writes, and SAM's
 APIs with what Globals says of all of them."""
-from typing import Dict, Iterator, List, Optional, Tuple, Union
+from typing import Dict, List, Union
 
 from ..configuration import Members
-from ..front.events import NAMED
 from .addresses import Addresses
-from .cloudformation import is_wanted, merged
+from .cloudformation import merged
+from .named import function_of, resources_of
 from .routes import IMPLICIT, IMPLICIT_REST
 from .messages import excerpt, tell
 from .values import Scope, Unknown, members_of
 
 URL, HTTP_API, REST_API = "AWS::Lambda::Url", "AWS::Serverless::HttpApi", "AWS::Serverless::Api"
-
-
-def resources_of(kind: str, scope: Scope) -> Iterator[Tuple[str, Members]]:
-    """Those of this type that are to be there: the logical id and the properties of each."""
-    for key, resource in scope.resources.items():
-        if isinstance(resource, dict) and resource.get("Type") == kind and is_wanted(key, resource, scope):
-            yield str(key), members_of(resource, "Properties")
-
-
-def function_of(target: object, functions: List[Members], scope: Scope) -> Optional[Members]:
-    """The function that a name or an ARN names; none if none has that name."""
-    match = NAMED.fullmatch(target) if isinstance(target, str) else None
-    return next((made for made in functions if match and made["name"] == (match[1] or match[2])), None)
 
 
 def add_urls(functions: List[Members], scope: Scope) -> None:

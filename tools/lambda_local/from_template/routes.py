@@ -15,9 +15,9 @@ IMPLICIT, IMPLICIT_REST = "ServerlessHttpApi", "ServerlessRestApi"
 OF_SERVERLESS, REST_OF_SERVERLESS = "provider.httpApi", "provider.apiGateway"
 UNNAMED = {IMPLICIT, IMPLICIT_REST, OF_SERVERLESS, REST_OF_SERVERLESS}
 # What is taken of an API's properties, or has no meaning here
-READ_OF_HTTP = {"StageName", "StageVariables", "CorsConfiguration", "Name", "DefinitionBody", "DefinitionUri",
-                "Description", "Tags"}
-READ_OF_REST = {"StageName", "Variables", "BinaryMediaTypes", "Cors", "Name", "DefinitionBody", "DefinitionUri",
+READ_OF_HTTP = {"Auth", "authorizers", "StageName", "StageVariables", "CorsConfiguration", "Name", "DefinitionBody",
+                "DefinitionUri", "Description", "Tags"}
+READ_OF_REST = {"Auth", "StageName", "Variables", "BinaryMediaTypes", "Cors", "Name", "DefinitionBody", "DefinitionUri",
                 "Description", "Tags", "EndpointConfiguration", "OpenApiVersion", "AlwaysDeploy", "PropagateTags"}
 
 
@@ -37,6 +37,8 @@ class FunctionRoute(NamedTuple):
     key: str
     of: Of
     cors: Optional[Dict[str, Any]] = None
+    auth: Optional[Members] = None  # what its event of SAM says of its authorizer, which its API has
+    authorizer: Optional[Members] = None  # as UP.json has it
 
 
 def key_of(method: object, path: object) -> str:
@@ -119,10 +121,15 @@ class Apis:
         integrations = {of: self.integration(of) for of in used}
         self.is_told.update(of.key for of in used)
         alike = len({repr(each) for each in integrations.values()}) == 1
-        api = {**(integrations[used[0]] if alike else {}), **self.cors(found, used)}
+        by = [mapped.authorizer for _, mapped in found.values()]
+        common = by[0] if by and all(authorizer == by[0] for authorizer in by) else None
+        api = {**(integrations[used[0]] if alike else {}), **({} if common is None else {"authorizer": common}),
+               **self.cors(found, used)}
         routes: Members = {}
         for key, (name, mapped) in found.items():
             own = {} if alike else integrations[mapped.of]
+            if mapped.authorizer is not None and common is None:
+                own = {**own, "authorizer": mapped.authorizer}
             routes[key] = {"function": name, **own} if own else name
         return {**({"routes": routes} if routes else {}), **({"api": api} if api else {})}
 

@@ -3,7 +3,7 @@ its scheduler."""
 from typing import Any, Dict, List
 
 from .cloudformation import is_wanted
-from .resources import function_of
+from .named import function_of
 from .schedules import WITHOUT_MEANING, is_off, put, schedule_of
 from .messages import LineGroups, excerpt
 from .objects import Object

@@ -11,7 +11,7 @@ from .files import Folder
 from .given import Given, of_env_file
 from .messages import Fault, excerpt, tell
 from .reader import LONGEST, parse
-from .values import ACCOUNT, DEEPEST, REGION, Scope, Unknown, is_scalar, members_of, text_of
+from .values import ACCOUNT, REGION, Scope, Unknown, is_scalar, members_of, text_of
 
 INNERMOST = re.compile(r"\$\{([^${}]*)\}")
 WHOLE = re.compile(r"\s*\$\{([^${}]*)\}\s*")  # a text that is a single variable
@@ -95,6 +95,10 @@ class ServerlessScope(Scope):
             resources = self.raw(one.get("Resources")) if isinstance(one, dict) else None
             self.resources.update({str(key): self.raw(resource) for key, resource in resources.items()}
                                   if isinstance(resources, dict) else {})
+
+    @property
+    def authorizers(self) -> Members:
+        return members_of(members_of(self.provider, "httpApi"), "authorizers")
 
     @property
     def payload(self) -> str:

@@ -137,6 +137,11 @@ class Scope:
         return {form.format(key) for key in self.services for form in forms}
 
     @property
+    def authorizers(self) -> Members:
+        """Those that Serverless' HTTP API has, by their names."""
+        return {}
+
+    @property
     def payload(self) -> str:
         """The format of the events of an HTTP API whose routes name none."""
         return "2.0"

@@ -166,4 +166,4 @@ def body_in(value: Dict[str, object]) -> bytes:
     try:
         return base64.b64decode(body, validate=True)
     except (binascii.Error, ValueError):
-        raise Unmappable("body is no base64, which isBase64Encoded says") from None
+        raise Unmappable("body is not Base64, and isBase64Encoded says that it is") from None

@@ -180,8 +180,8 @@ class Server:
         now = time.monotonic()
         if now - self.last_told > BETWEEN_TELLS:
             self.last_told = now
-            self.log("up", "there is no descriptor for a further connection (ulimit -n): callers wait, and those that "
-                           "are idle are closed", level="error", kind="http")
+            self.log("up", "no file descriptor is left for another connection (ulimit -n): callers wait, and idle "
+                           "connections are closed", level="error", kind="http")
 
     def leave(self, connection: Connection) -> None:
         self.connections.discard(connection)

@@ -75,6 +75,12 @@ class Traced:
         if self.run:
             self.run.finish()
 
+    def rest(self) -> Iterator[bytes]:
+        """The lines after that of the last entry, as they are; Fault if the program has one."""
+        yield from self.lines
+        if self.run:
+            self.run.finish()
+
     def close(self) -> None:
         if self.run:
             self.run.kill()

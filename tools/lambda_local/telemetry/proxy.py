@@ -246,7 +246,7 @@ class Proxy:
     def _tell_shortage(self) -> None:
         if not self.has_told:
             self.has_told = True
-            self.tell("there is no descriptor for a further connection of its processes (ulimit -n): they wait")
+            self.tell("no file descriptor is left for another connection of its processes (ulimit -n): they wait")
 
     def leave(self, pair: Pair) -> None:
         self.pairs.pop(pair, None)

@@ -29,8 +29,8 @@ SENTENCES = {
     "InvalidRequestFormat": "its body cannot be read",
     "InvalidEventType": "\"events\" has INVOKE, SHUTDOWN, or both",
     "RequestEntityTooLarge": "its body has more than 6,291,456 bytes: send an error in its place",
-    "Extension.UnknownIdentifier": "Lambda-Extension-Identifier is to be the one that its registration was answered "
-                                   "with",
+    "Extension.UnknownIdentifier": "Lambda-Extension-Identifier must be the one that the answer to its registration "
+                                   "had",
     "Extension.AlreadyRegistered": "an extension of this name is registered already",
     "Extension.TooManyExtensions": "ten extensions are registered already",
     "InvalidHost": "its Host is malformed",
@@ -89,13 +89,13 @@ class Refusals:
             return None
         shown = shortened(begun.split(b"\n")[0].decode("latin-1").rstrip("\r"))
         return self._count(Kind(fault.status, "", "unreadable"),
-                           f"what came is no HTTP/1.1 request: {fault.reason}" + (f": {shown}" if shown else ""))
+                           f"what came is not an HTTP/1.1 request: {fault.reason}" + (f": {shown}" if shown else ""))
 
     def _count(self, kind: Kind, words: str) -> None:
         if kind not in self.counts and len(self.counts) == MOST_KINDS:
             self.others += 1
             if self.others == 1:
-                self.tell(f"of the requests that are refused, {MOST_KINDS} kinds are told, and no others")
+                self.tell(f"{MOST_KINDS} kinds of refused requests are reported; further kinds are not")
             return
         count = self.counts[kind] = self.counts.get(kind, 0) + 1
         if count == 1:
@@ -106,7 +106,7 @@ class Refusals:
 
     def _tell_count(self, kind: Kind) -> None:
         self.told[kind] = self.counts[kind]
-        self.tell(f"{kind.request or 'no HTTP/1.1 request'}: {kind.status}, {self.counts[kind]:,} times so far")
+        self.tell(f"{kind.request or 'not an HTTP/1.1 request'}: {kind.status}, {self.counts[kind]:,} times so far")
 
     def end(self) -> None:
         """The last numbers."""
@@ -134,7 +134,7 @@ def sentence(method: str, path: str, status: int, reason: str, allowed: Optional
     if reason == "MissingHeader":
         return f"it needs the header {HEADERS.get(path, FUNCTION_ERROR)}"
     if reason == "InvalidRequestFormat" and path == EXTENSION + "register":
-        return 'its body is to be {"events": [..]}, in JSON'
+        return 'its body must be {"events": [..]}, in JSON'
     if reason == "InvalidStateTransition":
         return LATE.get(f"{method} {path}", "it comes too early or too late")
     return SENTENCES.get(reason) or f"it is refused ({reason or phrase})"

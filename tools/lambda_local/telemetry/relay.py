@@ -5,6 +5,7 @@ import contextlib
 import json
 import os
 import socket
+import struct
 import subprocess
 import sys
 import threading
@@ -14,7 +15,7 @@ from ..paths import PACKAGE
 from .beside import Beside, Marker
 
 LONGEST_MESSAGE = 64 << 10  # bytes
-SEND_SECONDS = 20.0  # for it to take a message
+SEND_SECONDS = 20  # for it to take a message
 END_SECONDS = 10.0  # for it to end
 START = "import sys; sys.path.insert(0, sys.argv.pop(1)); from lambda_local.telemetry.relay_process import main; " \
         "main(int(sys.argv[1]))"
@@ -31,6 +32,7 @@ class Relay(threading.Thread):
         self.count = 0  # of processes whose output it was given
         self.ends = False
         self.channel, its = socket.socketpair(socket.AF_UNIX, socket.SOCK_SEQPACKET)
+        self.channel.setsockopt(socket.SOL_SOCKET, socket.SO_SNDTIMEO, struct.pack("ll", SEND_SECONDS, 0))
         with its:
             # In a session of its own, since a terminal's signals are not for it. It ends once this socket closes.
             self.process = subprocess.Popen(
@@ -63,6 +65,7 @@ class Relay(threading.Thread):
             self._send({"what": "ended", "environment": number, "process": process})
 
     def _send(self, message: Dict[str, object], descriptor: Optional[int] = None) -> None:
+        """OSError if it has ended, or does not take it in time."""
         data = json.dumps(message).encode()
         with self.lock:
             socket.send_fds(self.channel, [data], [] if descriptor is None else [descriptor])

@@ -14,7 +14,7 @@ import socket
 import sys
 from typing import Awaitable, Dict, List, Optional
 
-from ..http1 import Headers, Malformed, Request, Response, first
+from ..http1 import Malformed, Request, Response, first
 from ..json_reader import NotJson, read_json
 from .conversation import Ears, Exchange
 from .proxy import Proxy

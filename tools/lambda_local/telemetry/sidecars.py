@@ -2,12 +2,12 @@
 
 A proxy in this process is in front of one whose function's extensions may subscribe to telemetry, or whose responses
 are streamed. The relay is in front of one whose processes do not mark what they print, once that is to be divided:
-always if its function says so (`"logs": "exact"`), with `--report`, and while it is debugged; from its next generation
-on if a caller wants the log of an invocation (`up.closer`), or if a generation ended early, since the relay also tells
-what the service refuses."""
+always if its function says so (`"logs": "exact"`) or has an `init`, with `--report`, and while it is debugged; from its
+next generation on if a caller wants the log of an invocation (`up.closer`), or if a generation ended early, since the
+relay also tells what the service refuses."""
 import threading
 from concurrent.futures import ThreadPoolExecutor
-from typing import Any, Callable, Container, Dict, Iterable, List, Mapping, NamedTuple, Optional, Set
+from typing import Any, Callable, Container, Dict, Iterable, List, Mapping, NamedTuple, Set
 
 from ..front.front import Other, listener_at
 from ..streaming.pairing import Pairing
@@ -49,7 +49,8 @@ class Sidecars:
                     proxies.append(self._proxy(function, name, port, number, printed))
                 elif function.is_unmarked:
                     self.unmarked[number] = Place(function, name, port)
-                    if self.divides or function.has_exact_logs or function.debug:
+                    # (an Init that may take long is not to be made again for a log)
+                    if self.divides or function.has_exact_logs or function.debug or function.init is not None:
                         self.divide(number)
         return proxies
 

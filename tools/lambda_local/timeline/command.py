@@ -19,6 +19,7 @@ calls; 4 if the program could not be run or the output not be written.
 """
 import argparse
 import contextlib
+import gc
 import os
 import re
 import sys
@@ -39,6 +40,7 @@ from .live import serve
 from .otlp import Otlp
 from .page import html
 from .refused import Refused, with_refusals
+from .rest import Rest
 from .sink import Sink
 from .text import Text
 from .trace import Trace
@@ -49,6 +51,7 @@ Closing = List[Callable[[], object]]
 Say = Callable[[str], object]
 MOST_DRAWN, MOST_LIVE = 1000, 300  # calls in a drawing, and on a live page, if nothing else is asked
 DIFFERS = "differs"
+OBJECTS = 100_000  # that are made before those in circles are looked for: entries are in none
 
 
 def moment(word: str) -> Moment:
@@ -148,7 +151,8 @@ def traced(chosen: argparse.Namespace, script: Script, closing: Closing) -> Trac
 def follow(chosen: argparse.Namespace, script: Script, is_history: bool, sink: Window,
            closing: Closing) -> Tuple[World, List[Tuple[str, str]]]:
     """Follows the input to its end. Gives the world, and what is to be said of it: pairs of a class and a text."""
-    world, entries = World(script.configuration, sink), watched(traced(chosen, script, closing))
+    source, world = traced(chosen, script, closing), World(script.configuration, sink)
+    entries = watched(source)
     if is_history:
         has_answers = next(answers_of(script), None) is not None
         for entry in entries:
@@ -156,6 +160,9 @@ def follow(chosen: argparse.Namespace, script: Script, is_history: bool, sink: W
                 raise Fault(2, f"{chosen.input} begins as a history, and has no answers; if it is a script, add "
                                "--script")
             world.take(entry)
+            if sink.is_over and has_answers:
+                Rest(world, sink).take_all(source.rest())
+                break
     else:
         for one in with_refusals(script, entries):
             if isinstance(one, Refused):
@@ -237,6 +244,7 @@ def output_of(path: Optional[str]) -> Iterator[TextIO]:
 def main() -> int:
     chosen = arguments()
     closing: Closing = []
+    gc.set_threshold(OBJECTS)
     try:
         if chosen.live:
             return serve(chosen.live, chosen.limit or MOST_LIVE, chosen.all)

@@ -106,6 +106,21 @@ class Window(Sink):
             for sink in self.events:
                 sink.taken(call, own)
 
+    @property
+    def is_over(self) -> bool:
+        """Whether nothing more is shown: what follows is only counted."""
+        return self.over is not None and not self.spans
+
+    def left_after(self, moment: int, hidden: bool) -> None:
+        """A call after that."""
+        self.hidden += hidden
+        self.after += not hidden
+
+    def left_failed(self, moment: int) -> None:
+        """A call that is left out has failed."""
+        self.failed += 1
+        self.first_failed = moment if self.first_failed is None else self.first_failed
+
     def answered(self, call: Call) -> None:
         if call.hidden:
             return
@@ -116,8 +131,7 @@ class Window(Sink):
             for sink in self.spans:
                 sink.answered(call)
         elif outcome(call) in FAILED:
-            self.failed += 1
-            self.first_failed = call.moment if self.first_failed is None else self.first_failed
+            self.left_failed(call.moment)
         if self.shows(call.end):
             for sink in self.events:
                 sink.answered(call)

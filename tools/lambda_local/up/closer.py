@@ -25,36 +25,36 @@ class Closer:
         self.lock = threading.Lock()
         self.told: Set[str] = set()  # functions
 
-    def of(self, function: str) -> List[Environment]:
-        """Those that are started."""
-        return [each for each in self.environments if each.function.name == function and each.is_started]
-
     def is_divided(self, function: str) -> bool:
         """Whether what each of its environments prints is divided. Does not wait."""
-        return all(map(is_divided, self.of(function)))
+        return all(is_divided(each) for each in self.environments
+                   if each.function.name == function and each.is_started)
 
     def prepare(self, function: str) -> None:
-        """Waits until what the function's idle environments print is divided. One that is busy, or in its Init, is left
-        for the next caller, unless there is no other."""
+        """Waits until what the function's environments print is divided. One that is busy is left for the next caller,
+        unless there is no other."""
         with self.lock:
-            for environment in self.environments:
-                if environment.function.name == function:
-                    self.sidecars.divide(environment.number)
+            whole = [each for each in self.environments if each.function.name == function]
+            for environment in whole:
+                self.sidecars.divide(environment.number)
             asked: Set[Environment] = set()
             end = time.monotonic() + LONGEST_SECONDS
             while time.monotonic() < end:
-                here = self.of(function)
-                due = [each for each in here if not is_divided(each)]
+                due = [each for each in whole if each.is_started and not is_divided(each)]
                 if due and function not in self.told:
                     self.tell(function)
                 asked.update(self.spun_down(each for each in due if each not in asked))
-                if all(map(self.is_ready, asked)) and (asked or len(due) < len(here)):
+                begins = any(not self.is_over_init(each) for each in due if each not in asked)
+                if all(map(self.is_ready, asked)) and not begins and (asked or len(due) < len(whole)):
                     return
                 time.sleep(BETWEEN_LOOKS)
 
     def is_ready(self, environment: Environment) -> bool:
-        """Whether one that was spun down has been started again."""
-        return is_divided(environment) and self.watch.environment(environment.number).generation.is_ready
+        """Whether one that was spun down has been started again, if it is to be."""
+        return not environment.is_started or is_divided(environment) and self.is_over_init(environment)
+
+    def is_over_init(self, environment: Environment) -> bool:
+        return self.watch.environment(environment.number).generation.is_ready
 
     def tell(self, function: str) -> None:
         self.told.add(function)

@@ -28,6 +28,7 @@ over it. UP.json is a service's configuration (docs/formats.md) in which each fu
   memory         what AWS_LAMBDA_FUNCTION_MEMORY_SIZE says, in MB (default: 128)
   enforceMemory  true: what has used more than that is killed, as on Lambda (default: a warning)
   extensions     an object: the name by which an extension registers, and its command; or null: you start it yourself
+  logs           "exact": what each invocation of a command prints is known from the start
   watch          files and folders for --reload (default: its directory)
   url            true: a port that turns HTTP requests into events of a Function URL
   queue          an object: the "url" of an SQS queue whose messages invoke it

@@ -81,10 +81,10 @@ class Watch(threading.Thread):
         """No entry comes any more, or until the service has been asked again. A service that has just ended answers no
         one: of that others tell."""
         if isinstance(fault, NoDescriptor):
-            self.warn("descriptors", "there is no descriptor to read the history by (ulimit -n): what happens is told "
-                                     "once there is one", "error")
+            self.warn("descriptors", "no file descriptor is left to read the history (ulimit -n): what happens is "
+                                     "reported once there is one", "error")
         elif isinstance(fault, MemoryError):
-            self.warn("memory", "there is no memory to read the history by: what happens is told once there is some",
+            self.warn("memory", "no memory is left to read the history: what happens is reported once there is some",
                       "error")
         elif isinstance(fault, NotTrace):
             self.warn("read", f"the service's history cannot be read: {told(fault)}", "error")

@@ -91,8 +91,8 @@ def agreed(endpoint: Endpoint, function: str, is_allowed: bool, count: int) -> N
         raise Fault(2, f"{host} is not this machine: --beyond-this-machine allows to ask it, once a question is "
                        "answered")
     if not sys.stdin.isatty():
-        raise Fault(2, f"{host} is not this machine: whether it is to be asked is answered at a terminal, and standard "
-                       "input is none")
+        raise Fault(2, f"{host} is not this machine, so a question must be answered at a terminal first, and standard "
+                       "input is not one")
     print(f"{count} Invokes of {function} are sent to {host}; on AWS they cost money, and the credentials of boto3 "
           f"sign them if there is a --region.\nWrite the function's name to go on: ", end="", flush=True)
     if sys.stdin.readline().strip() != function:
