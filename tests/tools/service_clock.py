@@ -96,14 +96,14 @@ class ClockCase(Case):
                 status, fault = clock.asked("POST", "/advance" + query)
                 wanted = 400, {"errorMessage": NO_NUMBER, "errorType": "InvalidMilliseconds"}
                 self.check(f"advance{query} is refused", (status, fault), wanted)
-            wanted = 400, {"errorMessage": f"ms would set the clock past {GREATEST}", "errorType": "InvalidMilliseconds"}
-            self.check("so is one past the greatest moment", clock.asked("POST", f"/advance?ms={GREATEST}"), wanted)
+            past = 400, {"errorMessage": f"ms would set the clock past {GREATEST}", "errorType": "InvalidMilliseconds"}
+            self.check("so is one past the greatest moment", clock.asked("POST", f"/advance?ms={GREATEST}"), past)
             self.check("and nothing is moved", clock.shown(), ahead)
             self.check("a pause is a POST", ask(service.port, "GET", "/_local/clock/pause")[0], 405)
-            resumed = clock.set("/resume")
-            self.check("it goes on from where it stood", 0 <= resumed[0] - ahead[0] < 1000 and resumed[1], shown=resumed)
+            going = clock.set("/resume")
+            self.check("it goes on from where it stood", 0 <= going[0] - ahead[0] < 1000 and going[1], shown=going)
             time.sleep(0.2)
-            self.check("and runs", 200 <= clock.shown()[0] - resumed[0] < 10_000)
+            self.check("and runs", 200 <= clock.shown()[0] - going[0] < 10_000)
             status, _, body = ask(service.port, "GET", "/_local/version")
             with open(f"{ROOT}/VERSION", encoding="utf-8") as file:
                 version = file.read().strip()
