@@ -9,6 +9,8 @@ from typing import Dict, Iterator, Tuple
 NOTED = os.path.join("tests", "library", "lies.noted")
 OF_TOOLS = "tools/lambda_local/"
 LIES: Dict[str, Tuple[str, str, str, str]] = {
+    "alb_events": ("several_values", OF_TOOLS + "front/alb.py", "found.setdefault(name.lower(), []).append(value)",
+                   "found[name.lower()] = [value]"),
     "authorizers": ("policies", OF_TOOLS + "front/policies.py", 'statement["Effect"] == "Deny"', "False"),
     "ci_files": ("image", "tools/packages/folder.py", "launched(XDG_CACHE_HOME=folder)", "launched(HOME=folder) + 'x'"),
     "compatibility": ("finds", "tests/compatibility/run", 'return "" if old == new else', 'return "" if True else'),

@@ -4,7 +4,7 @@ from typing import Iterator, List, Optional, Union
 
 from ..configuration import Members
 from ..front.routes import WrongRoute
-from . import schedules
+from . import balancers, schedules
 from .authorizers import of_serverless
 from .cors import Tell, cors_of, rest_cors_of
 from .messages import VALUES, excerpt
@@ -115,6 +115,9 @@ class Addresses:
         for event in chosen if isinstance(chosen, list) else ():
             (kind, given), = event.items() if isinstance(event, dict) and len(event) == 1 else [(excerpt(event), None)]
             if kind in READ_OF_SERVERLESS:
+                continue
+            if kind == "alb":
+                yield from balancers.of_serverless(given, self.scope, self.tell)
                 continue
             if kind not in ("httpApi", "http"):
                 self.tell(f"leaves out events: {excerpt(kind)}{sample(kind)}")

@@ -12,8 +12,10 @@ ALIAS, VERSION = "AWS::Lambda::Alias", "AWS::Lambda::Version"
 # Read once the functions are known
 TAKEN_LATER = re.compile(r"AWS::Lambda::(Url|Alias|Version|EventSourceMapping|EventInvokeConfig)|"
                          r"AWS::Serverless::(Http)?Api|AWS::Serverless::Application|AWS::CloudFormation::Stack|"
-                         r"AWS::ApiGateway::(RestApi|Resource|Method|Stage)|"
-                         r"AWS::ApiGatewayV2::(Api|Route|Integration|Stage)|AWS::(Serverless|Lambda)::LayerVersion|"
+                         r"AWS::ApiGateway::(RestApi|Resource|Method|Stage|Authorizer)|"
+                         r"AWS::ApiGatewayV2::(Api|Route|Integration|Stage|Authorizer)|"
+                         r"AWS::ElasticLoadBalancingV2::(LoadBalancer|Listener|ListenerRule|TargetGroup)|"
+                         r"AWS::(Serverless|Lambda)::LayerVersion|"
                          r"AWS::Events::Rule|AWS::Scheduler::Schedule")
 # What a deployment alone has: it is not told
 OF_DEPLOYMENT = re.compile(r"AWS::CDK::Metadata|AWS::IAM::.*|AWS::Lambda::Permission|AWS::Logs::LogGroup|"

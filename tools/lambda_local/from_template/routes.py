@@ -13,6 +13,7 @@ from .values import NO_VALUE, Scope, is_scalar, text_of
 # The APIs of events that name none
 IMPLICIT, IMPLICIT_REST = "ServerlessHttpApi", "ServerlessRestApi"
 OF_SERVERLESS, REST_OF_SERVERLESS = "provider.httpApi", "provider.apiGateway"
+MULTIPLE = "alb, multiValueHeaders"  # the payload of rules whose target group has them
 UNNAMED = {IMPLICIT, IMPLICIT_REST, OF_SERVERLESS, REST_OF_SERVERLESS}
 # What is taken of an API's properties, or has no meaning here
 READ_OF_HTTP = {"Auth", "authorizers", "StageName", "StageVariables", "CorsConfiguration", "Name", "DefinitionBody",
@@ -29,6 +30,8 @@ class Of(NamedTuple):
 
     @property
     def name(self) -> str:
+        if self.payload.startswith(settings.BALANCER):
+            return f"the rules of {self.key}"
         return f"the {'REST' if self.is_rest else 'HTTP'} API {self.key}"
 
 
@@ -146,6 +149,8 @@ class Apis:
 
     def integration(self, of: Of) -> Members:
         """The members that say how requests become events."""
+        if of.payload.startswith(settings.BALANCER):
+            return {"payload": settings.BALANCER, **({"multiValueHeaders": True} if of.payload == MULTIPLE else {})}
         read = READ_OF_REST if of.is_rest else READ_OF_HTTP
         if left := sorted(str(name) for name in set(self.properties.get(of.key, {})) - read):
             tell(f"leaves out {', '.join(left)} of {of.name}")
