@@ -17,6 +17,7 @@ from .log import OUTPUT, Log
 MOST_HELD = 4 << 20  # characters; then a process that prints waits
 PATIENCE = 1.0  # seconds, as long as it waits
 MOST_REMEMBERED = 64  # invocations of an environment
+BETWEEN_MEASURES = 0.2  # seconds at least, of memory before an invocation: at its end it is measured anew
 REST = 0.005  # seconds in which lines come together: each would wake a thread, which every invocation would wait for
 
 
@@ -116,7 +117,7 @@ class InvocationReport(threading.Thread):
         if not isinstance(event, (Begun, Ended)) or event.environment is None:
             return
         held, identifier = self.held[event.environment.number], event.invocation.identifier
-        held.printed.measure()
+        held.printed.measure(BETWEEN_MEASURES if isinstance(event, Begun) else 0.0)
         if isinstance(event, Begun):
             if not held.printed.starts:  # (its runtime was started by somebody else, and prints nothing here)
                 self.begin(held, identifier)
