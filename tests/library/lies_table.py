@@ -44,7 +44,7 @@ LIES: Dict[str, Tuple[str, str, str, str]] = {
               "        os.replace(beside, place + '.new')\n"),
     "forking": ("same_as_fresh", OF_TOOLS + "forker.py", "    sys.argv[:] = [path]\n", "    pass\n"),
     "from_template": ("conditions", OF_TOOLS + "from_template/values.py",
-                      'raise Unknown(f"there is not a condition {condition}")', "return True"),
+                      'raise Unknown(f"there is no condition {condition}")', "return True"),
     "from_template_parts": ("schedules", OF_TOOLS + "from_template/schedules.py",
                             '("Schedule", "ScheduleV2")', '("ScheduleV2",)'),
     "front_answers": ("ends", OF_TOOLS + "front/sending.py",

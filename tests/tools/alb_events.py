@@ -125,8 +125,8 @@ class AlbEvents(Case):
         self.check("of CloudFormation", (made["routes"], made["api"]), (
             {"GET /api/{proxy+}": "F", "GET /one": "F", "$default": "F"},
             {"payload": "alb", "multiValueHeaders": True}))
-        for words in ("leaves out R2 of F, /a*b: a path has a * at its end alone, behind a /",
-                      "leaves out the condition host-header of R3, whose rule takes all requests here"):
+        for words in ("ignores R2 of F, /a*b: a path has a * at its end alone, behind a /",
+                      "ignores the condition host-header of R3, whose rule takes all requests here"):
             self.check(words, words in said.replace('"', ""))
         made, said = up_and_said({"service": "s", "provider": {"runtime": "provided"}, "functions": {
             "f": {"handler": "x", "events": [
@@ -137,4 +137,4 @@ class AlbEvents(Case):
             {f"{method} /{path}": "s-dev-f" for method, path in (
                 ("GET", "hello/{proxy+}"), ("POST", "hello/{proxy+}"), ("ANY", "b"))}, {"payload": "alb"}))
         self.check("no resource is left out", "ElasticLoadBalancing" in said, False)
-        self.check("a host", "leaves out host of conditions of its event alb" in said)
+        self.check("a host", "ignores host of conditions of its event alb" in said)

@@ -33,7 +33,7 @@ def routes_of(paths: List[str], methods: List[str], of: Of, where: str, tell_: T
     for pattern in paths or ["*"]:
         path = path_of(pattern)
         if path is None:
-            tell_(f"leaves out {where}, {excerpt(pattern)}: a path has a * at its end alone, behind a /")
+            tell_(f"ignores {where}, {excerpt(pattern)}: a path has a * at its end alone, behind a /")
             continue
         if path == f"/{DEFAULT}" and methods:
             path = "/{proxy+}"
@@ -41,7 +41,7 @@ def routes_of(paths: List[str], methods: List[str], of: Of, where: str, tell_: T
             try:
                 yield FunctionRoute(key_of(method, path), of)
             except WrongRoute as fault:
-                tell_(f"leaves out {where}: {fault}")
+                tell_(f"ignores {where}: {fault}")
 
 
 def texts_in(given: object) -> List[str]:
@@ -83,7 +83,7 @@ class Groups:
                               and str(one.get("Value")).lower() == "true"
                               for one in (attributes if isinstance(attributes, list) else ()))
             if made is None:
-                tell(f"leaves out {key}, {KIND}TargetGroup: its function is not here")
+                tell(f"ignores {key}, {KIND}TargetGroup: its function is not here")
             self.found[key] = made, is_multiple
 
     def of_actions(self, actions: object, scope: Scope) -> Optional[str]:
@@ -126,5 +126,5 @@ def conditions_of(given: Any, key: str, scope: Scope) -> Tuple[List[str], List[s
         elif field == "http-request-method":
             methods += texts_in((whole.get("HttpRequestMethodConfig") or {}).get("Values"))
         else:
-            tell(f"leaves out the condition {excerpt(field)} of {key}, whose rule takes all requests here")
+            tell(f"ignores the condition {excerpt(field)} of {key}, whose rule takes all requests here")
     return paths, methods

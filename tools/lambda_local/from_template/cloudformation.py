@@ -62,7 +62,7 @@ def properties_of(key: str, resource: Members, shared: Members, scope: Scope) ->
     """Returns a function's properties; None, with a report, if they cannot be read."""
     properties: object = scope.chosen(resource.get("Properties", {}))
     if not isinstance(properties, dict):
-        tell(f"leaves out {key}: its Properties must be an object, not {excerpt(properties)}")
+        tell(f"ignores {key}: its Properties must be an object, not {excerpt(properties)}")
         return None
     if resource["Type"] == SAM_FUNCTION:
         properties = with_globals(properties, shared)
@@ -82,10 +82,10 @@ def is_wanted(key: str, resource: Members, scope: Scope) -> bool:
     try:
         is_met = scope.holds(condition)
     except Unknown as reason:
-        tell(f"{key}: it is taken, since its condition {condition} is not known here: {reason}")
+        tell(f"{key}: it is kept, since its condition {condition} cannot be worked out here: {reason}")
         return True
     if not is_met:
-        tell(f"leaves out {key}: its condition {condition} is not met")
+        tell(f"ignores {key}: its condition {condition} is not met")
     return is_met
 
 
@@ -106,7 +106,7 @@ def is_for_later(kind: str) -> bool:
 
 def functions_in(template: Members, scope: Scope) -> List[Tuple[str, Members]]:
     """Each function's logical id and properties. Their aliases and versions are noted in the scope."""
-    left, functions = LineGroups("leaves out {names}, {line}"), []
+    left, functions = LineGroups("ignores {names}, {line}"), []
     shared, apart = members_of(members_of(template, "Globals"), "Function"), of_deployment(scope.resources)
     for key, resource in scope.resources.items():
         kind = type_of(resource) or excerpt(resource.get("Type") if isinstance(resource, dict) else resource)
@@ -115,7 +115,7 @@ def functions_in(template: Members, scope: Scope) -> List[Tuple[str, Members]]:
         if kind not in (FUNCTION, SAM_FUNCTION):
             left.add(str(key), kind)
         elif key in apart:
-            tell(f"leaves out {key}, which serves custom resources of a deployment")
+            tell(f"ignores {key}, which serves custom resources of a deployment")
         elif is_wanted(key, resource, scope):
             properties = properties_of(key, resource, shared, scope)
             if properties is not None:
