@@ -10,7 +10,7 @@ from .messages import excerpt, tell
 from .named import function_of, resources_of
 from .objects import Object, Tell
 from .routes import MULTIPLE, FunctionRoute, Of, key_of
-from .values import Scope
+from .values import Scope, members_of
 
 KIND = "AWS::ElasticLoadBalancingV2::"
 MULTIPLE_ATTRIBUTE = "lambda.multi_value_headers.enabled"
@@ -122,9 +122,9 @@ def conditions_of(given: Any, key: str, scope: Scope) -> Tuple[List[str], List[s
         whole = condition if isinstance(condition, dict) else {}
         field = whole.get("Field")
         if field == "path-pattern":
-            paths += texts_in(whole.get("Values")) + texts_in((whole.get("PathPatternConfig") or {}).get("Values"))
+            paths += texts_in(whole.get("Values")) + texts_in(members_of(whole, "PathPatternConfig").get("Values"))
         elif field == "http-request-method":
-            methods += texts_in((whole.get("HttpRequestMethodConfig") or {}).get("Values"))
+            methods += texts_in(members_of(whole, "HttpRequestMethodConfig").get("Values"))
         else:
             tell(f"ignores the condition {excerpt(field)} of {key}, whose rule takes all requests here")
     return paths, methods
