@@ -40,7 +40,7 @@ export interface FunctionMembers {
 
 export type Functions = Record<string, Handler | FunctionMembers>;
 
-/** An UP.json, or a template of SAM, CDK or Serverless, whose functions run in processes of their own. */
+/** An UP.json, a template of SAM, CDK or Serverless, or a folder with one: its functions run in their own processes. */
 export interface File {
   file: string;
 }

@@ -3,34 +3,19 @@
 const fs = require("node:fs");
 const os = require("node:os");
 const path = require("node:path");
-const { Child, LAUNCHER, run } = require("./child.js");
+const { Child, LAUNCHER } = require("./child.js");
 
 // Its command: it says the address once all is ready, and runs until it reads a line; then `up` stops all in order. Its
 // standard input ends without one if this process was killed: then nobody is left who would remove the folder.
 const COMMAND = ["/bin/sh", "-c", 'echo "$AWS_ENDPOINT_URL_LAMBDA $AWS_REGION"; read -r _ || rm -rf "$0"'];
 const SAID = /^(http:\S+) (\S+)$/m;
 
-// The UP.json of a file: that itself, or what from_template makes of it.
-async function upOf(file, folder, options) {
-  let text;
+// `up` reads an UP.json and templates. That there is a file can be said without Python.
+function refuseMissing(file) {
   try {
-    text = fs.readFileSync(file, "utf8");
+    fs.accessSync(file, fs.constants.R_OK);
   } catch (fault) {
     throw new Error(`${file}: ${fault.code}: name an UP.json or a template`, { cause: fault });
-  }
-  if (isUp(text)) return file;
-  const made = path.join(folder, "up.json");
-  const { status, lines } = await run(["from_template", file, "-o", made], options);
-  if (status !== 0) throw new Error(lines.slice(-1)[0] ?? `from_template ended with status ${status}`);
-  for (const line of lines) process.stderr.write(`${line}\n`); // (what is left out, and placeholders)
-  return made;
-}
-
-function isUp(text) {
-  try {
-    return Array.isArray(JSON.parse(text)?.functions);
-  } catch {
-    return false;
   }
 }
 
@@ -44,7 +29,8 @@ function asJSON(line) {
 
 class Up {
   static async ofFile(file, options) {
-    return Up.inFolder(options, (folder) => upOf(file, folder, options));
+    refuseMissing(file);
+    return Up.inFolder(options, () => file);
   }
 
   // Functions without a command: their runtimes are in this process.
@@ -63,7 +49,7 @@ class Up {
   static async inFolder(options, fileIn) {
     const folder = fs.mkdtempSync(path.join(os.tmpdir(), "lambda_local."));
     try {
-      return await new Up(folder, options).begin(await fileIn(folder));
+      return await new Up(folder, options).begin(fileIn(folder));
     } catch (fault) {
       fs.rmSync(folder, { recursive: true, force: true });
       throw fault;
@@ -88,11 +74,12 @@ class Up {
     return this;
   }
 
-  // A line of its log: where environments and URLs are; and what functions print, and what goes wrong, is passed on.
+  // A line of its log: where environments and URLs are; and what functions print, what it leaves out of a template, and
+  // what goes wrong, is passed on.
   take({ kind, level, source, text, function: name, environment, port, endpoint }) {
     if (kind === "address" && environment !== undefined) this.places.push({ name, port });
     else if (kind === "address" && name !== undefined) this.urls[name] = endpoint;
-    else if (kind === "output" || kind === undefined || level === "warning" || level === "error") {
+    else if (["output", "template", undefined].includes(kind) || level === "warning" || level === "error") {
       process.stderr.write(`[${source ?? "up"}] ${text}\n`);
     }
   }

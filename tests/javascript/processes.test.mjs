@@ -97,17 +97,20 @@ test("the functions of an UP.json run in processes, at their URLs too", { skip }
     }));
 });
 
-test("the functions of a template run in processes", { skip }, () => {
+test("the functions of a template run in processes, by its name or by its folder", { skip }, () => {
   const template = {
     AWSTemplateFormatVersion: "2010-09-09", Transform: "AWS::Serverless-2016-10-31",
     Resources: { Greet: { Type: "AWS::Serverless::Function",
       Properties: { FunctionName: "greet", Runtime: "nodejs20.x", Handler: "app.greet", CodeUri: "." } } },
   };
   const app = "exports.greet = async (event) => ({ hello: event.name });";
-  return inFolder({ "app.cjs": app, "template.json": JSON.stringify(template) }, (folder) =>
-    withService({ file: path.join(folder, "template.json") }, async (service) => {
-      assert.deepEqual(await service.invoke("greet", { name: "Ada" }), { hello: "Ada" });
-    }));
+  return inFolder({ "app.cjs": app, "template.json": JSON.stringify(template) }, async (folder) => {
+    for (const file of [path.join(folder, "template.json"), folder]) {
+      await withService({ file }, async (service) => {
+        assert.deepEqual(await service.invoke("greet", { name: "Ada" }), { hello: "Ada" });
+      });
+    }
+  });
 });
 
 test("a mistake in an UP.json is one line", { skip }, () =>

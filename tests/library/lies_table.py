@@ -9,6 +9,8 @@ from typing import Dict, Iterator, Tuple
 NOTED = os.path.join("tests", "library", "lies.noted")
 OF_TOOLS = "tools/lambda_local/"
 LIES: Dict[str, Tuple[str, str, str, str]] = {
+    "alb_events": ("several_values", OF_TOOLS + "front/alb.py", "found.setdefault(name.lower(), []).append(value)",
+                   "found[name.lower()] = [value]"),
     "authorizers": ("policies", OF_TOOLS + "front/policies.py", 'statement["Effect"] == "Deny"', "False"),
     "ci_files": ("image", "tools/packages/folder.py", "launched(XDG_CACHE_HOME=folder)", "launched(HOME=folder) + 'x'"),
     "clock": ("times", OF_TOOLS + "clock/durations.py", "        if UNITS[unit] >= before:\n", "        if False:\n"),
@@ -43,7 +45,7 @@ LIES: Dict[str, Tuple[str, str, str, str]] = {
               "        os.replace(beside, place + '.new')\n"),
     "forking": ("same_as_fresh", OF_TOOLS + "forker.py", "    sys.argv[:] = [path]\n", "    pass\n"),
     "from_template": ("conditions", OF_TOOLS + "from_template/values.py",
-                      'raise Unknown(f"there is not a condition {condition}")', "return True"),
+                      'raise Unknown(f"there is no condition {condition}")', "return True"),
     "from_template_parts": ("schedules", OF_TOOLS + "from_template/schedules.py",
                             '("Schedule", "ScheduleV2")', '("ScheduleV2",)'),
     "front_answers": ("ends", OF_TOOLS + "front/sending.py",

@@ -44,7 +44,7 @@ def auth(event, context):
 '''
 PYTHON = {"runtime": "python", "timeout": 20, "environments": 1}
 FUNCTIONS = [{"name": "f", "handler": "app.run", **PYTHON}, {"name": "auth", "handler": "app.auth", **PYTHON}]
-REST, HTTP1, HTTP = {"payload": "1.0"}, {"payload": "1.0", "type": "HTTP"}, {}
+REST, HTTP1 = {"payload": "1.0"}, {"payload": "1.0", "type": "HTTP"}
 HEADER = ["$request.header.Token"]
 BY_FUNCTION = {"function": "auth", "identity": HEADER}
 API = {  # further APIs by their names, each with one route or more

@@ -183,12 +183,6 @@ def resets_at_once(side):
     side.resets()
 
 
-def answers_twice(side):
-    side.read(2 * len(NEXT))
-    side.send(FINE + FINE)
-    side.takes(1)
-
-
 def asks_twice_at_once(side):
     side.send(NEXT + NEXT)
     side.takes(2 * len(FINE))

@@ -46,9 +46,9 @@ class FromTemplate(TemplateCase):
                 "A": "1", "LIVE": "true", "OTHER": "orders-dev-us-east-1",
                 "ARN": "arn:aws:lambda:us-east-1:123456789012:function:orders-dev-us-east-1",
                 "QUEUE": "Queue.Arn", "MODE": "Open", "WHO": "123456789012/${Raw}"}},
-        }, "leaves out Table, AWS::DynamoDB::Table", "One: leaves out the layer x, whose content is not here",
-        "leaves out Table, AWS::DynamoDB::Table, which another service must have (docs/services.md): B of One names it",
-            "Four: it is called Four, since its FunctionName is not known here: it needs the parameter Open, which has "
+        }, "ignores Table, AWS::DynamoDB::Table", "One: ignores the layer x, whose content is not here",
+        "ignores Table, AWS::DynamoDB::Table, which another service must have (docs/services.md): B of One names it",
+            "Four: it is named Four, since its FunctionName is not known here: it needs the parameter Open, which has "
             "no Default",
             "Four: the variable MODE is Open, a placeholder for the parameter Open",
             "Four: the variable QUEUE is Queue.Arn")
@@ -64,7 +64,7 @@ class FromTemplate(TemplateCase):
                    "directory": "asset.1"},
             "orders-Shop": {"name": "orders-Shop", "handler": "bootstrap"},
         }, "F1: there is no ", "orders-Shop: has no command, since its code is not here",
-            "asset.1/bootstrap yet: build it", "orders-Shop: leaves out Code, which is not a folder here",
+            "asset.1/bootstrap yet: build it", "orders-Shop: ignores Code, which is not a folder here",
         name="Shop.template.json", folders=["asset.1"])
         self.case("CDK, a folder that is not there yet", {"Resources": {"F1": asset}}, {"F1": {
             "name": "F1", "handler": "bootstrap", "command": ["./bootstrap"],
@@ -86,14 +86,14 @@ class FromTemplate(TemplateCase):
                               "variables": {"STAGE": "dev"}},
             "ship": {"name": "ship", "handler": "app.ship", "timeout": 6, "memory": 1024,
                      "variables": {"STAGE": "dev"}},
-        }, "leaves out plugins", "leaves out events", "SECRET is /shop/key, a placeholder for ${ssm:/shop/key}",
-        "leaves out the variable NOTHING, which has no value",
-            "ship: it is called ship, since its FunctionName is not known here: it needs ${cf:other.Name}",
+        }, "ignores plugins", "ignores events", "SECRET is /shop/key, a placeholder for ${ssm:/shop/key}",
+        "ignores the variable NOTHING, which has no value",
+            "ship: it is named ship, since its FunctionName is not known here: it needs ${cf:other.Name}",
             "ship: has no command, since its code is an image", name="serverless.yml")
         made, said = made_of({"service": "s", "provider": {"runtime": "provided"},
                               "custom": {"a": "${self:custom.b}", "b": "${self:custom.a}"},
                               "functions": {"f": {"handler": "x", "environment": {"A": "${self:custom.a}"}}}})
-        circle = "leaves out the variable A: its expressions are nested too deep, or go round in a circle"
+        circle = "ignores the variable A: its expressions are nested too deep, or go round in a circle"
         self.check("Serverless: variables in a circle", (made["s-dev-f"].get("variables"), circle in said),
                    (None, True))
 
@@ -128,21 +128,21 @@ class FromTemplate(TemplateCase):
             "SPLIT": "x", "TABLE": "orders-dev", "KEY": "/key",
             "STACK": "arn:aws:cloudformation:us-east-1:123456789012:stack/Shop/00000000-0000-0000-0000-000000000000",
             "IMPORT": "net", "SECRET": "{{resolve:secretsmanager:x}}"}),
-            "leaves out Off: its condition IsProd is not met",
+            "ignores Off: its condition IsProd is not met",
             "the variable KEY is /key, a placeholder for the parameter Key, whose value is in the Parameter Store",
             "IMPORT is net, a placeholder for the export net", "SECRET is {{resolve:secretsmanager:x}}, a placeholder",
-            "leaves out the variable NULL, which has no value",
-            "leaves out the variable LIST: [1] is not a string",
-            "leaves out the variable CIDR: Fn::Cidr is not worked out here",
-            "leaves out the variable BAD: Fn::Join needs a separator and a list",
+            "ignores the variable NULL, which has no value",
+            "ignores the variable LIST: [1] is not a string",
+            "ignores the variable CIDR: Fn::Cidr is not worked out here",
+            "ignores the variable BAD: Fn::Join needs a separator and a list",
             name="Shop.json")
 
     def test_conditions(self):
         """A function whose condition cannot be worked out is taken, and that is said."""
         for name, conditions, reason in (
-                ("one that the template does not have", {}, "there is not a condition Wanted"),
+                ("one that the template does not have", {}, "there is no condition Wanted"),
                 ("one by another that it does not have", {"Wanted": {"Fn::Not": [{"Condition": "Other"}]}},
-                 "there is not a condition Other"),
+                 "there is no condition Other"),
                 ("a circle", {"Wanted": {"Condition": "Other"}, "Other": {"Fn::Not": [{"Condition": "Wanted"}]}},
                  "its conditions go round in a circle"),
                 ("a number", {"Wanted": 5}, "5 is not a condition"),
@@ -151,10 +151,10 @@ class FromTemplate(TemplateCase):
             template: Members = {**function_of(), "Conditions": conditions}
             template["Resources"]["F"]["Condition"] = "Wanted"
             self.case(f"a condition: {name}", template, made_function(),
-                      f"F: it is taken, since its condition Wanted is not known here: {reason}")
+                      f"F: it is kept, since its condition Wanted cannot be worked out here: {reason}")
         self.case("a value by a condition that is not there",
                   function_of(Environment={"Variables": {"A": {"Fn::If": ["Wanted", "yes", "no"]}}}), made_function(),
-                  "F: leaves out the variable A: there is not a condition Wanted")
+                  "F: ignores the variable A: there is no condition Wanted")
 
     def test_code(self):
         self.case("an image", function_of(PackageType="Image", Runtime=None), {"F": {"name": "F"}},
@@ -176,7 +176,7 @@ class FromTemplate(TemplateCase):
                   {"F": {"name": "F", "handler": "index.x", "inline": "x", **python("index.x")}})
         far = {name: value for name, value in made_function()["F"].items() if name not in ("runtime", "command")}
         self.case("code far away", function_of(CodeUri="s3://far/away"), {"F": far},
-                  "leaves out CodeUri, which is not a folder here", "F: has no command, since its code is not here")
+                  "ignores CodeUri, which is not a folder here", "F: has no command, since its code is not here")
         self.case("code of CloudFormation's package", function_of(Code="src"), made_function(directory="src"))
         self.case("Node without its client", function_of(Runtime="nodejs20.x", Handler="a.b"),
                   {"F": {"name": "F", "handler": "a.b", "runtime": "node"}})
@@ -209,7 +209,7 @@ class FromTemplate(TemplateCase):
         for name, value in (("Timeout", 901), ("Timeout", 0), ("Timeout", "soon"), ("Timeout", 2.5), ("Timeout", True),
                             ("Timeout", {}), ("MemorySize", [1]), ("ReservedConcurrentExecutions", -1)):
             self.case(f"{name} {value!r}", function_of(**{name: value}), made_function(),
-                      f"F: leaves out {name}: it must be a whole number from ")
+                      f"F: ignores {name}: it must be a whole number from ")
         many = {"Resources": {f"F{number}": function_of(ReservedConcurrentExecutions=20)["Resources"]["F"]
                               for number in range(70)}}
         made, said = made_of(many)
@@ -218,16 +218,16 @@ class FromTemplate(TemplateCase):
 
     def test_names(self):
         self.case("a name that is none", function_of(FunctionName="a b"), made_function(),
-                  "F: it is called F, since its FunctionName is not known here: a b is not a name of 1 to 64 "
+                  "F: it is named F, since its FunctionName is not known here: a b is not a name of 1 to 64 "
                   "letters, digits, - and _")
-        self.case("a name that is too long", function_of(FunctionName="x" * 65), made_function(), "it is called F")
+        self.case("a name that is too long", function_of(FunctionName="x" * 65), made_function(), "it is named F")
         self.case("a name that is a number", function_of(FunctionName=5),
                   {"5": {"name": "5", "command": ["./bootstrap"]}})
         twice = {"Resources": {key: function_of(FunctionName="same")["Resources"]["F"] for key in ("A", "B", "same")}}
         made, said = made_of(twice)
         self.check("a name that appears twice", sorted(made), ["B", "same", "same-2"])
-        self.check("and what is said", "B: it is called B, since another function is called same" in said)
+        self.check("and what is said", "B: it is named B, since another function is named same" in said)
         self.case("variables with other names", function_of(Environment={"Variables": {"A=B": 1, "": 2, "C": 3}}),
-                  made_function(variables={"C": "3"}), "leaves out the variable A=B: its name must")
+                  made_function(variables={"C": "3"}), "ignores the variable A=B: its name must")
         self.case("a handler that is none", function_of(Handler="a\nb"), made_function(),
-                  "F: leaves out Handler: it must be a string of 1 to 128 printable characters")
+                  "F: ignores Handler: it must be a string of 1 to 128 printable characters")

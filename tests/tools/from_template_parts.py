@@ -208,9 +208,9 @@ class FromTemplateParts(TemplateCase):
                   **python("app.run")},
             "G": {"name": "G", "directory": "src", "handler": "app.run", "layers": ["src"],
                   **python("app.run")}},
-            "G: the layer Built is built from src: build it", "G: leaves out the layer Far, whose content is not here",
-            "G: leaves out the layer Gone: not/here is not a folder or .zip file (yet)",
-            "G: leaves out the layer arn:aws:lambda:us-east-1:1:layer:x:1, whose content is not here",
+            "G: the layer Built is built from src: build it", "G: ignores the layer Far, whose content is not here",
+            "G: ignores the layer Gone: not/here is not a folder or .zip file (yet)",
+            "G: ignores the layer arn:aws:lambda:us-east-1:1:layer:x:1, whose content is not here",
             folders=("src", "layer/python"))
         if HAS_YAML:
             self.case("the layers of a serverless.yml", "service: s\nprovider: {name: aws, runtime: python3.12}\n"
@@ -239,7 +239,7 @@ class FromTemplateParts(TemplateCase):
         self.case("one that is not enabled, and one that is none here", sam(
             A={"Type": "Schedule", "Properties": {"Schedule": "rate(1 hour)", "Enabled": False}},
             B={"Type": "ScheduleV2", "Properties": {"ScheduleExpression": "at(2030-01-01T00:00:00)"}}), made(None),
-            "F: leaves out its event A, which is not enabled", "F: leaves out its event B, at(2030-01-01T00:00:00): ")
+            "F: ignores its event A, which is not enabled", "F: ignores its event B, at(2030-01-01T00:00:00): ")
         cdk = {"Resources": {
             "Fn1": {"Type": "AWS::Lambda::Function", "Properties": {"Runtime": "python3.12", "Handler": "app.run"},
                     "Metadata": {"aws:asset:path": "src"}},
@@ -252,7 +252,7 @@ class FromTemplateParts(TemplateCase):
                                                  "handler": "app.run",
                                                  "schedule": {"expression": "rate(1 day)", "input": {"from": "rule"}},
                                                  **python("app.run")}},
-                  "Rule2: leaves out this AWS::Events::Rule, which has no ScheduleExpression")
+                  "Rule2: ignores this AWS::Events::Rule, which has no ScheduleExpression")
         if HAS_YAML:
             self.case("schedules of a serverless.yml",
                       "service: s\nprovider: {name: aws, runtime: python3.12}\nfunctions:\n"
@@ -263,7 +263,7 @@ class FromTemplateParts(TemplateCase):
                                       "memory": 1024,
                                       "schedule": ["rate(10 minutes)",
                                                    {"expression": "cron(0 12 * * ? *)", "input": {"a": 1}}],
-                                      **python("app.run")}}, "leaves out its schedule, which is not enabled",
+                                      **python("app.run")}}, "ignores its schedule, which is not enabled",
                       name="serverless.yml")
 
     def test_grouped(self):
@@ -274,7 +274,7 @@ class FromTemplateParts(TemplateCase):
         _, said = made_of({"Resources": {"F": of, "G": of, "H": of, "Table": {"Type": "AWS::DynamoDB::Table"}}})
         lines = [line for line in said.splitlines() if "Table" in line]
         self.check("a table that three functions name is one line", lines, [
-            "from_template: leaves out Table, AWS::DynamoDB::Table, which another service must have "
+            "from_template: ignores Table, AWS::DynamoDB::Table, which another service must have "
             "(docs/services.md): TABLE of F, G, H names it"])
         of["Properties"]["Environment"]["Variables"]["TABLE"] = {"Ref": "Other"}
         _, said = made_of({"Resources": {"F": of, "G": of, "H": of}})

@@ -30,7 +30,7 @@ from lambda_local.service import Fault
 from lambda_local.timeline.refused import with_refusals
 from lambda_local.up import members, output
 from tests import ROOT
-from tests.library import given_fuzz, http_fuzz, strategies
+from tests.library import given_fuzz, http_fuzz, identity_fuzz, strategies
 from tests.library.cases import Case
 from tests.library.given_fuzz import CONTROL, is_a_line
 
@@ -254,6 +254,7 @@ PARTS = {name: (reader, original, inputs_of(original)) for name, reader, origina
     ("output", of_output, b"a\r\n\x1b[1mb"))}
 PARTS.update(http_fuzz.parts(some, mutated))
 PARTS.update(given_fuzz.parts(some, mutated, inputs_of))
+PARTS.update(identity_fuzz.parts(of_templates, inputs_of))
 
 
 def tried_with(number, reader, inputs, end):
@@ -374,3 +375,18 @@ class Fuzz(Case):
 
     def test_projects(self):
         self.fuzz("projects")
+
+    def test_authorizers(self):
+        self.fuzz("authorizers")
+
+    def test_tokens(self):
+        self.fuzz("tokens")
+
+    def test_answers(self):
+        self.fuzz("answers")
+
+    def test_behind_alb(self):
+        self.fuzz("behind_alb")
+
+    def test_template_routes(self):
+        self.fuzz("template_routes")

@@ -182,11 +182,11 @@ class Histories(Case):
     def test_comparison(self):
         for name, text, words in (
             ("the same", HISTORY, None), ("a script", ONE + "\n0 tick\n",
-                                          "line 2: the history ends, and the replay answers `0 0 done`"),
+                                          "line 2: the history ends here, but the replay also answers `0 0 done`"),
             ("another answer", HISTORY.replace("output =2", "output =3"),
-             "line 7: the history has `2 1 output =3`, and the replay answers `2 1 output =2`"),
+             "line 7: the history has `2 1 output =3`, but the replay answers `2 1 output =2`"),
             ("one too many", HISTORY + "# 9 9 done\n",
-             "line 9: the history has `9 9 done`, and the replay has no more answers"),
+             "line 9: the history has `9 9 done`, but the replay ends before it"),
         ):
             with script(text) as one:
                 self.check(f"a history: {name}", compared(one, PROGRAM).difference, words)

@@ -111,7 +111,7 @@ class History(Case):
             self.check(f"{name} is refused", seen.startswith("F: line 3 "), shown=seen)
         for name, wrong in WRONG_ANSWERS.items():
             seen = recorded(f"1 next 1\n# {wrong}", extensions="")
-            self.check(f"{name} is refused", seen.startswith(f"F: line 4: the history has `{wrong}`, and the replay "),
+            self.check(f"{name} is refused", seen.startswith(f"F: line 4: the history has `{wrong}`, but the replay "),
                        shown=seen)
         self.check("a comment is no answer", recorded("# 1\n1 next 1\n# 0\n#\n# x y z", extensions=""), "is read")
         for name, text in {"nothing": "", "5,000 levels": "form 2\n" + "[" * 5000, "a list": "form 2\n[]"}.items():
@@ -127,8 +127,8 @@ class History(Case):
         self.check("5,000 levels", recorded(extensions="[" * 5000 + "]" * 5000).startswith("F: configuration: NotJson"),
                    True)
         self.check("an answer that is none", recorded("1 tick\n# 0 0 dances"),
-                   "F: line 4: the history has `0 0 dances`, and the replay answers `0 0 done`: the history was "
-                   "edited, or is of another version of lambda_local")
+                   "F: line 4: the history has `0 0 dances`, but the replay answers `0 0 done`: the history was "
+                   "edited, or recorded by another version of lambda_local")
 
     def test_follows(self):
         body = line(0) + line(1) + line(2)

@@ -220,7 +220,7 @@ class Hostile(Case):
             self.write("serverless.yml", "useDotenv: true\n" + of_serverless("${env:SECRET, 'none'}"))
             os.symlink("../secret.env", os.path.join(self.folder, ".env"))
             seen = self.seen(self.folder)
-            self.check(".env", (SECRET in seen, "leaves out .env" in seen), (False, True), shown=seen)
+            self.check(".env", (SECRET in seen, "ignores .env" in seen), (False, True), shown=seen)
 
     def test_links_of_an_assembly(self) -> None:
         template = {"Resources": {SECRET: function()}}

@@ -253,19 +253,19 @@ class Launcher(Case):
             answers = sum(1 for line in history.splitlines() if re.match(r"# \d+ \d+ ", line))
             seen = run(root, "check", "examples/timeout.txt")
             self.check("a history with its own answers", seen,
-                       (0, f"examples/timeout.txt: the same {answers} answers\n", ""))
+                       (0, f"examples/timeout.txt: the replay gives the same {answers} answers\n", ""))
             changed = history.replace("# 3 3 done", "# 3 3 refused State")
             at = changed.splitlines().index("# 3 3 refused State") + 1
             status, output, said = run(root, "check", "-", stdin=changed)
             self.check("a changed answer is named with its line", (status, output, said),
-                       (1, "", f"check: -: line {at}: the history has `3 3 refused State`, and the replay answers "
+                       (1, "", f"check: -: line {at}: the history has `3 3 refused State`, but the replay answers "
                                "`3 3 done`\n"))
             status, output, said = run(root, "check", "-", stdin=changed.replace("# 3 3 refused State\n", ""))
             self.check("a missing answer too", (status, f"line {at + 2}:" in said,
                                                 "the replay answers `3 3 done`" in said),
                        (1, True, True))
             status, output, said = run(root, "check", "-", stdin=history + "# 99 99 done\n")
-            self.check("and one too many", (status, "has `99 99 done`, and the replay has no more answers" in said),
+            self.check("and one too many", (status, "has `99 99 done`, but the replay ends before it" in said),
                        (1, True))
             for name, text, word in (("a script without answers", text_of(ROOT, "examples", "first_call.txt"),
                                       "no answers to compare with"),

@@ -111,12 +111,12 @@ class Rerun(Case):
             ("another file", "hello\n", "2: h: configuration: NotJson"),
             ("nothing", "", "2: h: configuration: NotJson"),
             ("a script", 'form 2\n{"account":"123456789012","region":"us-east-2","functions":[]}\n',
-             "2: h: this is a script or another file, and no history"),
+             "2: h: this is not a history"),
             ("a line that is none", HISTORY + "70 jump\n",
              "2: h: line 20 is not a call: `70 jump`"),
             ("one that is cut", HISTORY[:-1], "2: h: line 19 has no end: the history is cut off"),
             ("one with a gap", HISTORY.replace("# 5 2 output", "# 6 2 output"),
-             '2: h: line 12: the history has `6 2 output ="one"`, and the replay answers `5 2 output ="one"`'),
+             '2: h: line 12: the history has `6 2 output ="one"`, but the replay answers `5 2 output ="one"`'),
         ):
             said = fault_of(record.parsed, text, "h", PROGRAM)
             self.check(f"no history: {name}", said if words not in said else words, words)

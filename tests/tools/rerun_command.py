@@ -220,7 +220,7 @@ class RerunCommand(Case):
                 json.dump({"functions": [{"name": "g", "command": "true"}]}, file)
             for name, arguments, words in (
                 ("a file that is no history", (script, old),
-                 f"{script}: this is a script or another file, and no history"),
+                 f"{script}: this is not a history"),
                 ("no file", ("/nowhere/h", old), "/nowhere/h: No such file or directory"),
                 ("no UP.json", (history, "/nowhere/up"), "/nowhere/up: No such file or directory"),
                 ("a function that is not there", (history, other),
@@ -228,7 +228,7 @@ class RerunCommand(Case):
                 ("a pointer that is none", ("--ignore", "x", history, old), "--ignore x: a JSON pointer begins with /"),
                 ("a command that exits", (history, up_json(folder, "exit")),
                  "exit.json: not ready: f/1, whose Init fails"),
-                ("a service that ends", (history, up_json(folder, "stop")), "the service has ended "),
+                ("a service that ends", (history, up_json(folder, "stop")), "the service ended "),
                 ("a port in use", (history, up_json(folder, "old", invokePort=taken.getsockname()[1])),
                  str(taken.getsockname()[1])),
             ):

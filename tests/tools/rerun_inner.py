@@ -102,10 +102,10 @@ class RerunInner(Case):
         same, other = made(2, "pay", Made(1)), made(3, "pay", Made(1), b"2")
         self.check("verdicts", [of_made(same, one, [])[1:3] for one in (same, other, None)], [
             ("equal", []), ("changed", ["its event: the whole: 1 -> 2"]),
-            ("changed", ["only then: no function makes it now"])])
+            ("changed", ["recorded, but no function makes it now"])])
         self.check("a failure now", of_made(same, other._replace(kind="timeout", body=None), [])[1:3],
                    ("failed now", ["its event: the whole: 1 -> 2", "timeout"]))
-        self.check("a new one", of_new(other)[1:3], ("changed", ["only now: a function makes it, output 1"]))
+        self.check("a new one", of_new(other)[1:3], ("changed", ["new, a function makes it now: output 1"]))
 
     def test_of_commands(self):
         """For runtimes that make no root, the front does."""
@@ -141,6 +141,6 @@ class RerunInner(Case):
             self.check("an inner one with another event, and one more: all others as they were", (status, lines), (1, [
                 *[line for number in (1, 2, 3) for line in (
                     'changed: call N, pay: its event: /by: only now: "card"', f'  its event: {{"of": {number}}}')],
-                'changed: a new call, mail: only now: a function makes it, output "sent"', '  its event: {"more": 1}',
+                'changed: a new call, mail: new, a function makes it now: output "sent"', '  its event: {"more": 1}',
                 "10 invocations: 6 equal, 4 changed"]), shown=output)
             self.check("and paid once more", paid(), 9)

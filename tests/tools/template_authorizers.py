@@ -62,11 +62,11 @@ class TemplateAuthorizers(Case):
             "request": {"function": "A", "identity": ["$request.header.H", "$request.querystring.q",
                                                       "$stageVariables.v", "$context.c"]},
             "pool": {"jwt": {}, "scopes": ["one"]}}))
-        for words in ("leaves out the authorizer \"AWS_IAM\" of GET /iam of F, which takes each caller\n",
-                      "leaves out the authorizer x of GET /none of F, which takes each caller: the REST API R has none",
-                      "leaves out the authorizer Strange of the REST API R, so its routes take each caller: there is "
-                      "no function", "leaves out ApiKeyRequired of Auth of GET /strange of F",
-                      "leaves out UsagePlan of Auth of the REST API R"):
+        for words in ("ignores the authorizer \"AWS_IAM\" of GET /iam of F, which takes each caller\n",
+                      "ignores the authorizer x of GET /none of F, which takes each caller: the REST API R has none",
+                      "ignores the authorizer Strange of the REST API R, so its routes take each caller: there is "
+                      "no function", "ignores ApiKeyRequired of Auth of GET /strange of F",
+                      "ignores UsagePlan of Auth of the REST API R"):
             self.check(words, words.replace('\"', "") in said.replace('"', ""))
 
     def test_sam_http(self):
@@ -117,7 +117,7 @@ class TemplateAuthorizers(Case):
             "jwt": {"jwt": {"issuer": "https://me", "audience": ["a", "b"]}, "scopes": ["s"],
                     "identity": ["$request.header.Authorization"]},
             "own": {"function": "A", "identity": ["$request.querystring.k"], "ttl": 7, "payload": "1.0"}}))
-        self.check("signatures", "leaves out the authorizer of the route GET /iam, AWS_IAM: it takes each" in said)
+        self.check("signatures", "ignores the authorizer of the route GET /iam, AWS_IAM: it takes each" in said)
 
     def test_serverless(self):
         made, said = up_and_said({
@@ -147,7 +147,7 @@ class TemplateAuthorizers(Case):
             "named": {"function": "s-dev-auth", "type": "TOKEN"},
             "request": {"function": "s-dev-auth", "identity": ["method.request.header.A"], "ttl": 0},
             "pool": {"jwt": {}, "scopes": ["s"]}}))
-        for words in ("leaves out the authorizer aws_iam of get /iam, which takes each caller",
+        for words in ("ignores the authorizer aws_iam of get /iam, which takes each caller",
                       "so its routes take each caller: there is no function"):
             self.check(words, words in said)
 

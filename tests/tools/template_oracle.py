@@ -74,7 +74,7 @@ def resources(whole, *kinds):
 
 
 def properties(given):
-    """What of a function's properties is compared: the translator leaves out what is empty."""
+    """What of a function's properties is compared: the translator ignores what is empty."""
     found = {name: plain(given[name]) for name in COMPARED if given.get(name) not in (None, [], {})}
     # (the translator names a layer by its content)
     text = re.sub(r'("Ref": "[A-Za-z]+)[0-9a-f]{10}"', r'\1"', json.dumps(found.get("Layers", [])))

@@ -69,9 +69,9 @@ class TemplateRoutes(Case):
         self.check("SAM: URLs", [function["url"] for function in made["functions"]],
                    [{"cors": {"allowOrigins": ["https://shop.example"], "allowCredentials": True, "maxAge": 60}}, True])
         for words in ("F: its URL takes requests without a signature here",
-                      "F: leaves out allowMethods of the Cors of its URL: x",
-                      "F: leaves out its event C, S3",
-                      "G: leaves out the route GET /orders/{other}, since F has GET /orders/{id}"):
+                      "F: ignores allowMethods of the Cors of its URL: x",
+                      "F: ignores its event C (S3)",
+                      "G: ignores the route GET /orders/{other}, since F has GET /orders/{id}"):
             self.check(f"SAM: {words}", words in said)
         made, said = up_and_said({"service": "s", "provider": {"runtime": "provided"}, "functions": {
             "f": {"handler": "x", "url": True, "events": [
@@ -107,13 +107,13 @@ class TemplateRoutes(Case):
             "F": {"cors": {name[:1].lower() + name[1:]: value for name, value in cors.items()},
                   "invoke": "RESPONSE_STREAM"}, "shop-g": True,
             "H": {"cors": {"allowOrigins": ["Site"]}}, "I": None})
-        for words in ("F: leaves out Colour of its URL",
+        for words in ("F: ignores Colour of its URL",
                       "shop-g: its URL takes requests without a signature here",
                       "H: HUrl has a placeholder for the resource Site",
-                      "leaves out Second, AWS::Lambda::Url: H has a URL already",
-                      "leaves out Far, AWS::Lambda::Url: there is no function far",
-                      "leaves out None: its condition Never is not met",
-                      "leaves out Odd, AWS::Lambda::Url: there is no function None"):
+                      "ignores Second, AWS::Lambda::Url: H has a URL already",
+                      "ignores Far, AWS::Lambda::Url: there is no function far",
+                      "ignores None: its condition Never is not met",
+                      "ignores Odd, AWS::Lambda::Url: there is no function None"):
             self.check(f"URLs that are resources: {words}", words in said, shown=said)
 
     def test_cors_of_routes(self):
@@ -138,9 +138,9 @@ class TemplateRoutes(Case):
                 ("of Globals, one site", template({"CorsConfiguration": "http://a"}), {"allowOrigins": ["http://a"]},
                  ""),
                 ("of Globals, in full", template({"CorsConfiguration": own, "Auth": {"UsagePlan": {}}}), made_own,
-                 "leaves out UsagePlan of Auth of the HTTP API ServerlessHttpApi"),
+                 "ignores UsagePlan of Auth of the HTTP API ServerlessHttpApi"),
                 ("of an API", template({"CorsConfiguration": True}, Shop={"CorsConfiguration": own, "Colour": "x"}),
-                 made_own, "leaves out Colour of the HTTP API Shop"),
+                 made_own, "ignores Colour of the HTTP API Shop"),
                 ("of an API by Globals", template({"CorsConfiguration": True}, Shop={}), any_site, ""),
                 ("of an API, none", template({"CorsConfiguration": True}, Shop={"CorsConfiguration": False}), None, ""),
                 ("of two APIs", template(None, Shop={"CorsConfiguration": own}, Back={"CorsConfiguration": True}),
@@ -148,7 +148,7 @@ class TemplateRoutes(Case):
                  "all routes have one port here, with the Cors of the HTTP API Shop, and not those of Back"),
                 ("with what is no Cors", template({"CorsConfiguration": {**own, "AllowOrigins": "x", "Colour": 1}}),
                  {name: value for name, value in made_own.items() if name != "allowOrigins"},
-                 "leaves out allowOrigins of the Cors of the HTTP API ServerlessHttpApi: x")):
+                 "ignores allowOrigins of the Cors of the HTTP API ServerlessHttpApi: x")):
             made, said = up_and_said(given)
             self.check(f"Cors of routes: {title}", (made.get("api", {}).get("cors"), words in said), (wanted, True),
                        shown=said)
@@ -156,14 +156,14 @@ class TemplateRoutes(Case):
                                 "F": {"Type": "AWS::Lambda::Function", "Properties": {"Runtime": "provided"}}}}
         made, said = up_and_said(unused)
         self.check("an HTTP API without routes",
-                   ("api" in made, "leaves out Shop: none of the routes is of this API" in said), (False, True))
+                   ("api" in made, "ignores Shop: no route belongs to it" in said), (False, True))
         for cors, made_cors in ((True, any_site), ({"allowedOrigins": ["http://a"], "maxAge": 5},
                                                    {"allowOrigins": ["http://a"], "maxAge": 5})):
             made, said = up_and_said({"service": "s",
                                       "provider": {"runtime": "provided", "httpApi": {"cors": cors, "metrics": True}},
                                       "functions": {"f": {"handler": "x", "events": [{"httpApi": "GET /a"}]}}})
             self.check(f"Serverless: Cors of routes {cors}",
-                       (made["api"], "leaves out metrics of the HTTP API provider.httpApi" in said),
+                       (made["api"], "ignores metrics of the HTTP API provider.httpApi" in said),
                        ({"cors": made_cors}, True))
 
     def test_rest_of_sam(self):
@@ -171,7 +171,7 @@ class TemplateRoutes(Case):
         named."""
         made, said = up_and_said({"Resources": {"F": function(A=event("Api", "/orders"), B=event("Api", "/all",
                                                                                                  "any"))}})
-        self.check("SAM: an API that is not named", (made["routes"], made["api"], "leaves out" in said),
+        self.check("SAM: an API that is not named", (made["routes"], made["api"], "ignores" in said),
                    ({"GET /orders": "F", "ANY /all": "F"}, {"payload": "1.0", "stage": "Prod"}, False))
         cors = {"AllowOrigin": "'https://shop.example'", "AllowHeaders": "'x-one,x-two'", "AllowMethods": "'GET, POST'",
                 "MaxAge": "'600'", "AllowCredentials": True}
@@ -186,7 +186,7 @@ class TemplateRoutes(Case):
             "binaryMediaTypes": ["image/png", "*/*"],
             "cors": {"allowOrigins": ["https://shop.example"], "allowHeaders": ["x-one", "x-two"],
                      "allowMethods": ["GET", "POST"], "maxAge": 600, "allowCredentials": True}}))
-        self.check("SAM: what is left out of it", "leaves out TracingEnabled of the REST API Shop" in said, shown=said)
+        self.check("SAM: what is left out of it", "ignores TracingEnabled of the REST API Shop" in said, shown=said)
         made, _ = up_and_said({"Globals": {"Api": {"Cors": "'*'", "BinaryMediaTypes": ["image~1gif"]}},
                                "Resources": {"F": function(A=event("Api", "/"))}})
         self.check("SAM: Globals", made["api"], {"payload": "1.0", "stage": "Prod", "binaryMediaTypes": ["image/gif"],
@@ -212,7 +212,7 @@ class TemplateRoutes(Case):
                     {"payload": "1.0", "stage": "test", "binaryMediaTypes": ["*/*"],
                      "cors": {"allowOrigins": ["*"], "allowHeaders": headers, "allowMethods": ["*"]}}))
         self.check("Serverless: what is left out",
-                   "leaves out minimumCompressionSize of the REST API provider.apiGateway" in said, shown=said)
+                   "ignores minimumCompressionSize of the REST API provider.apiGateway" in said, shown=said)
         made, _ = up_and_said({"service": "s", "provider": {"runtime": "provided", "httpApi": {"payload": "1.0"}},
                                "functions": {"f": {"handler": "x", "events": [{"httpApi": "GET /a"}]}}})
         self.check("Serverless: httpApi with format 1.0", made["api"], {"payload": "1.0", "type": "HTTP"})
@@ -256,9 +256,9 @@ class TemplateRoutes(Case):
             {"payload": "1.0", "stage": "prod", "stageVariables": {"a": "b"}, "binaryMediaTypes": ["image/png"],
              "cors": {"allowHeaders": ["Content-Type", "X-Api-Key"], "allowOrigins": ["https://shop.example"],
                       "allowMethods": ["GET", "POST"]}}))
-        for words in ("leaves out E, AWS::ApiGateway::Method: its API, path or method is not known here",
-                      "leaves out G, AWS::ApiGateway::Method: its integration is HTTP_PROXY, and no function",
-                      "leaves out H, AWS::ApiGateway::Method: its function is not here"):
+        for words in ("ignores E, AWS::ApiGateway::Method: its API, path or method is not known here",
+                      "ignores G, AWS::ApiGateway::Method: its integration is HTTP_PROXY, not a function",
+                      "ignores H, AWS::ApiGateway::Method: its function is not here"):
             self.check(f"CDK: {words}", words in said, shown=said)
 
     def test_http_of_cdk(self):
@@ -284,9 +284,9 @@ class TemplateRoutes(Case):
         self.check("CDK: an HTTP API", (made["routes"], made["api"]), (
             {"GET /orders/{id}": "Pay1", "$default": {"function": "Ship2", "payload": "1.0", "type": "HTTP"}},
             {"cors": {"allowOrigins": ["https://shop.example"], "allowMethods": ["GET"]}}))
-        for words in ("leaves out C, AWS::ApiGatewayV2::Route: its function is not here",
-                      "leaves out D, AWS::ApiGatewayV2::Route: it is of a WebSocket API",
-                      "Pay1: leaves out its route E"):
+        for words in ("ignores C, AWS::ApiGatewayV2::Route: its function is not here",
+                      "ignores D, AWS::ApiGatewayV2::Route: it is of a WebSocket API",
+                      "Pay1: ignores its route E"):
             self.check(f"CDK: {words}", words in said, shown=said)
         quick = of_type("ApiGatewayV2::Api", Name="q", ProtocolType="HTTP", Target={"Fn::GetAtt": ["Pay1", "Arn"]})
         made, _ = up_and_said({"Resources": {**FUNCTIONS, "Api": quick}})

@@ -142,9 +142,9 @@ class Templates(Case):
                        ({"T": "orders"}, {"OTHER": "Sub-F"}))
             self.check("each API has its route", (whole["routes"], whole["apis"]),
                        ({"GET /orders": "F"}, {"Sub-ServerlessHttpApi": {"routes": {"GET /orders": "Sub-F"}}}))
-            for words in ("leaves out Store, AWS::Serverless::Application: its template",
-                          f"leaves out Out, AWS::Serverless::Application: ../template.json is outside of {folder}",
-                          "leaves out Round, AWS::Serverless::Application: "):
+            for words in ("ignores Store, AWS::Serverless::Application: its template",
+                          f"ignores Out, AWS::Serverless::Application: ../template.json is outside of {folder}",
+                          "ignores Round, AWS::Serverless::Application: "):
                 self.check(f"nested: {words}", words in said, shown=said)
         circle = {"Resources": {"F": sam(), "Sub": {"Type": "AWS::Serverless::Application",
                                                     "Properties": {"Location": "template.json"}}}}
@@ -180,7 +180,7 @@ class Templates(Case):
             self.check("all stacks", {name: member.get("directory") for name, member in made.items()},
                        dict.fromkeys(("Two", "One", "Three"), "asset.abc"), shown=said)
             self.check("an export", variables_of(made, "Two"), {"T": "t"})
-            self.check("what deployments alone invoke", "leaves out Provider, which serves custom resources" in said,
+            self.check("what deployments alone invoke", "ignores Provider, which serves custom resources" in said,
                        shown=said)
         app = {"artifacts": {f"assembly-{name}": {"type": "cdk:cloud-assembly", "properties": {
             "directoryName": f"assembly-{name}"}} for name in ("Dev", "Prod")}}
@@ -191,7 +191,7 @@ class Templates(Case):
                 write(folder, {f"assembly-{name}/manifest.json": stage, f"assembly-{name}/S.template.json": {
                     "Resources": {name: function}}})
             self.check("the first stage", (list(made_by(folder, is_assembly=True)[0]),
-                                           "takes the stage Dev" in made_by(folder, is_assembly=True)[2]),
+                                           "uses stage Dev" in made_by(folder, is_assembly=True)[2]),
                        (["Dev"], True))
             self.check("another one", list(made_by(folder, is_assembly=True, stage="prod")[0]), ["Prod"])
             self.check("none", made_by(folder, is_assembly=True, stage="x")[0],
@@ -220,9 +220,9 @@ class Templates(Case):
             rest = {"function": "F", "payload": "1.0", "stage": "v1"}
             self.check("routes of OpenAPI", whole["routes"], {
                 "GET /orders/{id}": rest, "ANY /all": rest, "GET /safe": rest, "GET /http": "F"}, shown=said)
-            for words in ("leaves out GET /far of Rest: its integration HTTP_PROXY is no function that is here",
-                          "leaves out GET /none of Rest: it has no x-amazon-apigateway-integration",
-                          "leaves out security of GET /safe of Rest", "leaves out DefinitionUri of Gone: ../http.json"):
+            for words in ("ignores GET /far of Rest: its integration HTTP_PROXY is not a function here",
+                          "ignores GET /none of Rest: it has no x-amazon-apigateway-integration",
+                          "ignores security of GET /safe of Rest", "ignores DefinitionUri of Gone: ../http.json"):
                 self.check(f"OpenAPI: {words}", words in said, shown=said)
 
     def test_serverless_variables(self):
@@ -274,14 +274,14 @@ class Templates(Case):
         with folder_of(serverless_0_yml=text) as folder:
             made, _, said = made_by(os.path.join(folder, "serverless.yml"))
             self.check("a URL that streams", made["s-dev-f"]["url"], {"invoke": "RESPONSE_STREAM"})
-            for words in ("leaves out tracing of provider", "its URL takes requests without a signature here",
-                          "leaves out colour of its URL",
-                          "leaves out async, private, request of its event http",
-                          "leaves out the authorizer auth of get a, so its routes take each caller: there is no",
-                          "its event http is a proxy integration here, and not lambda",
-                          "leaves out the authorizer jwt of get /b, which takes each caller",
-                          "leaves out inputPath of its schedule",
-                          "leaves out events: stream", "s-dev-f: leaves out tracing"):
+            for words in ("ignores tracing of provider", "its URL takes requests without a signature here",
+                          "ignores colour of its URL",
+                          "ignores async, private, request of its event http",
+                          "ignores the authorizer auth of get a, so its routes take each caller: there is no",
+                          "its event http is a proxy integration here, not lambda",
+                          "ignores the authorizer jwt of get /b, which takes each caller",
+                          "ignores inputPath of its schedule",
+                          "ignores events: stream", "s-dev-f: ignores tracing"):
                 self.check(f"Serverless: {words}", words in said, shown=said)
         template = {"Resources": {"F": sam(Tracing="Active", VpcConfig={}, Role="x", Tags={"a": "b"}, Events={
             "A": {"Type": "Api", "Properties": {"Path": "/a", "Method": "get", "Auth": {"Authorizer": "x"}}},
@@ -296,9 +296,9 @@ class Templates(Case):
                                                               "timezone": "Europe/Berlin"})
             self.check("the log's format", variables_of(made), {"AWS_LAMBDA_LOG_FORMAT": "JSON",
                                                                 "AWS_LAMBDA_LOG_LEVEL": "DEBUG"})
-            for words in ("F: leaves out Tracing, VpcConfig\n", "leaves out the authorizer x of GET /a of F,",
-                          "leaves out KmsKeyArn of its event B", "leaves out its event D, DynamoDB\n",
-                          "leaves out its event E, S3: lambda_local invoke --sample s3 sends one like it"):
+            for words in ("F: ignores Tracing, VpcConfig\n", "ignores the authorizer x of GET /a of F,",
+                          "ignores KmsKeyArn of its event B", "ignores its event D (DynamoDB)\n",
+                          "ignores its event E (S3): lambda_local invoke --sample s3 sends one like it"):
                 self.check(f"SAM: {words.strip()}", words in said, shown=said)
             self.check("what a condition leaves out is not there", "its event C" in said, False)
 
@@ -322,7 +322,7 @@ class Templates(Case):
                        (["live"], ["blue"], {"ALIAS": f"{arn}F:live", "VERSION": f"{arn}F", "OWN": f"{arn}G:blue"}))
             self.check("asynchronous invocations", (made["F"]["asynchronous"], made["G"]["asynchronous"]),
                        ({"retries": 0, "maximumAge": 60, "onFailure": "G"}, {"retries": 1}))
-            wanted = ('G: leaves out DeadLetterQueue, arn:aws:sqs:us-east-1:1:dead, which would get each event that '
+            wanted = ('G: ignores DeadLetterQueue, arn:aws:sqs:us-east-1:1:dead, which would get each event that '
                       'failed: set "asynchronous": {"onFailure": "FUNCTION"} of it in lambda_local.json')
             self.check("a queue for dead letters", wanted in said, shown=said)
             write(folder, {"lambda_local.json": {"functions": {"G": {"asynchronous": {"onFailure": "F"}}}}})
@@ -336,7 +336,7 @@ class Templates(Case):
             made, _, said = made_by(os.path.join(folder, "serverless.json"))
             self.check("Serverless", (made["s-dev-f"].get("asynchronous"), made["s-dev-g"]["directory"]),
                        ({"retries": 2, "onFailure": "s-dev-g"}, "g.zip"), shown=said)
-            self.check("onError of Serverless", "leaves out onError, arn:aws:sns:us-east-1:1:dead, which would" in said,
+            self.check("onError of Serverless", "ignores onError, arn:aws:sns:us-east-1:1:dead, which would" in said,
                        shown=said)
 
     def test_hostile(self):

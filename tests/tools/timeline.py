@@ -10,6 +10,7 @@ import tempfile
 from typing import List
 
 from lambda_local.configuration import Members
+from lambda_local.timeline.labels import short_names
 from tests import ROOT
 
 from tests.library.timelines import (
@@ -247,6 +248,22 @@ class Timeline(TimelineCase):
                     and closing["ts"] <= span["ts"] + span["dur"] <= closing["ts"] + closing["dur"]
                     for closing in closings)
                 for span in ends("shutdown")))
+
+    def test_labels(self):
+        """The rows of functions with long names are told apart, and each has the whole name as its title."""
+        names = [f"my-service-production-{name}" for name in ("hello", "orders", "orders-refund-worker-of-the-night")]
+        one = json.loads(ONE)
+        functions = [{**one["functions"][0], "name": name, "ports": [9001 + n]} for n, name in enumerate(names)]
+        status, picture, said = run("--svg", script=json.dumps({**one, "functions": functions}) + "\n0 tick\n")
+        labels = re.findall(r'<text class="head"[^>]*>([^<]*)', picture)
+        self.check("labels by what differs", (status, labels), (
+            0, ["\u2026hello \u00b7 1", "\u2026orders \u00b7 2", "\u2026order\u2026he-night \u00b7 3"]), shown=said or labels)
+        titles = re.findall(r"<title>([^<]* \u00b7 environment \d)</title>", picture)
+        self.check("titles", titles, [f"{name} \u00b7 environment {n}" for n, name in enumerate(names, 1)])
+        self.check("short names stay", short_names(["a-hello", "a-orders"], 20), {
+            "a-hello": "a-hello", "a-orders": "a-orders"})
+        self.check("a single one", short_names(["a" * 40 + "b"], 10), {"a" * 40 + "b": "aaa\u2026aaaaab"})
+        self.check("with no room", short_names(["abcdef"], 1), {"abcdef": "\u2026f"})
 
     def test_pictures(self):
         """The pictures in docs are those that the tool draws of the examples."""

@@ -170,18 +170,18 @@ class TimelineHistory(TimelineCase):
             path = os.path.join(folder, "history.txt")
             for name, text, words in (
                 ("an answer", HISTORY.replace("# 6 5 output =3", "# 6 5 output =4"),
-                 "line 14: the history has `6 5 output =4`, and the replay answers `6 5 output =3`"),
+                 "line 14: the history has `6 5 output =4`, but the replay answers `6 5 output =3`"),
                 ("a call", HISTORY.replace("5002 response 1 2 =3", "5002 response 1 2 =4"),
-                 "line 14: the history has `6 5 output =3`, and the replay answers `6 5 output =4`"),
+                 "line 14: the history has `6 5 output =3`, but the replay answers `6 5 output =4`"),
                 ("an expiry that is left out", without_expiry,
-                 "line 7: the history has `2 2 done`, and the replay answers `2 1 timeout`"),
+                 "line 7: the history has `2 2 done`, but the replay answers `2 1 timeout`"),
                 ("a configuration", HISTORY.replace('"timeout":3', '"timeout":4'),
-                 "and the replay answers `1 0 deliver"),
+                 "but the replay answers `1 0 deliver"),
                 ("an answer that is none", HISTORY.replace("# 3 3 done", "# 3 3 dined"),
-                 "line 9: the history has `3 3 dined`, and the replay answers `3 3 done`"),
+                 "line 9: the history has `3 3 dined`, but the replay answers `3 3 done`"),
                 ("a gap", HISTORY.replace("# 3 3 done", "# 5 5 done"), "line 9: the history has `5 5 done`"),
                 ("answers that are left out", HISTORY[:HISTORY.index("5002 response")] + "5002 response 1 2 =3\n",
-                 "line 13: the history ends, and the replay answers `6 5 output =3`"),
+                 "line 13: the history ends here, but the replay also answers `6 5 output =3`"),
             ):
                 open(path, "w").write(text)
                 for given in ((path,), ()):
@@ -204,7 +204,7 @@ class TimelineHistory(TimelineCase):
                    and page[2] == text[2] == "")
         page, said = run("--html", script=HISTORY[:-1])[1:]
         self.check("a line that is cut off is left out", "line 15 has no end, so it may be cut off" in said
-                   and "line 14: the history ends, and the replay answers `6 6 accepted`" in page, shown=said)
+                   and "line 14: the history ends here, but the replay also answers `6 6 accepted`" in page, shown=said)
 
     def test_hidden(self):
         """What lambda_local up does itself is shown on request alone."""
@@ -230,7 +230,7 @@ class TimelineHistory(TimelineCase):
         shown = run("--text", script=script)[1].splitlines()
         self.check("moments of the text", [line.split(" ms  ")[0].strip() for line in shown],
                    "2 2 3 3 3 60 60 60 70 90 95 95 95".split(), shown="\n".join(shown))
-        found = re.findall(r"(\d+) ms  caller 1: invoke f, call 3, is answered after (\d+) ms", "\n".join(shown))
+        found = re.findall(r"(\d+) ms  caller 1: invoke f, call 3, answered after (\d+) ms", "\n".join(shown))
         self.check("an answer comes as long after its call as its line says", found, [("60", "57")])
 
     def test_reports(self):
@@ -368,7 +368,7 @@ class TimelineHistory(TimelineCase):
                    shown=str(events(trace, "phase")))
         self.cut_by_the_end()
         text = run("--from", "60", script=script)[1]
-        self.check("the text has what happens in the window", "is answered after 60 ms: deliver" in text
+        self.check("the text has what happens in the window", "answered after 60 ms: deliver" in text
                    and "tick" not in text,
                    shown=text)
 
@@ -380,7 +380,7 @@ class TimelineHistory(TimelineCase):
             name, last = " ".join(window), run(*window, script=script)[1].splitlines()[-1].strip()
             self.check(f"{name}: the text ends with the call that waits",
                        last == f"{where} ms  caller 1: invoke f, call 1, "
-                       "still waits, and is answered at 2000 ms, after what is shown", shown=last)
+                       "still waits; answered at 2000 ms, after what is shown", shown=last)
             for form in ("svg", "html"):
                 page = run(f"--{form}", *window, script=script)[1]
                 seen = [kind for kind, title in re.findall(r'<g class="call (\w+)"[^>]*><title>([^<]*)', page)
@@ -389,7 +389,7 @@ class TimelineHistory(TimelineCase):
                 self.check(f"{name}: no label has its answer, {form}", ">invoke f: output<" not in page)
         whole = run("--to", "2000", script=script)[1]
         self.check("a call that is answered at the last moment is whole",
-                   "still waits" not in whole and "is answered after 1,990 ms: output 2" in whole, shown=whole)
+                   "still waits" not in whole and "answered after 1,990 ms: output 2" in whole, shown=whole)
         late = run("--to", "1000", script=ONE + "\n0 next 1\n10 invoke f - - =1\n2000 tick\n")[1]
         self.check("one that is never answered only waits",
                    late.splitlines()[-1].strip() == "1000 ms  caller 1: invoke f, call 1, still waits", shown=late)

@@ -115,7 +115,7 @@ class TimelineLive(TimelineCase):
             status, headers, body = page.get("/")
             text = body.decode()
             self.check("the page", status == 200 and headers["content-type"].startswith("text/html")
-                       and "No call yet." in text,
+                       and "No calls yet." in text,
                        shown=text[-500:])
             ElementTree.fromstring(text.replace("<!DOCTYPE html>\n", ""))
             policy = headers["content-security-policy"]
@@ -204,12 +204,12 @@ class TimelineLive(TimelineCase):
             page.service.stop()
             drawn = page.until(lambda drawn: "has gone" in drawn)
             self.check("the page says that the service has gone",
-                       "The service has gone at" in drawn and "it was stopped" in drawn, shown=drawn[:300])
+                       "The service has been unreachable since" in drawn and "it was stopped" in drawn, shown=drawn[:300])
             self.check("its last calls stay", "\noutput" in drawn)
             page.service.kill()
             page.service = Service(dict(CONFIGURATION, invokePort=port))
             drawn = page.until(lambda drawn: "has gone" not in drawn)
-            self.check("another one is shown", "No call yet." in drawn and "has gone" not in drawn, shown=drawn[:300])
+            self.check("another one is shown", "No calls yet." in drawn and "has gone" not in drawn, shown=drawn[:300])
             status, said = page.end()
             lines = said.splitlines()
             self.check("both are said",
@@ -227,12 +227,12 @@ class TimelineLive(TimelineCase):
             ("no port", ("--live", "http://127.0.0.1"), "write the service's address on this machine"),
             ("a port that is none", ("--live", "http://127.0.0.1:99999"),
              "write the service's address on this machine"),
-            ("an input", ("--live", "http://127.0.0.1:9000", "x.txt"), "--live shows what goes on: leave out an input"),
-            ("a form", ("--live", "http://127.0.0.1:9000", "--html"), "--live shows what goes on: leave out --html"),
+            ("an input", ("--live", "http://127.0.0.1:9000", "x.txt"), "--live shows a running service: leave out an input"),
+            ("a form", ("--live", "http://127.0.0.1:9000", "--html"), "--live shows a running service: leave out --html"),
             ("a window", ("--live", "http://127.0.0.1:9000", "--to", "+1"),
-             "--live shows what goes on: leave out --to"),
+             "--live shows a running service: leave out --to"),
             ("an output", ("--live", "http://127.0.0.1:9000", "-o", "x.html"),
-             "--live shows what goes on: leave out -o"),
+             "--live shows a running service: leave out -o"),
         ):
             status, output, said = run(*arguments)
             self.check(f"fault: {name}", status == 2 and output == "" and words in said and "Traceback" not in said,
@@ -240,7 +240,7 @@ class TimelineLive(TimelineCase):
         with live() as page:
             status, _, said = run("--live", f"http://127.0.0.1:{page.port}")
             self.check("fault: another server",
-                       status == 2 and "gives no history there (status 404): this is not lambda_local" in said,
+                       status == 2 and "returns no history (status 404): this is not lambda_local" in said,
                        shown=said)
             status, _, said = run("--live", f"http://127.0.0.1:{page.runtime}")
             self.check("fault: the port of an environment", status == 2 and "this is not lambda_local" in said,

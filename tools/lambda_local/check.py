@@ -23,16 +23,16 @@ def check(path: str, program: str) -> int:
         first = script.line(1) or b""
         if first != FORM_2 and not first.startswith(b"{"):
             raise Fault(
-                2, f"{path}: line 1 must be `form 2` or a configuration: a history is what GET /_local/history answers")
+                2, f"{path}: line 1 must be `form 2` or a configuration: a history is what GET /_local/history returns")
         seen = compared(script, program)
     finally:
         script.close()
     if seen.answers and not seen.saved:
-        raise Fault(2, f"{path}: no line is `# ENTRY TICKET WORDS`: this script has no answers to compare with")
+        raise Fault(2, f"{path}: this script has no answers to compare: no line has the form `# ENTRY TICKET WORDS`")
     if seen.difference:
         tell(f"check: {path}: {seen.difference}")
         return 1
-    print(printable(f"{path}: the same {several(seen.answers, 'answer')}"))
+    print(printable(f"{path}: the replay gives the same {several(seen.answers, 'answer')}"))
     return 0
 
 

@@ -4,7 +4,7 @@ from typing import Iterator, List, Optional, Union
 
 from ..configuration import Members
 from ..front.routes import WrongRoute
-from . import schedules
+from . import balancers, schedules
 from .authorizers import of_serverless
 from .cors import Tell, cors_of, rest_cors_of
 from .messages import VALUES, excerpt
@@ -41,7 +41,7 @@ class Addresses:
             return None
         value, placeholders = self.scope.evaluate_or_reason(self.properties[name])
         if placeholders:
-            what = f"leaves out {name}: it needs" if value is None else f"{name} has a placeholder for"
+            what = f"ignores {name}: it needs" if value is None else f"{name} has a placeholder for"
             self.tell(f"{what} {' and '.join(placeholders)}" + (
                 "" if value is None else f": set \"url\" in {VALUES}"))
         return None if value is NO_VALUE else value
@@ -92,7 +92,7 @@ class Addresses:
                 continue
             where = f"its event {name}"
             if kind not in ("HttpApi", "Api"):
-                self.tell(f"leaves out {where}, {excerpt(kind)}{sample(kind)}")
+                self.tell(f"ignores {where} ({excerpt(kind)}){sample(kind)}")
                 continue
             given = Object(event.get("Properties"), where, self.scope, self.tell)
             if kind == "Api":
@@ -116,8 +116,11 @@ class Addresses:
             (kind, given), = event.items() if isinstance(event, dict) and len(event) == 1 else [(excerpt(event), None)]
             if kind in READ_OF_SERVERLESS:
                 continue
+            if kind == "alb":
+                yield from balancers.of_serverless(given, self.scope, self.tell)
+                continue
             if kind not in ("httpApi", "http"):
-                self.tell(f"leaves out events: {excerpt(kind)}{sample(kind)}")
+                self.tell(f"ignores events: {excerpt(kind)}{sample(kind)}")
                 continue
             yield from self.route_of_serverless(kind, given)
 
@@ -126,7 +129,7 @@ class Addresses:
             method, _, path = given.strip().partition(" ")
             given = {} if given.strip() == "*" else {"method": method, "path": path.strip()}
         elif isinstance(given, str):
-            self.tell(f"leaves out events: {kind}: write it as an object with method and path")
+            self.tell(f"ignores events: {kind}: write it as an object with method and path")
             return []
         event = Object(given, f"its event {kind}", self.scope, self.tell)
         of, cors = Of(OF_SERVERLESS, payload=self.scope.payload), None
@@ -135,7 +138,7 @@ class Addresses:
             cors = rest_cors_of(event.raw("cors"), f"its event {kind}", self.scope, self.tell)
             integration = event.raw("integration")
             if str(integration or "proxy").lower().replace("_", "-") not in ("proxy", "lambda-proxy", "aws-proxy"):
-                self.tell(f"its event {kind} is a proxy integration here, and not {excerpt(integration)}")
+                self.tell(f"its event {kind} is a proxy integration here, not {excerpt(integration)}")
         authorizer = of_serverless(kind, event.raw("authorizer"), self.scope.authorizers, self.scope,
                                    f"{event.raw('method')} {event.raw('path')}")
         made = self.route(f"events: {kind}", event.raw("method"), event.raw("path"), of, cors, authorizer=authorizer)
@@ -153,5 +156,5 @@ class Addresses:
                 return [FunctionRoute(key_of(both[0], both[1]), of, cors, auth, authorizer)]
             except WrongRoute as fault:
                 why = str(fault)
-        self.tell(f"leaves out its {where}: {why}")
+        self.tell(f"ignores its {where}: {why}")
         return []

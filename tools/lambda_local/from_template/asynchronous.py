@@ -32,7 +32,7 @@ def function_in(given: object, scope: Scope) -> Optional[str]:
 def destination(given: object, what: str, scope: Scope, tell_: Tell) -> Optional[str]:
     name = function_in(given, scope)
     if name is None and given is not None:
-        tell_(f"leaves out {what}, {excerpt(scope.evaluate_or_reason(given).value)}, which is not a function here: "
+        tell_(f"ignores {what}, {excerpt(scope.evaluate_or_reason(given).value)}, which is not a function here: "
               f"{INSTEAD}")
     return name
 
@@ -75,7 +75,7 @@ def tell_dead_letters(properties: Members, scope: Scope, tell_: Tell) -> None:
         given = scope.chosen(properties.get(name))
         target = given if name == "onError" else members_of({name: given}, name).get("TargetArn")
         if target is not None:
-            tell_(f"leaves out {name}, {excerpt(scope.evaluate_or_reason(target).value)}, which would get each event "
+            tell_(f"ignores {name}, {excerpt(scope.evaluate_or_reason(target).value)}, which would get each event "
                   f"that failed: {INSTEAD}")
 
 
@@ -89,6 +89,6 @@ def add_configs(functions: List[Members], scope: Scope) -> None:
         name = function_in(given.raw("FunctionName"), scope)
         made = next((made for made in functions if made["name"] == name), None)
         if made is None:
-            tell(f"leaves out {key}, {CONFIG}: its function is not here")
+            tell(f"ignores {key}, {CONFIG}: its function is not here")
             continue
         made["asynchronous"] = {**made.get("asynchronous", {}), **configured(given, scope, tell)}

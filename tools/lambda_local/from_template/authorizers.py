@@ -53,7 +53,7 @@ class Reader:
         wrong = next(authorizers.mistakes(self.made, list(self.names), self.is_rest, ""), None)
         if wrong is None:
             return self.made
-        tell(f"leaves out {self.where}, so its routes take each caller: {wrong}")
+        tell(f"ignores {self.where}, so its routes take each caller: {wrong}")
         return None
 
 
@@ -83,7 +83,7 @@ def of_sam(reader: Reader, scopes: List[str]) -> Optional[Members]:
     else:
         wanted = Object(given.raw("JwtConfiguration") or {}, f"JwtConfiguration of {reader.where}", reader.scope, tell)
         if given.raw("UserPoolArn") is None and not wanted.members:
-            tell(f"leaves out {reader.where}, so its routes take each caller: it has no function, user pool or token")
+            tell(f"ignores {reader.where}, so its routes take each caller: it has no function, user pool or token")
             return None
         identity.without_meaning(["ValidationExpression", "ReauthorizeEvery"])
         reader.tokens(token_of(wanted), scopes or own)
@@ -137,7 +137,7 @@ def of_event(mapped: FunctionRoute, api: Members, function: str, names: Collecti
     if name is None or name == NOBODY:
         return None
     if name == IAM or name not in listed:
-        tell(f"leaves out the authorizer {excerpt(name)} of {mapped.key} of {function}, which takes each caller" + (
+        tell(f"ignores the authorizer {excerpt(name)} of {mapped.key} of {function}, which takes each caller" + (
             "" if name == IAM else f": {where} has none of this name"))
         return None
     scopes = [str(one) for one in scopes] if isinstance(scopes, list) else []
@@ -171,7 +171,7 @@ class Resources:
         if kind in (None, NOBODY):
             return None
         if key not in self.listed:
-            tell(f"leaves out the authorizer of {where}, {excerpt(kind)}: it takes each caller")
+            tell(f"ignores the authorizer of {where}, {excerpt(kind)}: it takes each caller")
             return None
         value = self.scope.evaluate_or_reason(properties.get("AuthorizationScopes")).value
         scopes = [str(one) for one in value] if isinstance(value, list) else []
@@ -222,11 +222,11 @@ def of_serverless(kind: str, given: Any, listed: Members, scope: Scope, where: s
     own = given if isinstance(given, dict) else {"name": given}
     name, is_rest = own.get("name"), kind == "http"
     if str(name).lower() == "aws_iam" or str(own.get("type")).lower() == "aws_iam":
-        tell(f"leaves out the authorizer aws_iam of {where}, which takes each caller")
+        tell(f"ignores the authorizer aws_iam of {where}, which takes each caller")
         return None
     whole = own if is_rest else listed.get(str(name))
     if whole is None:
-        tell(f"leaves out the authorizer {excerpt(name)} of {where}, which takes each caller: provider.httpApi has "
+        tell(f"ignores the authorizer {excerpt(name)} of {where}, which takes each caller: provider.httpApi has "
              "none of this name")
         return None
     names = {key: value for key, value in scope.functions.items()}

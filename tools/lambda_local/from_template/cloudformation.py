@@ -12,8 +12,10 @@ ALIAS, VERSION = "AWS::Lambda::Alias", "AWS::Lambda::Version"
 # Read once the functions are known
 TAKEN_LATER = re.compile(r"AWS::Lambda::(Url|Alias|Version|EventSourceMapping|EventInvokeConfig)|"
                          r"AWS::Serverless::(Http)?Api|AWS::Serverless::Application|AWS::CloudFormation::Stack|"
-                         r"AWS::ApiGateway::(RestApi|Resource|Method|Stage)|"
-                         r"AWS::ApiGatewayV2::(Api|Route|Integration|Stage)|AWS::(Serverless|Lambda)::LayerVersion|"
+                         r"AWS::ApiGateway::(RestApi|Resource|Method|Stage|Authorizer)|"
+                         r"AWS::ApiGatewayV2::(Api|Route|Integration|Stage|Authorizer)|"
+                         r"AWS::ElasticLoadBalancingV2::(LoadBalancer|Listener|ListenerRule|TargetGroup)|"
+                         r"AWS::(Serverless|Lambda)::LayerVersion|"
                          r"AWS::Events::Rule|AWS::Scheduler::Schedule")
 # What a deployment alone has: it is not told
 OF_DEPLOYMENT = re.compile(r"AWS::CDK::Metadata|AWS::IAM::.*|AWS::Lambda::Permission|AWS::Logs::LogGroup|"
@@ -60,7 +62,7 @@ def properties_of(key: str, resource: Members, shared: Members, scope: Scope) ->
     """Returns a function's properties; None, with a report, if they cannot be read."""
     properties: object = scope.chosen(resource.get("Properties", {}))
     if not isinstance(properties, dict):
-        tell(f"leaves out {key}: its Properties must be an object, not {excerpt(properties)}")
+        tell(f"ignores {key}: its Properties must be an object, not {excerpt(properties)}")
         return None
     if resource["Type"] == SAM_FUNCTION:
         properties = with_globals(properties, shared)
@@ -80,10 +82,10 @@ def is_wanted(key: str, resource: Members, scope: Scope) -> bool:
     try:
         is_met = scope.holds(condition)
     except Unknown as reason:
-        tell(f"{key}: it is taken, since its condition {condition} is not known here: {reason}")
+        tell(f"{key}: it is kept, since its condition {condition} cannot be worked out here: {reason}")
         return True
     if not is_met:
-        tell(f"leaves out {key}: its condition {condition} is not met")
+        tell(f"ignores {key}: its condition {condition} is not met")
     return is_met
 
 
@@ -104,7 +106,7 @@ def is_for_later(kind: str) -> bool:
 
 def functions_in(template: Members, scope: Scope) -> List[Tuple[str, Members]]:
     """Each function's logical id and properties. Their aliases and versions are noted in the scope."""
-    left, functions = LineGroups("leaves out {names}, {line}"), []
+    left, functions = LineGroups("ignores {names}, {line}"), []
     shared, apart = members_of(members_of(template, "Globals"), "Function"), of_deployment(scope.resources)
     for key, resource in scope.resources.items():
         kind = type_of(resource) or excerpt(resource.get("Type") if isinstance(resource, dict) else resource)
@@ -113,7 +115,7 @@ def functions_in(template: Members, scope: Scope) -> List[Tuple[str, Members]]:
         if kind not in (FUNCTION, SAM_FUNCTION):
             left.add(str(key), kind)
         elif key in apart:
-            tell(f"leaves out {key}, which serves custom resources of a deployment")
+            tell(f"ignores {key}, which serves custom resources of a deployment")
         elif is_wanted(key, resource, scope):
             properties = properties_of(key, resource, shared, scope)
             if properties is not None:

@@ -1,5 +1,5 @@
 """Prints, or writes with -o, the UP.json that lambda_local up makes of a template, so that it can be changed by hand
-("eject"). On standard error it names what it leaves out. lambda_local up needs no such file: it reads templates itself.
+("eject"). On standard error it names what it ignores. lambda_local up needs no such file: it reads templates itself.
 
   lambda_local from_template -o up.json                  of what is found in this folder, as up finds it
   lambda_local from_template template.yaml               SAM, or CloudFormation, in YAML or JSON
@@ -8,7 +8,7 @@
 
 What runs a function is the client of its Runtime if that is installed, else for Python and Node the runtime that comes
 with lambda_local up. Folders are as seen from UP.json, or from the root if it goes to a pipe. A file that differs from
-what from_template wrote there itself is not overwritten without --force. Values of your own belong into
+what from_template wrote there itself is not overwritten without --force. Values of your own belong in
 lambda_local.json beside the template, which is merged over it. YAML needs a reader: pip install pyyaml.
 Exit statuses: 0; 2 for a template that cannot be read, or has no function, and for a file that would be overwritten; 4
 without the reader, or if UP.json cannot be written."""
@@ -106,7 +106,7 @@ def main() -> int:
         if not source.is_template:
             raise Fault(f"{source.path} is an UP.json already: name a template")
         if options.output and not options.force and not is_own(options.output):
-            raise Fault(f"{options.output} is not as from_template wrote it: --force overwrites it; values of your own "
+            raise Fault(f"{options.output} was changed since from_template wrote it: --force overwrites it; values of your own "
                         "are kept in lambda_local.json beside the template")
         up = up_of_source(source, given_of(options), options.values)
     except Fault as fault:

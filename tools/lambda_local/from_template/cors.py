@@ -26,7 +26,7 @@ def evaluate(given: object, where: str, scope: Scope, tell: Tell) -> object:
     try:
         given, placeholders = scope.evaluate(given)
     except Unknown as reason:
-        tell(f"leaves out the Cors of {where}: it needs {reason}")
+        tell(f"ignores the Cors of {where}: it needs {reason}")
         return None
     if placeholders:
         tell(f"the Cors of {where} has a placeholder for {' and '.join(placeholders)}: write its value into UP.json")
@@ -41,13 +41,13 @@ def accepted_members(given: Members, names: Callable[[str], str], where: str, te
         if member in settings.OF_CORS and settings.OF_CORS[member].accepts(value):
             cors[member] = value
         else:
-            tell(f"leaves out {member} of the Cors of {where}: {excerpt(value)}")
+            tell(f"ignores {member} of the Cors of {where}: {excerpt(value)}")
     return cors or None
 
 
 def cors_of(given: object, where: str, scope: Scope, tell: Tell) -> Optional[Members]:
     """Returns the member `cors` of the Cors of a Function URL or an HTTP API in one of its forms; None if it allows no
-    site. Reports what it leaves out."""
+    site. Reports what it ignores."""
     given = evaluate(given, where, scope, tell)
     if given is True:  # (any site)
         return ANY_SITE

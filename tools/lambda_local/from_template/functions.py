@@ -63,7 +63,7 @@ def name_of(key: str, properties: Members, scope: Scope) -> str:
         why = f"it needs {' and '.join(placeholders)}"
     else:
         why = f"{excerpt(name)} is not a name of 1 to 64 letters, digits, - and _"
-    tell(f"{key}: it is called {safe_name(key)}, since its FunctionName is not known here: {why}")
+    tell(f"{key}: it is named {safe_name(key)}, since its FunctionName is not known here: {why}")
     return safe_name(key)
 
 
@@ -76,7 +76,7 @@ def names_of(listed: Sequence[Listed]) -> List[str]:
         others = (own, nested, *(f"{own[:60]}-{number}" for number in range(2, MOST_FUNCTIONS + 2)))
         name = next(name for name in (wanted, *others) if name not in names)
         if name != wanted:
-            tell(f"{scope.prefix}{key}: it is called {name}, since another function is called {wanted}")
+            tell(f"{scope.prefix}{key}: it is named {name}, since another function is named {wanted}")
         names.append(name)
         scope.functions[key] = name
     return names
@@ -101,7 +101,7 @@ class Maker:
             return None
         value, placeholders = self.scope.evaluate_or_reason(self.properties[name])
         if placeholders:
-            self.tell(f"leaves out {name}: it needs {' and '.join(placeholders)}")
+            self.tell(f"ignores {name}: it needs {' and '.join(placeholders)}")
             return None
         return None if value is NO_VALUE else value
 
@@ -111,7 +111,7 @@ class Maker:
             return None
         text = text_of(value) if is_scalar(value) else ""
         if not re.fullmatch(r"\d{1,9}(\.0*)?", text) or not least <= int(float(text)) <= most:
-            self.tell(f"leaves out {name}: it must be a whole number from {least} to {most}, not {excerpt(value)}")
+            self.tell(f"ignores {name}: it must be a whole number from {least} to {most}, not {excerpt(value)}")
             return None
         return int(float(text))
 
@@ -122,7 +122,7 @@ class Maker:
     def make(self) -> Members:
         handler = self.value_of("Handler")
         if handler is not None and not (isinstance(handler, str) and HANDLER.fullmatch(handler)):
-            self.tell("leaves out Handler: it must be a string of 1 to 128 printable characters, not "
+            self.tell("ignores Handler: it must be a string of 1 to 128 printable characters, not "
                       f"{excerpt(handler)}")
             handler = None
         self.put("handler", handler)
@@ -142,7 +142,7 @@ class Maker:
         schedules.put(self.made, schedules.of_events(self.properties, self.scope, self.tell))
         queues.put(self.made, queues.of_events(self.properties, self.scope, self.tell), self.tell)
         if left := sorted(str(name) for name in set(self.properties) - READ - WITHOUT_MEANING):
-            self.tell(f"leaves out {', '.join(left)}")
+            self.tell(f"ignores {', '.join(left)}")
         return self.made
 
     def logging(self) -> None:
@@ -163,13 +163,13 @@ class Maker:
         if variables is None or variables is NO_VALUE:
             variables = {}
         if not isinstance(variables, dict):
-            self.tell(f"leaves out its variables: they must be an object, not {excerpt(variables)}")
+            self.tell(f"ignores its variables: they must be an object, not {excerpt(variables)}")
             variables = {}
         found: Dict[str, str] = {}
         left = MOST_OF_VARIABLES
         for name, expression in variables.items():
             if not VARIABLE.fullmatch(str(name)):
-                self.tell(f"leaves out the variable {excerpt(name)}: its name must have letters, digits and _ alone")
+                self.tell(f"ignores the variable {excerpt(name)}: its name must have only letters, digits and _")
                 continue
             if name in given:
                 continue
@@ -181,14 +181,14 @@ class Maker:
                     text = text_of(value)
                     left -= len(str(name)) + len(text)
                     if left < 0 or len(text.encode(errors="replace")) > LONGEST_VARIABLE:
-                        self.tell(f"leaves out the variable {name}: one has at most {LONGEST_VARIABLE:,} bytes, and "
+                        self.tell(f"ignores the variable {name}: one has at most {LONGEST_VARIABLE:,} bytes, and "
                                   f"all of a function {MOST_OF_VARIABLES:,}")
                         continue
                     found[str(name)] = text.replace("\0", "")
                 elif value is None:
-                    self.tell(f"leaves out the variable {name}, which has no value")
+                    self.tell(f"ignores the variable {name}, which has no value")
             except Unknown as reason:
-                self.tell(f"leaves out the variable {name}: {reason}")
+                self.tell(f"ignores the variable {name}: {reason}")
                 continue
             if placeholders and not set(placeholders) <= self.scope.of_services:
                 self.tell(f"the variable {name} is {excerpt(found[str(name)])}, a placeholder for "
@@ -224,7 +224,7 @@ class Maker:
             return
         if not isinstance(code, str) or "://" in code or "\0" in code:
             self.is_elsewhere = True
-            self.tell(f"leaves out {name}, which is not a folder here")
+            self.tell(f"ignores {name}, which is not a folder here")
             return
         at = os.path.join(self.base, code)
         if os.path.isfile(at) and not at.endswith((".zip", ".jar")):
@@ -236,7 +236,7 @@ class Maker:
         given = self.properties.get("InlineCode", members_of(self.properties, "Code").get("ZipFile"))
         code, placeholders = self.scope.evaluate_or_reason(given)
         if not isinstance(code, str) or len(code) > MOST_INLINE:
-            self.tell(f"leaves out its code, which must be a string{': ' * bool(placeholders)}"
+            self.tell(f"ignores its code, which must be a string{': ' * bool(placeholders)}"
                       f"{' and '.join(placeholders)}")
             return
         if placeholders:
@@ -287,7 +287,7 @@ class Maker:
 
 def functions_of(listed: List[Listed]) -> List[Members]:
     """The functions of UP.json, as many as a service may have."""
-    beyond = LineGroups("leaves out the functions {names}: {line}")
+    beyond = LineGroups("ignores the functions {names}: {line}")
     for one in listed[MOST_FUNCTIONS:]:
         beyond.add(one.scope.prefix + one.key, f"{MOST_FUNCTIONS} are the most")
     beyond.say()
@@ -302,5 +302,5 @@ def tell_services(scope: Scope) -> None:
     """One line for each resource that another service must serve, with the variables by which functions find it."""
     for key in scope.services:
         names = [f"{variable} of {', '.join(functions)}" for variable, functions in scope.used.get(key, {}).items()]
-        tell(f"leaves out {scope.prefix}{key}, {members_of(scope.resources, key)['Type']}, which another service must "
+        tell(f"ignores {scope.prefix}{key}, {members_of(scope.resources, key)['Type']}, which another service must "
              f"have ({PAGE})" + (f": {'; '.join(names)} names it" if names else ""))

@@ -55,7 +55,7 @@ def put(made: Members, where: str, of: Of, key: Callable[[], str], authorizer: O
     try:
         made["routes"] = [*made.get("routes", ()), FunctionRoute(key(), of, authorizer=authorizer)]
     except WrongRoute as fault:
-        tell(f"{made['name']}: leaves out its {where}: {fault}")
+        tell(f"{made['name']}: ignores its {where}: {fault}")
 
 
 class RestApis:
@@ -92,7 +92,7 @@ class RestApis:
             made = (function_invoked_by(integration.get("Uri"), functions, self.scope)
                     if kind in ("AWS_PROXY", "AWS") else None)
             if made is None or api is None or api not in self.apis or path is None or method is None:
-                tell(f"leaves out {key}, {REST}Method: {self.why_not(kind, made, api, path)}")
+                tell(f"ignores {key}, {REST}Method: {self.why_not(kind, made, api, path)}")
                 continue
             if kind == "AWS":
                 tell(f"{made['name']}: {method} {path} is a proxy integration here, without mapping templates")
@@ -105,7 +105,7 @@ class RestApis:
     @staticmethod
     def why_not(kind: object, made: Optional[Members], api: Optional[str], path: Optional[str]) -> str:
         if kind not in ("AWS_PROXY", "AWS"):
-            return f"its integration is {excerpt(kind)}, and no function"
+            return f"its integration is {excerpt(kind)}, not a function"
         return "its function is not here" if made is None else "its API, path or method is not known here"
 
     def preflight(self, api: Optional[str], integration: Members) -> None:
@@ -156,7 +156,7 @@ class HttpApis:
             integration = self.integration_of(properties.get("Target")) or {}
             made = function_invoked_by(integration.get("IntegrationUri"), functions, self.scope)
             if self.is_web_socket(api) or api is None or api not in self.apis or route is None or made is None:
-                tell(f"leaves out {key}, {HTTP}Route: " + (
+                tell(f"ignores {key}, {HTTP}Route: " + (
                     "it is of a WebSocket API" if self.is_web_socket(api) else
                     "its function is not here" if made is None else "its API or key is not known here"))
                 continue

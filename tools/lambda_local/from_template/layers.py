@@ -35,7 +35,7 @@ def layers_of(given: Any, scope: Scope, base: str, tell: Tell) -> List[str]:
     if given is None:
         return []
     if not isinstance(given, list):
-        tell(f"leaves out its layers: they must be a list, not {excerpt(given)}")
+        tell(f"ignores its layers: they must be a list, not {excerpt(given)}")
         return []
     return [path for path in (path_of(one, scope, base, tell) for one in given) if path is not None]
 
@@ -45,12 +45,12 @@ def path_of(given: Any, scope: Scope, base: str, tell: Tell) -> Optional[str]:
     layer = resource(name, scope) if isinstance(name, str) else None
     if layer is None:
         named = scope.evaluate_or_reason(given).value if name is None else name
-        tell(f"leaves out the layer {excerpt(named or given)}, whose content is not here: unpack it into a folder, and "
+        tell(f"ignores the layer {excerpt(named or given)}, whose content is not here: unpack it into a folder, and "
              "write that into its \"layers\"")
         return None
     at = os.path.join(base, layer.path)
     if "\0" in layer.path or not (os.path.isdir(at) or os.path.isfile(at) and at.endswith(".zip")):
-        tell(f"leaves out the layer {layer.name}: {excerpt(layer.path)} is not a folder or .zip file (yet): write it "
+        tell(f"ignores the layer {layer.name}: {excerpt(layer.path)} is not a folder or .zip file (yet): write it "
              "into its \"layers\" once it is built")
         return None
     if not layer.is_built and not any(os.path.isdir(os.path.join(at, folder)) for folder in FOLDERS):

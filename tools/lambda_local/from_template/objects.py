@@ -17,7 +17,7 @@ class Object:
         self.members: Members = given if isinstance(given, dict) else {}
         self.asked: Set[str] = set()
         if given is not None and given is not NO_VALUE and not isinstance(given, dict):
-            tell(f"leaves out {where}: it must be an object, not {excerpt(given)}")
+            tell(f"ignores {where}: it must be an object, not {excerpt(given)}")
 
     def raw(self, name: str) -> object:
         """A member as the template has it, by the conditions around it; None if it is not there."""
@@ -32,7 +32,7 @@ class Object:
             return None
         value, placeholders = self.scope.evaluate_or_reason(given)
         if placeholders:
-            self.tell(f"leaves out {name} of {self.where}: it needs {' and '.join(placeholders)}")
+            self.tell(f"ignores {name} of {self.where}: it needs {' and '.join(placeholders)}")
             return None
         return None if value is NO_VALUE else value
 
@@ -40,7 +40,7 @@ class Object:
         value = self.value(name)
         if value is None or is_scalar(value):
             return None if value is None else text_of(value)
-        self.tell(f"leaves out {name} of {self.where}: it must be a string, not {excerpt(value)}")
+        self.tell(f"ignores {name} of {self.where}: it must be a string, not {excerpt(value)}")
         return None
 
     def whole(self, name: str, least: int, most: int) -> Optional[int]:
@@ -51,7 +51,7 @@ class Object:
         text = text_of(value) if is_scalar(value) and not isinstance(value, bool) else ""
         if text.isascii() and text.isdigit() and len(text) < 10 and least <= int(text) <= most:
             return int(text)
-        self.tell(f"leaves out {name} of {self.where}: it must be a whole number from {least} to {most}, not "
+        self.tell(f"ignores {name} of {self.where}: it must be a whole number from {least} to {most}, not "
                   f"{excerpt(value)}")
         return None
 
@@ -65,11 +65,11 @@ class Object:
     def close(self) -> None:
         """Says what nobody has asked for."""
         if left := self.left():
-            self.tell(f"leaves out {', '.join(left)} of {self.where}")
+            self.tell(f"ignores {', '.join(left)} of {self.where}")
 
 
 def members_by_key(given: object, scope: Scope) -> Dict[str, Members]:
-    """The objects that an object has, by their keys, without those that a condition leaves out."""
+    """The objects that an object has, by their keys, without those that a condition ignores."""
     chosen = scope.chosen(given)
     if not isinstance(chosen, dict):
         return {}

@@ -47,12 +47,12 @@ def document_of(key: str, properties: Members, inline: str, file: str, scope: Sc
         return None
     value = scope.evaluate_or_reason(named).value
     if not isinstance(value, str) or "://" in value:
-        tell(f"leaves out {file} of {key}, {excerpt(value)}, which is not a file here")
+        tell(f"ignores {file} of {key}, {excerpt(value)}, which is not a file here")
         return None
     try:
         read = parse(value, folder.text(base, value, LONGEST))
     except Fault as fault:
-        tell(f"leaves out {file} of {key}: {fault}")
+        tell(f"ignores {file} of {key}: {fault}")
         return None
     return read if isinstance(read, dict) else None
 
@@ -76,7 +76,7 @@ def add_route(key: str, is_rest: bool, method: str, path: str, operation: object
         return
     made = function_invoked_by(given.raw("uri"), functions, scope)
     if made is None:
-        tell(f"leaves out {where}: " + (f"its integration {kind} is no function that is here" if kind
+        tell(f"ignores {where}: " + (f"its integration {kind} is not a function here" if kind
                                         else f"it has no {INTEGRATION}"))
         return
     payload = "1.0" if is_rest or str(given.raw("payloadFormatVersion")) == "1.0" else "2.0"
@@ -88,11 +88,11 @@ def add_route(key: str, is_rest: bool, method: str, path: str, operation: object
     given.close()
     told = sorted(set(map(str, members_of({"": operation}, ""))) & {"security", "x-amazon-apigateway-auth"})
     if told and members_of({"": operation}, "").get("security") != []:
-        tell(f"leaves out {', '.join(told)} of {where}")
+        tell(f"ignores {', '.join(told)} of {where}")
     try:
         route = FunctionRoute(key_of(method, path), Of(scope.prefix + key, is_rest, payload))
     except WrongRoute as fault:
-        tell(f"{made['name']}: leaves out {where}: {fault}")
+        tell(f"{made['name']}: ignores {where}: {fault}")
         return
     if (name := (str(made["name"]), route.key, route.of.key)) not in known:
         known.add(name)

@@ -3,7 +3,7 @@ import os
 from typing import Dict, List, Optional
 
 from ..configuration import Members
-from . import asynchronous, authorizers, openapi, own_values, queues, serverless
+from . import asynchronous, authorizers, balancers, openapi, own_values, queues, serverless
 from .files import Folder
 from .find import Source
 from .functions import Listed, functions_of, tell_services
@@ -45,6 +45,7 @@ def apis_in(stacks: List[Stack], functions: List[Members], folder: str) -> Dict[
         authorizers.resolve(functions, of_events, scope)
         apis = {**apis, **of_events, **add_routes(functions, scope)}
         openapi.add_routes(functions, scope, files, stack.base)
+        balancers.add_routes(functions, scope)
         tell_services(scope)
     return apis
 

@@ -28,7 +28,7 @@ def queue_of(arn: object, batch: Optional[int], window: Optional[int], where: st
         tell_(f"{where}, SQS, is not polled: set \"queue\": {{\"url\": \"http://HOST:PORT/{account}/{name}\"}} in "
               f"{VALUES}, or AWS_ENDPOINT_URL_SQS ({PAGE})")
     elif match is None:
-        tell_(f"leaves out {where}, SQS: {excerpt(value)} is not the ARN of a queue")
+        tell_(f"ignores {where}, SQS: {excerpt(value)} is not the ARN of a queue")
         return None
     if batch is not None and batch > MOST_WITHOUT_WINDOW and not window:
         batch = MOST_WITHOUT_WINDOW
@@ -40,7 +40,7 @@ def queue_of(arn: object, batch: Optional[int], window: Optional[int], where: st
 
 def is_off(given: Object, where: str, name: str, tell_: Tell) -> bool:
     if given.value(name) in (False, "false"):
-        tell_(f"leaves out {where}, which is not enabled")
+        tell_(f"ignores {where}, which is not enabled")
         return True
     return False
 
@@ -85,7 +85,7 @@ def put(made: Members, queues: List[Members], tell_: Tell) -> None:
     """Gives a function its queue. It has one at most here."""
     for queue in queues:
         if "queue" in made:
-            tell_(f"leaves out a further queue{' ' * ('url' in queue)}{queue.get('url', '')}: a function has one here")
+            tell_(f"ignores a further queue{' ' * ('url' in queue)}{queue.get('url', '')}: a function has one here")
         else:
             made["queue"] = queue
 
@@ -99,9 +99,9 @@ def add_mappings(functions: List[Members], scope: Scope) -> None:
         source = scope.evaluate_or_reason(given.raw("EventSourceArn")).value
         made = function_of(scope.evaluate_or_reason(given.raw("FunctionName")).value, functions, scope)
         if made is None:
-            tell(f"leaves out {key}, {MAPPING}: its function is not here")
+            tell(f"ignores {key}, {MAPPING}: its function is not here")
         elif not isinstance(source, str) or not ARN.fullmatch(source):
-            tell(f"leaves out {key}, {MAPPING}: {excerpt(source)} is not the ARN of an SQS queue")
+            tell(f"ignores {key}, {MAPPING}: {excerpt(source)} is not the ARN of an SQS queue")
         else:
             queue = mapped(given, "EventSourceArn", f"{key} of {made['name']}", scope, tell)
             put(made, [] if queue is None else [queue], tell)

@@ -22,9 +22,9 @@ def add_urls(functions: List[Members], scope: Scope) -> None:
             target = str(reason)
         made = function_of(target, functions, scope)
         if made is None:
-            tell(f"leaves out {key}, {URL}: there is no function {excerpt(target)}")
+            tell(f"ignores {key}, {URL}: there is no function {excerpt(target)}")
         elif "url" in made:
-            tell(f"leaves out {key}, {URL}: {made['name']} has a URL already")
+            tell(f"ignores {key}, {URL}: {made['name']} has a URL already")
         else:
             made["url"] = url_of(made["name"], key, properties, scope)
 

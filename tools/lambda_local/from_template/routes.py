@@ -13,6 +13,7 @@ from .values import NO_VALUE, Scope, is_scalar, text_of
 # The APIs of events that name none
 IMPLICIT, IMPLICIT_REST = "ServerlessHttpApi", "ServerlessRestApi"
 OF_SERVERLESS, REST_OF_SERVERLESS = "provider.httpApi", "provider.apiGateway"
+MULTIPLE = "alb, multiValueHeaders"  # the payload of rules whose target group has them
 UNNAMED = {IMPLICIT, IMPLICIT_REST, OF_SERVERLESS, REST_OF_SERVERLESS}
 # What is taken of an API's properties, or has no meaning here
 READ_OF_HTTP = {"Auth", "authorizers", "StageName", "StageVariables", "CorsConfiguration", "Name", "DefinitionBody",
@@ -29,6 +30,8 @@ class Of(NamedTuple):
 
     @property
     def name(self) -> str:
+        if self.payload.startswith(settings.BALANCER):
+            return f"the rules of {self.key}"
         return f"the {'REST' if self.is_rest else 'HTTP'} API {self.key}"
 
 
@@ -72,7 +75,7 @@ def take_routes(functions: List[Members]) -> Found:
     for name, mapped in found:
         shape = Route(mapped.key).shape
         if shape in shapes:
-            tell(f"{name}: leaves out the route {mapped.key}, since {routes[shapes[shape]][0]} has {shapes[shape]}")
+            tell(f"{name}: ignores the route {mapped.key}, since {routes[shapes[shape]][0]} has {shapes[shape]}")
         else:
             routes[mapped.key], shapes[shape] = (name, mapped), mapped.key
     return routes
@@ -111,7 +114,7 @@ class Apis:
         made = self.of_port(functions)
         for key in set(self.properties) - self.is_told - UNNAMED:
             if key.rpartition("/")[2] not in UNNAMED:
-                tell(f"leaves out {key}: none of the routes is of this API")
+                tell(f"ignores {key}: no route belongs to it")
         return {**made, **({"apis": others} if others else {})}
 
     def of_port(self, functions: List[Members]) -> Members:
@@ -140,15 +143,17 @@ class Apis:
             return None
         value, placeholders = self.scope.evaluate_or_reason(given)
         if placeholders:
-            tell(f"leaves out {name} of {of.name}: it needs {' and '.join(placeholders)}")
+            tell(f"ignores {name} of {of.name}: it needs {' and '.join(placeholders)}")
             return None
         return None if value is NO_VALUE else value
 
     def integration(self, of: Of) -> Members:
         """The members that say how requests become events."""
+        if of.payload.startswith(settings.BALANCER):
+            return {"payload": settings.BALANCER, **({"multiValueHeaders": True} if of.payload == MULTIPLE else {})}
         read = READ_OF_REST if of.is_rest else READ_OF_HTTP
         if left := sorted(str(name) for name in set(self.properties.get(of.key, {})) - read):
-            tell(f"leaves out {', '.join(left)} of {of.name}")
+            tell(f"ignores {', '.join(left)} of {of.name}")
         integration: Members = {"stage": self.stage(of), "stageVariables": self.variables(of)}
         if of.is_rest:
             integration = {"payload": "1.0", **integration, "binaryMediaTypes": self.binary(of)}
@@ -162,7 +167,7 @@ class Apis:
         if given is None or not of.is_rest and given == NO_STAGE:
             return None
         if given == NO_STAGE or not settings.OF_INTEGRATION["stage"].accepts(given):
-            tell(f"leaves out StageName of {of.name}: {excerpt(given)}")
+            tell(f"ignores StageName of {of.name}: {excerpt(given)}")
             return None
         return str(given)
 
@@ -170,14 +175,14 @@ class Apis:
         name = "Variables" if of.is_rest else "StageVariables"
         given = self.value(of, name) or {}
         if not isinstance(given, dict):
-            tell(f"leaves out {name} of {of.name}: they must be an object, not {excerpt(given)}")
+            tell(f"ignores {name} of {of.name}: they must be an object, not {excerpt(given)}")
             return None
         return {str(name): text_of(value) for name, value in given.items() if is_scalar(value)}
 
     def binary(self, of: Of) -> Optional[List[str]]:
         given = self.value(of, "BinaryMediaTypes") or []
         if not isinstance(given, list) or not settings.TEXTS.accepts(given):
-            tell(f"leaves out BinaryMediaTypes of {of.name}: they must be a list of strings, not {excerpt(given)}")
+            tell(f"ignores BinaryMediaTypes of {of.name}: they must be a list of strings, not {excerpt(given)}")
             return None
         return [re.sub("~1", "/", kind) for kind in given]  # (which is how SAM writes it)
 

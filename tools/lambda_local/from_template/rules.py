@@ -29,7 +29,7 @@ def add_rule(key: str, kind: str, members: Dict[str, Any], functions: List[Dict[
     given = Object(members, f"this {kind}", scope, tell)
     given.without_meaning([*WITHOUT_MEANING, "EventBusName", "Targets", "Target", "Tags"])
     if given.raw("ScheduleExpression") is None:
-        tell(f"leaves out this {kind}, which has no ScheduleExpression: lambda_local invoke --sample eventbridge sends "
+        tell(f"ignores this {kind}, which has no ScheduleExpression: lambda_local invoke --sample eventbridge sends "
              "an event like it")
         return
     if is_off(given, tell):
@@ -42,7 +42,7 @@ def add_rule(key: str, kind: str, members: Dict[str, Any], functions: List[Dict[
         arn = scope.evaluate_or_reason(one.raw("Arn")).value
         made = function_of(arn, functions, scope)
         if made is None:
-            tell(f"leaves out a target of this {kind}: there is no function {excerpt(arn)}")
+            tell(f"ignores a target of this {kind}: there is no function {excerpt(arn)}")
             continue
         schedule = schedule_of(f"this {kind}", given.raw("ScheduleExpression"), one.raw("Input"), scope, tell, zone)
         put(made, [schedule] if schedule is not None else [])

@@ -29,17 +29,17 @@ def schedule_of(where: str, expression: Any, given: Any, scope: Scope, tell: Tel
     """A schedule of UP.json; none, and a message, if it is unknown here."""
     both, placeholders = scope.evaluate_or_reason([expression, given if given is not None else {"Ref": "AWS::NoValue"}])
     if placeholders:
-        tell(f"leaves out {where}: it needs {' and '.join(placeholders)}")
+        tell(f"ignores {where}: it needs {' and '.join(placeholders)}")
         return None
     both = both if isinstance(both, list) else []
     text = both[0] if both else None
     if not isinstance(text, str):
-        tell(f"leaves out {where}: its expression must be a string, not {excerpt(text)}")
+        tell(f"ignores {where}: its expression must be a string, not {excerpt(text)}")
         return None
     try:
         expression_of(text, zone)
     except WrongExpression as fault:
-        tell(f"leaves out {where}, {excerpt(text)}: {fault}")
+        tell(f"ignores {where}, {excerpt(text)}: {fault}")
         return None
     made: Dict[str, object] = {"expression": text}
     made.update({} if len(both) == 1 or both[1] is NO_VALUE else {"input": input_of(both[1])})
@@ -56,7 +56,7 @@ def of_events(properties: Dict[str, Any], scope: Scope, tell: Tell) -> List[obje
 def is_off(given: Object, tell: Tell) -> bool:
     if any(state is False or state == "DISABLED" or state == "false"
            for state in map(given.raw, ("State", "Enabled", "enabled"))):
-        tell(f"leaves out {given.where}, which is not enabled")
+        tell(f"ignores {given.where}, which is not enabled")
         return True
     return False
 

@@ -38,7 +38,7 @@ def object_of(part: Members, name: str, where: str, scope: ServerlessScope) -> M
         except Unknown as reason:
             value = str(reason)
     if value is not None and not isinstance(value, dict):
-        tell(f"{where}: leaves out {name}: it must be an object, not {excerpt(part[name])}")
+        tell(f"{where}: ignores {name}: it must be an object, not {excerpt(part[name])}")
     return value if isinstance(value, dict) else {}
 
 
@@ -79,21 +79,21 @@ def functions_in(whole: Members, stack: str, given: Given, folder: Folder,
     for given_part in functions if isinstance(functions, list) else [functions]:
         part = scope.raw(given_part)
         if not isinstance(part, dict):
-            tell(f"leaves out functions: {excerpt(part)}: it must be an object{scope.why(given_part)}")
+            tell(f"ignores functions: {excerpt(part)}: it must be an object{scope.why(given_part)}")
             continue
         for key, given_member in part.items():
             member = scope.raw(given_member)
             if member is None or isinstance(member, dict):
                 found.append((str(key), properties_of(str(key), member or {}, scope)))
             else:
-                tell(f"leaves out the function {key}: it must be an object, not {excerpt(member)}"
+                tell(f"ignores the function {key}: it must be an object, not {excerpt(member)}"
                      f"{scope.why(given_member)}")
     for name in sorted(str(name) for name in set(whole) - TAKEN):
-        tell(f"leaves out {name}")
+        tell(f"ignores {name}")
     provider = Object(scope.provider, "provider", scope, tell)
     provider.without_meaning({*OF_PROVIDER, *OF_DEPLOYMENT})
     provider.close()
-    left = LineGroups("leaves out {names}, {line}")
+    left = LineGroups("ignores {names}, {line}")
     for key, resource in scope.resources.items():
         kind = str(members_of({"": resource}, "").get("Type"))
         if not is_for_later(kind):

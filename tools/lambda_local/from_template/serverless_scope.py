@@ -80,7 +80,7 @@ class ServerlessScope(Scope):
                 if os.path.isfile(path):
                     self.environment.update(of_env_file(path, "useDotenv:"))
             except Fault as fault:
-                tell(f"leaves out {name}: {fault}")
+                tell(f"ignores {name}: {fault}")
 
     def read_resources(self) -> None:
         """Its CloudFormation, which may be in several parts, each a file."""
@@ -88,7 +88,7 @@ class ServerlessScope(Scope):
         for part in given if isinstance(given, list) else [given]:
             one = self.raw(part)
             if one is not None and not isinstance(one, dict):
-                tell(f"leaves out resources: {excerpt(one)}: it must be an object{self.why(part)}")
+                tell(f"ignores resources: {excerpt(one)}: it must be an object{self.why(part)}")
             for name, into in (("Parameters", self.parameters), ("Conditions", self.conditions),
                                ("Mappings", self.mappings), ("Outputs", self.outputs)):
                 into.update(members_of(one, name))

@@ -88,7 +88,7 @@ class Stacks:
         location = given if given is not None else properties.get(NESTED[resource["Type"]])
         value = scope.evaluate_or_reason(location).value
         if not isinstance(value, str) or "://" in value:
-            tell(f"leaves out {key}, {resource['Type']}: its template {excerpt(value)} is not a file here")
+            tell(f"ignores {key}, {resource['Type']}: its template {excerpt(value)} is not a file here")
             return
         try:
             path = self.folder.inside(stack.base, value)
@@ -97,10 +97,10 @@ class Stacks:
                              if os.path.isfile(os.path.join(path, name))), path)
             template = parse(path, self.folder.text(stack.base, path, LONGEST))
         except Fault as fault:
-            tell(f"leaves out {key}, {resource['Type']}: {fault}")
+            tell(f"ignores {key}, {resource['Type']}: {fault}")
             return
         if not isinstance(template, dict) or not isinstance(template.get("Resources"), dict):
-            tell(f"leaves out {key}, {resource['Type']}: {value} is not a template: it must have Resources")
+            tell(f"ignores {key}, {resource['Type']}: {value} is not a template: it must have Resources")
             return
         passed = {str(name): (scope, expression) for name, expression in members_of(properties, "Parameters").items()}
         scope.nested[key] = self.add(template, path, f"{scope.pseudo['AWS::StackName']}-{key}",
@@ -114,7 +114,7 @@ class Stacks:
         try:
             return dict(assets_in(parse(name, self.folder.text("", name, LONGEST))))
         except Fault as fault:
-            tell(f"leaves out {os.path.basename(name)}: {fault}")
+            tell(f"ignores {os.path.basename(name)}: {fault}")
             return {}
 
     # ---- what `cdk synth` writes -------------------------------------------------------------------------------------
@@ -148,7 +148,7 @@ class Stacks:
         if name is None:
             raise Fault(f"--stage {wanted}: there is no such stage; there are {', '.join(inner)}")
         if len(inner) > 1 and wanted is None:
-            tell(f"takes the stage {name}: --stage chooses another one of {', '.join(inner)}")
+            tell(f"uses stage {name}: --stage chooses another of {', '.join(inner)}")
         return inner[name]
 
     def artifacts_of(self, folder: str) -> Tuple[List[Tuple[str, str]], Dict[str, str]]:

@@ -401,7 +401,7 @@ class Scope:
             self.shared.enter("its conditions go round in a circle")
             if isinstance(condition, str):
                 if condition not in self.conditions:
-                    raise Unknown(f"there is not a condition {condition}")
+                    raise Unknown(f"there is no condition {condition}")
                 return self.holds(self.conditions[condition])
             return self.of_condition(condition)
         finally:

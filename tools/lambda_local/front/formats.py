@@ -19,6 +19,7 @@ def message(status: int, text: str) -> Reply:
 
 class OfUrl:
     """A Function URL: payload format 2.0."""
+    longest = 6 << 20  # bytes of a body
     replaces_cors = True  # whether a configuration's headers stand in place of the function's own
 
     def event(self, request: Request, body: bytes, context: Members, parameters: Optional[Dict[str, str]],

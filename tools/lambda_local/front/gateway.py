@@ -6,6 +6,7 @@ from ..configuration import Members
 from ..outgoing import Log
 from ..streaming.streams import Streams
 from . import cors, response_stream
+from .alb import OfBalancer
 from .authorize import Asked, Authorizers, Refused
 from .budget import Budget, Full, Held
 from .client import Client
@@ -16,10 +17,10 @@ from .origins import FOREIGN_CODING, Refusal, further_hosts, refusal_of
 from .payload import Unmappable
 from .rest_payload import Tell
 from .routes import Routes
-from .settings import Address, Integration, Target
+from .settings import BALANCER, Address, Integration, Target
 from .wire import Gone
 
-MOST_BODY = 6 << 20  # bytes, of a request and of the event that is made of it
+MOST_BODY = 6 << 20  # bytes of the event that is made of a request
 
 
 class Backend(NamedTuple):
@@ -29,6 +30,11 @@ class Backend(NamedTuple):
     parameters: Optional[Dict[str, str]]
     format: OfUrl
     below: Optional[str] = None  # the request's path below the stage that it begins with
+
+
+def made_of(integration: Integration, region: str) -> OfHttpApi:
+    """The format of a route."""
+    return OfBalancer(integration, region) if integration.version == BALANCER else format_of(integration)
 
 
 def trace_of(request: Request) -> Headers:
@@ -92,9 +98,9 @@ class Gateway:
             self.say(backend, request, text, level="warning")
 
         try:
-            body = await request.body.whole(MOST_BODY, held.grow)
+            body = await request.body.whole(backend.format.longest, held.grow)
         except TooLong:
-            return self.too_large(backend, request, "its body")
+            return self.too_large(backend, request, "its body", backend.format.longest)
         held.is_whole()
         context = {**backend.context, "requestId": self.identifiers.next(backend.function)}
         request = request._replace(below=backend.below)
@@ -108,7 +114,7 @@ class Gateway:
             return message(500, "Internal Server Error")
         event = backend.format.event(request, body, context, backend.parameters, tell)
         if len(event) > MOST_BODY:
-            return self.too_large(backend, request, "the event made of it")
+            return self.too_large(backend, request, "the event made of it", MOST_BODY)
         try:
             return await self.answer(request, backend, trace_of(request), event, tell)
         except (Gone, Malformed):
@@ -136,8 +142,8 @@ class Gateway:
             self.say(backend, request, f"502, its result cannot be mapped: {reason}")
             return backend.format.failure_reply()
 
-    def too_large(self, backend: Backend, request: Request, what: str) -> Reply:
-        self.say(backend, request, f"413, {what} has more than {MOST_BODY} bytes")
+    def too_large(self, backend: Backend, request: Request, what: str, most: int) -> Reply:
+        self.say(backend, request, f"413, {what} has more than {most} bytes")
         return message(413, "Request Entity Too Large")
 
     def reply_to_refusal(self, backend: Backend, request: Request, status: int, result: bytes) -> Reply:
@@ -199,7 +205,7 @@ class Api(Gateway):
             by_stage.setdefault(target.integration.stage if address.stage_in_path else NO_STAGE, {})[key] = target
         self.routes = {stage: Routes(own) for stage, own in by_stage.items()}
         self.authorizers, self.region = Authorizers(client), str(configuration["region"])
-        self.formats = {key: format_of(target.integration) for key, target in routes.items()}
+        self.formats = {key: made_of(target.integration, self.region) for key, target in routes.items()}
         # (what no route takes is answered as by the kind that all routes have)
         formats = list(self.formats.values())
         self.common = formats[0] if len(set(map(type, formats))) == 1 else OfHttpApi(Integration())

@@ -41,8 +41,10 @@ OF_ADDRESS = {"port": PORT, "cors": OBJECT}
 OF_URL = {**OF_ADDRESS, "invoke": Kind(lambda value: value in ("BUFFERED", "RESPONSE_STREAM"),
                                        '"BUFFERED" or "RESPONSE_STREAM"')}
 STAGE = re.compile(r"[A-Za-z0-9_-]{1,128}|\$default")
+BALANCER = "alb"  # the payload of an Application Load Balancer
 OF_INTEGRATION = {
-    "payload": Kind(lambda value: value in ("1.0", "2.0"), '"1.0" or "2.0"'),
+    "payload": Kind(lambda value: value in ("1.0", "2.0", BALANCER), '"1.0", "2.0" or "alb"'),
+    "multiValueHeaders": YES,
     "type": Kind(lambda value: value in ("REST", "HTTP"), '"REST" or "HTTP"'),
     "stage": Kind(lambda value: isinstance(value, str) and STAGE.fullmatch(value) is not None,
                   "a string of 1 to 128 letters, digits, - and _, or $default"),
@@ -109,6 +111,7 @@ class Integration(NamedTuple):
     variables: Optional[Dict[str, str]] = None
     binary: Tuple[str, ...] = ()  # media types of a REST API, in lower case
     authorizer: Optional[Authorizer] = None
+    is_multiple: bool = False  # headers and parameters of a load balancer are lists
 
 
 class Target(NamedTuple):
@@ -196,6 +199,13 @@ def mistakes_of_address(given: Members, where: str, kinds: Mapping[str, Kind] = 
 def mistakes_of_integration(given: Members, whole: Members, where: str) -> Iterator[str]:
     """What does not go together; `whole` also has what a route has from its API."""
     kind = kind_of(whole)
+    if kind == BALANCER:
+        for name in sorted({"type", "stage", "stageVariables", "binaryMediaTypes", "authorizer"} & set(given)):
+            if given[name] is not None:
+                yield f'{where}{name} is of an API, and not of "payload": "alb": leave it out'
+        return
+    if "multiValueHeaders" in given:
+        yield f'{where}multiValueHeaders is of "payload": "alb": leave it out'
     if kind == "REST" and whole.get("payload") == "2.0":
         yield f'{where}the events of a REST API have "payload": "1.0": write that, or "type": "HTTP"'
     if kind == "REST" and given.get("stage") == NO_STAGE:
@@ -207,7 +217,7 @@ def mistakes_of_integration(given: Members, whole: Members, where: str) -> Itera
 def mistakes_of_authorizer(given: Members, whole: Members, names: List[str], where: str) -> Iterator[str]:
     """Also of one that a route has from its API, if it says of which kind it is itself."""
     authorizer = whole.get("authorizer")
-    if isinstance(authorizer, dict) and {"authorizer", "type", "payload"} & set(given):
+    if isinstance(authorizer, dict) and kind_of(whole) != BALANCER and {"authorizer", "type", "payload"} & set(given):
         yield from authorizers.mistakes(authorizer, names, kind_of(whole) == "REST", f"{where}authorizer: ")
 
 
@@ -247,6 +257,8 @@ def address_of(given: object) -> Address:
 
 
 def kind_of(given: Members) -> str:
+    if given.get("payload") == BALANCER:
+        return BALANCER
     return given.get("type", "REST" if given.get("payload") == "1.0" else "HTTP")
 
 
@@ -256,6 +268,8 @@ def target_of(given: object, api: Members) -> Target:
     whole = {**api, **given}
     is_rest = kind_of(whole) == "REST"
     variables = whole.get("stageVariables") or None
+    if kind_of(whole) == BALANCER:
+        return Target(given["function"], Integration(BALANCER, is_multiple=whole.get("multiValueHeaders", False)))
     authorizer = authorizer_of(whole.get("authorizer"), is_rest)
     if not is_rest:
         return Target(given["function"], Integration(whole.get("payload", "2.0"), False, whole.get("stage", NO_STAGE),

@@ -39,14 +39,14 @@ def beside(script: Script, run: Run) -> Comparison:
         replayed = run.output.readline()
         if not replayed:
             run.finish()
-            words = f"line {number}: the history has {shown(answer, SHOWN)}, and the replay has no more answers"
+            words = f"line {number}: the history has {shown(answer, SHOWN)}, but the replay ends before it"
             return Comparison(words, saved - 1, saved)
         if replayed[:-1] != answer:
-            return Comparison(f"line {number}: the history has {shown(answer, SHOWN)}, and the replay answers "
+            return Comparison(f"line {number}: the history has {shown(answer, SHOWN)}, but the replay answers "
                               f"{shown(replayed[:-1], SHOWN)}", saved, saved)
     more = run.output.readline()
     if more:
         last = sum(1 for _ in script.lines())
-        return Comparison(f"line {last}: the history ends, and the replay answers {shown(more[:-1], SHOWN)}",
+        return Comparison(f"line {last}: the history ends here, but the replay also answers {shown(more[:-1], SHOWN)}",
                           saved + 1, saved)
     return Comparison(None, saved, saved)

@@ -32,7 +32,7 @@ def rerun(service: Service, recording: Recording, pointers: Sequence[Pointer] = 
             settle(service, before["admitted"] + len(served))
         history = service.history()
     except (OSError, ValueError, http.client.HTTPException) as fault:
-        raise Fault(2, f"the service has ended before its history could be read: {fault}") from None
+        raise Fault(2, f"the service ended before its history could be read: {fault}") from None
     now = parsed(history, "the new history", service.program).invocations
     identified = Identified(now)
     answers = [identified.find(then.function, made.identifier) for then, made in zip(of_callers, sent)]
@@ -64,7 +64,7 @@ def of_caller(then: Invocation, made: Sent, answer: Optional[Invocation], pointe
     kind = answer.kind if answer else f"status {made.status}"
     body = answer.body if answer else made.body
     if kind == "stopped":
-        raise Fault(2, f"the service has ended while call {then.ticket} of {then.function} was sent again: it was "
+        raise Fault(2, f"the service ended while call {then.ticket} of {then.function} was being sent again: it was "
                        "stopped")
     return judged(then, kind, body, made.seconds, pointers, exact)
 
@@ -101,4 +101,4 @@ def notes_of(unknown: Sequence[Invocation]) -> List[str]:
         return []
     names = ", ".join(sorted({each.function for each in unknown}))
     return [f"{several(len(unknown), 'invocation')} of {names} {'was' if len(unknown) == 1 else 'were'} made by "
-            "functions without the trace that they run in: if the history has them, they were sent as well"]
+            "functions that did not pass their trace on: if the history has them, they were sent as well"]

@@ -1,9 +1,9 @@
 """Sends the invocations of a recorded history to today's functions, and compares what they answer.
 
   lambda_local rerun history.txt UP.json                          with the concurrency that was recorded
-  lambda_local rerun --one-by-one history.txt UP.json             each once the one before it is answered
-  lambda_local rerun --ignore /time --ignore '/items/*/id' ..     but for these members of an output, whatever they are
-  lambda_local rerun --exact history.txt UP.json                  compares whole error reports, with their stacks
+  lambda_local rerun --one-by-one history.txt UP.json             one at a time
+  lambda_local rerun --ignore /time --ignore '/items/*/id' ..     ignoring these members of outputs
+  lambda_local rerun --exact history.txt UP.json                  comparing whole error reports, with their stacks
   lambda_local rerun --update history.txt UP.json                 writes the new history over the old one
 
 HISTORY is what GET /_local/history gives, and what `lambda_local up --history FILE` saves. UP.json is that of

@@ -53,7 +53,7 @@ class Functions(Session):
         threading.Thread(target=self.note_end, daemon=True).start()
         try:
             if not self.wait_until_ready():
-                raise Fault(2, "the service has ended before its functions were ready")
+                raise Fault(2, "the service ended before its functions were ready")
             return use()
         except Fault:
             if self.signals:

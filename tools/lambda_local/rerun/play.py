@@ -89,6 +89,6 @@ def wait(attempt: Attempt, is_over: Callable[[], bool]) -> None:
             looks += 1
             time.sleep(PAUSE)
         if is_over():
-            raise Fault(2, f"the service has ended while {words} was sent again")
+            raise Fault(2, f"the service ended while {words} was sent again")
     if attempt.fault:
         raise Fault(2, f"the service does not answer {words}: {attempt.fault}")

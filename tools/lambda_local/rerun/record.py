@@ -57,15 +57,15 @@ def recorded(script: Script, program: str) -> Recording:
         try:
             configuration = script.configuration
             if not configuration.is_of_a_history:
-                raise Fault(2, "this is a script or another file, and no history: save what GET /_local/history "
-                               "answers")
+                raise Fault(2, "this is not a history: save what GET /_local/history "
+                               "returns")
             if cut := script.leave_out_cut_line():
                 raise Fault(2, f"line {cut} has no end: the history is cut off")
         except Fault as fault:
             raise Fault(2, f"{script.name}: {fault}") from None
         invocations = invocations_of(entries_of_script(script, program), script.name)
         if difference := compared(script, program).difference:
-            raise Fault(2, f"{script.name}: {difference}: the history was edited, or is of another version of "
+            raise Fault(2, f"{script.name}: {difference}: the history was edited, or recorded by another version of "
                            "lambda_local")
     finally:
         script.close()
@@ -84,7 +84,7 @@ def invocations_of(entries: Iterable[Entry], path: str) -> List[Invocation]:
             function = str(call.function)
             counts[function] += 1
             if call.trace is not None and not TRACE.fullmatch(call.trace):
-                raise Fault(2, f"{path}: entry {entry.ticket}: {call.trace[:60]!r} is not a trace: no header has it")
+                raise Fault(2, f"{path}: entry {entry.ticket}: {call.trace[:60]!r} is not the value of a trace header")
             found[entry.ticket] = Invocation(entry.ticket, function, counts[function], call.qualified, call.trace,
                                              call.body or b"", OPEN, None, None,
                                              roots.begin(entry.ticket, entry.request, call.trace))

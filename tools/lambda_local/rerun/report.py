@@ -51,7 +51,7 @@ def judged(then: Invocation, kind: str, body: Optional[bytes], seconds: float, p
 def of_made(then: Invocation, now: Optional[Invocation], pointers: Sequence[Pointer], exact: bool = False) -> Result:
     """A recorded invocation that a function made, beside the one that it has made now, if it has."""
     if now is None:
-        return Result(then, CHANGED, ["only then: no function makes it now"], 0.0)
+        return Result(then, CHANGED, ["recorded, but no function makes it now"], 0.0)
     result = judged(then, now.kind, now.body, 0.0, pointers, exact)
     events = [f"its event: {each}" for each in differences(then.payload, now.payload, pointers)]
     if not events:
@@ -61,7 +61,7 @@ def of_made(then: Invocation, now: Optional[Invocation], pointers: Sequence[Poin
 
 def of_new(now: Invocation) -> Result:
     """An invocation that a function has made now alone."""
-    return Result(now, CHANGED, [f"only now: a function makes it, {words_of(now.kind, now.body)}"], 0.0, is_new=True)
+    return Result(now, CHANGED, [f"new, a function makes it now: {words_of(now.kind, now.body)}"], 0.0, is_new=True)
 
 
 def left_out(invocations: Sequence[Invocation]) -> str:

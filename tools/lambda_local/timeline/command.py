@@ -1,4 +1,4 @@
-"""Draws what went on in lambda_local: a history or a script as a picture, as a trace, or as a log.
+"""Draws what happened in lambda_local: a history or a script as a picture, as a trace, or as a log.
 
   curl -s http://127.0.0.1:9000/_local/history | lambda_local timeline -o timeline.html
   lambda_local timeline examples/timeout.txt                 one line an event
@@ -6,7 +6,7 @@
   lambda_local timeline --svg -o picture.svg script.txt      the drawing alone
   lambda_local timeline --otlp -o spans.json history.txt     for a collector of OpenTelemetry
   lambda_local timeline --from +1.5 --to +2 history.txt      half a second of it
-  lambda_local timeline --live http://127.0.0.1:9000         a page that shows a running service, until Ctrl-C
+  lambda_local timeline --live http://127.0.0.1:9000         a page that follows a running service, until Ctrl-C
 
 What is shown is the program's trace of the calls (docs/trace.md), or one that was saved (--answers). A history (what
 GET /_local/history gives) has its answers in it: if its replay answers otherwise, as after an edit, the page and the
@@ -86,8 +86,8 @@ def arguments(words: Optional[Sequence[str]] = None) -> argparse.Namespace:
     parser.add_argument("--limit", metavar="N", type=int,
                         help=f"show at most this many calls (a drawing: {MOST_DRAWN:,}; else all)")
     parser.add_argument("--from", metavar="MOMENT", type=moment, dest="begin",
-                        help="show what goes on from this moment on")
-    parser.add_argument("--to", metavar="MOMENT", type=moment, dest="end", help="show what goes on up to this moment")
+                        help="show what happened from this moment on")
+    parser.add_argument("--to", metavar="MOMENT", type=moment, dest="end", help="show what happened up to this moment")
     parser.add_argument("--all", action="store_true",
                         help="show what lambda_local up itself does as well: the extension lambda_local.up")
     parser.add_argument("--live", metavar="URL",
@@ -114,7 +114,7 @@ def refuse_beside_live(parser: argparse.ArgumentParser, chosen: argparse.Namespa
              f"--{chosen.form}": chosen.form != "text", "--scale time": chosen.scale == "time"}
     for name, value in given.items():
         if value:
-            parser.error(f"--live shows what goes on: leave out {name}")
+            parser.error(f"--live shows a running service: leave out {name}")
 
 
 def watched(entries: Iterable[Entry]) -> Iterator[Entry]:
@@ -133,7 +133,7 @@ def opened_script(chosen: argparse.Namespace, closing: Closing, say: Say, data: 
     closing.append(script.close)
     is_history = script.configuration.is_of_a_history and not (chosen.answers or chosen.script)
     if is_history and (cut := script.leave_out_cut_line()):
-        say(f"line {cut} has no end, so it may be cut off; it is left out")
+        say(f"line {cut} has no line end, so it may be cut off: ignored")
     return script, is_history
 
 
@@ -157,7 +157,7 @@ def follow(chosen: argparse.Namespace, script: Script, is_history: bool, sink: W
         has_answers = next(answers_of(script), None) is not None
         for entry in entries:
             if not has_answers and entry.own and entry.call.kind not in WAITING:
-                raise Fault(2, f"{chosen.input} begins as a history, and has no answers; if it is a script, add "
+                raise Fault(2, f"{chosen.input} begins like a history but has no answers: if it is a script, add "
                                "--script")
             world.take(entry)
             if sink.is_over and has_answers:

@@ -6,6 +6,7 @@ from xml.sax.saxutils import escape, quoteattr
 from ..history.words import POLLS, Word
 from .call import FAILED, Call, Lane, outcome
 from .kept import Band, Kept, Step
+from .labels import short_names, without_middle
 from .style import COLOURS, DRAWING, LABELS, LANE, LETTER, width_of
 from .words import WALL_CLOCK, extension_words, length_words, payload_words, since_words, what, who
 from .world import Work
@@ -34,13 +35,26 @@ class Drawing(Kept):
             own = [lane for lane in lanes if lane[0] in ("environment", "runtime", "extension") and lane[1] == e]
             if not own and len(self.configuration.owners) > 8:
                 continue
-            rows.append((20, f"environment {e} \u00b7 {self.configuration.names[f]}", "head", ("why", e)))
+            rows.append((20, f"{self.configuration.names[f]} \u00b7 environment {e}", "head", ("why", e)))
             rows.append((LANE, "phase", "", ("environment", e)))
             rows.append((LANE, "runtime", "", ("runtime", e)))
             names = {lane[2]: None for call in self.calls for lane in [call.lane] if lane[0] == "extension"
                      and lane[1] == e}
             rows += [(LANE, extension_words(name), "", ("extension", e, name)) for name in names]
         return rows
+
+    def short(self, label: str, room: int, key: Lane) -> str:
+        """A label in so many letters. Of an environment's the name comes first, and at last its number."""
+        if len(label) <= room:
+            return label
+        if key[0] == "why":
+            number = f" \u00b7 {key[1]}"
+            names = short_names(self.configuration.names, room - len(number))
+            return names[self.configuration.names[self.configuration.owners[key[1] - 1]]] + number
+        if key[0] == "reserved":
+            begin = "reserved for "
+            return begin + short_names(self.configuration.names, room - len(begin))[self.configuration.names[key[1]]]
+        return without_middle(label, room)
 
     def draw(self) -> None:
         """The labels and the chart, each as the elements of an SVG, and the height of both."""
@@ -59,7 +73,7 @@ class Drawing(Kept):
                 self.chart.append(
                     f'<rect class="stripe" x="0" y="{top + 2}" width="{self.width:.0f}" height="{height - 4}"/>')
             room = int((LABELS - (12 if kind == "head" else 24)) / (7.4 if kind == "head" else LETTER))
-            short = label if len(label) <= room else label[: room - 1] + "\u2026"
+            short = self.short(label, room, key)
             indent = 6 if kind == "head" else 16
             title = f"<title>{escape(label)}</title>" if short != label else ""
             self.labels.append(

@@ -40,7 +40,7 @@ def configuration_of(port: int) -> Configuration:
         opening = answer.readline(len(FORM_2) + 2) if answer.status == 200 else b""
         if opening != FORM_2 + b"\n":
             raise Fault(
-                2, f"GET /_local/history gives no history there (status {answer.status}): this is not lambda_local")
+                2, f"GET /_local/history returns no history (status {answer.status}): this is not lambda_local")
         return read_configuration(answer.readline().rstrip(b"\n"), True)
     finally:
         connection.close()
@@ -91,7 +91,7 @@ class Live:
         """Takes what comes of one service, to its end."""
         if self.gone is not None:
             self.begin()
-            say(f"{self.url} answers again: its history begins anew")
+            say(f"{self.url} answers again, with a new history")
         if self.ended.is_set():
             return
         for entry in self.running.entries():

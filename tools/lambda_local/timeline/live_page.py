@@ -56,9 +56,9 @@ def fragment(drawing: Drawing, world: World, limit: int, gone: Optional[str]) ->
     """What changes: counts, failed calls and the drawing."""
     said = ""
     if gone:
-        said = (f'<p class="differs">The service has gone at {escape(gone)}. Its last calls stay here; if one answers '
-                "there again, it is shown.</p>\n")
-    words = "No call yet." if world.entry < 0 else f"{summary(drawing, world)} The last {limit:,} calls are shown."
+        said = (f'<p class="differs">The service has been unreachable since {escape(gone)}. Its last calls stay here; '
+                "if a service answers there again, that is shown.</p>\n")
+    words = "No calls yet." if world.entry < 0 else f"{summary(drawing, world)} The last {limit:,} calls are shown."
     return (f"{said}<p>{words}</p>\n{failures(drawing, newest_first=True)}{figure(drawing)}"
             f"<h2>Counts</h2>\n{count_rows(world)}\n")
 
@@ -71,5 +71,5 @@ def page(url: str, version: int, drawn: str) -> str:
         f"hidden=\"hidden\">Pause</button></header>\n"
         '<p class="note" id="lost" hidden="hidden">The tool that serves this page has ended: what is shown stays as it '
         'is.</p>\n'
-        "<noscript><p>Reload the page to see what is new: it updates itself by a script.</p></noscript>\n"
+        "<noscript><p>Reload the page to see what is new: updates need JavaScript.</p></noscript>\n"
         f"{legend()}\n<div id=\"drawn\" data-version=\"{version}\">{drawn}</div>\n<script src=\"live.js\"></script>\n"))

@@ -12,7 +12,7 @@ from .world import World
 LEGEND = (
     ("good", "answered: output, accepted, done"), ("error", "the function failed"), ("timeout", "timed out"),
     ("throttled", "throttled"), ("refused", "refused"), ("handed", "a poll that got an invocation or an event"),
-    ("ending", "told that its environment ends"), ("ended", "stopped, withdrawn, or ended with its environment"),
+    ("ending", "notified that its environment ends"), ("ended", "stopped, withdrawn, or ended with its environment"),
     ("open", "no answer yet"),
 )
 PAGE = """
@@ -69,7 +69,7 @@ def count_rows(world: World) -> str:
     """How many calls of each kind ended how."""
     counts = sorted(world.outcomes.items(), key=lambda item: (item[0][0] != "invoke", item[0]))
     rows = [(f"{kind}: {word}", count) for (kind, word), count in counts]
-    rows += [("no answer yet", len(world.open)), ("refused for a full journal", world.refused_full)]
+    rows += [("no answer yet", len(world.open)), ("refused: the journal is full", world.refused_full)]
     return "<ul>" + "".join(f"<li>{escape(words)} <b>{count:,}</b></li>" for words, count in rows if count) + "</ul>"
 
 

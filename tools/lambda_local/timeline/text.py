@@ -23,8 +23,8 @@ class Text(Sink):
         self.line(moment, f"account: {words}: refused JournalFull, so it has no number")
 
     def expired(self, moment: int, entry: int, environment: Environment) -> None:
-        self.line(moment, f"{self.configuration.place(environment.number)}: the deadline of {environment.phase} has "
-                          f"come (entry {entry})")
+        self.line(moment, f"{self.configuration.place(environment.number)}: the {environment.phase} deadline is "
+                          f"reached (entry {entry})")
 
     def words_of(self, call: Call) -> str:
         """Who has made a call, which one, and its number."""
@@ -41,7 +41,7 @@ class Text(Sink):
             self.line(call.end, self.words_of(call) + (f", {payload}" if payload else "") + f": {call.said}")
         else:
             length = length_words(call.end - call.moment)
-            self.line(call.end, f"{self.words_of(call)}, is answered after {length}: {call.said}")
+            self.line(call.end, f"{self.words_of(call)}, answered after {length}: {call.said}")
 
     def still_open(self, call: Call, moment: int, entry: int) -> None:
         self.line(moment, f"{self.words_of(call)}, has no answer yet")
@@ -49,7 +49,7 @@ class Text(Sink):
     def cut(self, call: Call, moment: int) -> None:
         words = f"{self.words_of(call)}, still waits"
         if call.answer:
-            words += f", and is answered at {moment_words(call.end)}, after what is shown"
+            words += f"; answered at {moment_words(call.end)}, after what is shown"
         self.line(moment, words)
 
     def turned(self, environment: Environment, moment: int, entry: int, phase: str, deadline: Optional[int],

@@ -87,6 +87,7 @@ class Printed:
         self.dividers: List[Callable[[str], None]] = []
         self.processes: List[Readable] = []
         self.starts: Deque[Start] = deque(maxlen=MOST_STARTS)
+        self.measured = 0.0  # when, by the monotonic clock
         self.passing = Passing(self.take, self.divide)
 
     # ---- the processes -----------------------------------------------------------------------------------------------
@@ -105,9 +106,12 @@ class Printed:
             if process in self.processes:
                 self.processes.remove(process)
 
-    def measure(self) -> None:
-        """Notes how much memory they have used."""
-        if self.starts:
+    def measure(self, since: float = 0.0) -> None:
+        """Notes how much memory they have used, if that was not done within so many seconds: it reads files of the
+        system for each of their threads."""
+        moment = time.monotonic()
+        if self.starts and moment - self.measured >= since:
+            self.measured = moment
             used = sum(peak_of(process.pid) for process in list(self.processes))
             self.starts[-1].peak = max(self.starts[-1].peak, used)
 

@@ -10,13 +10,14 @@ from collections import deque
 from typing import Any, Deque, Dict, Iterator, List, NamedTuple, Set, Union
 
 from ..life import Begun, Ended, Event
-from .invocation_lines import Line, Printed
+from .invocation_lines import OF_A_LINE, Line, Printed
 from .invocation_log import Invocations, end_line, report_line, start_line
 from .log import OUTPUT, Log
 
-MOST_HELD = 4 << 20  # characters; then a process that prints waits
+MOST_HELD = 4 << 20  # characters, with OF_A_LINE for each line; then a process that prints waits
 PATIENCE = 1.0  # seconds, as long as it waits
 MOST_REMEMBERED = 64  # invocations of an environment
+BETWEEN_MEASURES = 0.2  # seconds at least, of memory before an invocation: at its end it is measured anew
 REST = 0.005  # seconds in which lines come together: each would wake a thread, which every invocation would wait for
 
 
@@ -96,7 +97,7 @@ class InvocationReport(threading.Thread):
             while (self.size > MOST_HELD and not self.is_settling and not self.is_closed
                    and (left := end - time.monotonic()) > 0):
                 self.changed.wait(left)
-            self.size += len(line.text)
+            self.size += len(line.text) + OF_A_LINE
             self.add(held, line)
 
     def begin(self, held: Held, identifier: str) -> None:
@@ -116,7 +117,7 @@ class InvocationReport(threading.Thread):
         if not isinstance(event, (Begun, Ended)) or event.environment is None:
             return
         held, identifier = self.held[event.environment.number], event.invocation.identifier
-        held.printed.measure()
+        held.printed.measure(BETWEEN_MEASURES if isinstance(event, Begun) else 0.0)
         if isinstance(event, Begun):
             if not held.printed.starts:  # (its runtime was started by somebody else, and prints nothing here)
                 self.begin(held, identifier)
@@ -174,7 +175,7 @@ class InvocationReport(threading.Thread):
     def show(self, held: Held) -> None:
         with self.changed:
             ready = list(self.ready_of(held))
-            self.size -= sum(len(found.text) for found in ready if isinstance(found, Line))
+            self.size -= sum(len(found.text) + OF_A_LINE for found in ready if isinstance(found, Line))
             self.changed.notify_all()
         for found in ready:
             if isinstance(found, Line):

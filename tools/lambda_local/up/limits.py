@@ -83,8 +83,8 @@ class Limits:
 
     def look(self) -> None:
         for number, here in self.watch.life.environments.items():
-            function = self.functions[here.function]
-            if function.command:
+            if self.printed[number].starts:  # (else it is not started, or not by this tool)
+                function = self.functions[here.function]
                 self._look_at_init(here, function)
                 self._look_at_memory(number, here, function)
                 self._look_at_output(number, here)
@@ -96,7 +96,7 @@ class Limits:
 
     def _look_at_init(self, here: Environment, function: Function) -> None:
         starts, asked = self.printed[here.number].starts, here.generation.asked
-        if function.init is None or function.debug or asked is None or not starts:
+        if function.init is None or function.debug or asked is None or self.is_told(function.name, "init"):
             return
         seconds, most = (asked - starts[-1].moment) / 1000, self.patience * INIT_SECONDS
         if seconds > most:
@@ -141,7 +141,8 @@ class Limits:
             return
         self.watch.refresh()  # (an invocation that had begun, or an end, is known now)
         if self._is_at_rest(here) and self._work(here) == work:
-            self.warn(here.function, "frozen", f"it printed {shown(line.text)} after its response, while no invocation "
+            said = line.text.rpartition("\t")[2] or line.text  # (behind the moment, the identifier and the level)
+            self.warn(here.function, "frozen", f"it printed {shown(said)} after its response, while no invocation "
                       "ran: Lambda freezes it from there to the next invocation", here)
         else:
             self.quiet.pop(number, None)
