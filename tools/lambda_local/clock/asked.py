@@ -1,4 +1,5 @@
 """What is asked of a service's clock, and what it answers (docs/formats.md)."""
+import datetime
 import json
 from typing import Dict, List, NamedTuple, Optional, Tuple
 
@@ -9,6 +10,17 @@ PATHS = "/_local/clock"  # all begin with it
 
 def advance(milliseconds: int) -> Tuple[str, str]:
     return "POST", f"/_local/clock/advance?ms={milliseconds}"
+
+
+BEGIN = datetime.datetime(1970, 1, 1)
+
+
+def time_of(moment: int) -> str:
+    """A moment as a time in UTC; `-` after the year 9999, of which Python knows none."""
+    try:
+        return (BEGIN + datetime.timedelta(milliseconds=moment)).isoformat(timespec="milliseconds") + "Z"
+    except OverflowError:
+        return "-"
 
 
 class Reading(NamedTuple):

@@ -14,19 +14,17 @@ The service is that of AWS_ENDPOINT_URL_LAMBDA, which `lambda_local up` prints a
 
 Exit statuses: 0; 2, a fault in the arguments; 4, the service cannot be reached, or does not answer."""
 import argparse
-import datetime
 from typing import Tuple
 
 from ..endpoint import add_option, asked
 from ..outgoing import printable, tell
 from ..program import Fault
 from ..usage import parser_of
-from .asked import PAUSE, RESUME, SHOW, NotClock, Reading, advance, reading_of
+from .asked import PAUSE, RESUME, SHOW, NotClock, Reading, advance, reading_of, time_of
 from .durations import EXPECTED, NotDuration, milliseconds_in
 
 USAGE = "[OPTION..] [show | pause | resume | advance TIME]"
 FORMS = {"show": SHOW, "pause": PAUSE, "resume": RESUME}
-BEGIN = datetime.datetime(1970, 1, 1)
 SECONDS = 60.0  # for an answer
 
 
@@ -55,12 +53,7 @@ def request_of(options: argparse.Namespace) -> Tuple[str, str]:
 
 
 def line_of(reading: Reading) -> str:
-    """What is printed. (Python knows no year after 9999.)"""
-    try:
-        time = (BEGIN + datetime.timedelta(milliseconds=reading.now)).isoformat(timespec="milliseconds") + "Z"
-    except OverflowError:
-        time = "-"
-    return f"{reading.now} {time} {'running' if reading.is_running else 'paused'}"
+    return f"{reading.now} {time_of(reading.now)} {'running' if reading.is_running else 'paused'}"
 
 
 def ask(options: argparse.Namespace) -> Reading:

@@ -7,6 +7,7 @@ import time
 from collections import OrderedDict
 from typing import Any, Dict, List, NamedTuple, Optional, Protocol, Tuple, Union
 
+from ..clock.followed import Clock
 from ..configuration import Members
 from ..json_reader import NotJson, read_json
 from .authorizers import Authorizer, Source
@@ -73,7 +74,7 @@ class Asked(NamedTuple):
 
 
 class Kept(NamedTuple):
-    until: float
+    until: int  # a moment of the service
     result: Members
 
 
@@ -96,8 +97,8 @@ def part_of(source: Source, asked: Asked) -> str:
 class Authorizers:
     """Those of the routes of one API, which share what is kept."""
 
-    def __init__(self, client: Client) -> None:
-        self.client = client
+    def __init__(self, client: Client, clock: Clock) -> None:
+        self.client, self.clock = client, clock
         self.kept: "OrderedDict[Tuple[str, Tuple[str, ...]], Kept]" = OrderedDict()
 
     async def members(self, authorizer: Authorizer, asked: Asked) -> Members:
@@ -141,7 +142,7 @@ class Authorizers:
                           asked.format.unauthorized_reply())
         if authorizer.validation is not None and not re.fullmatch(authorizer.validation, identity[0]):
             raise Refused(f"its token is not as {authorizer.validation} has it", asked.format.unauthorized_reply())
-        key, now = (repr(authorizer), tuple(identity)), time.monotonic()
+        key, now = (repr(authorizer), tuple(identity)), self.clock.now()
         kept = self.kept.get(key) if authorizer.ttl else None
         if kept is not None and kept.until > now:
             return self.judged(authorizer, asked, kept.result, 0)
@@ -152,7 +153,7 @@ class Authorizers:
     def keep(self, key: Tuple[str, Tuple[str, ...]], authorizer: Authorizer, result: Members) -> None:
         if authorizer.ttl:
             self.kept.pop(key, None)
-            self.kept[key] = Kept(time.monotonic() + authorizer.ttl, result)
+            self.kept[key] = Kept(self.clock.now() + 1000 * authorizer.ttl, result)
             if len(self.kept) > MOST_KEPT:
                 self.kept.popitem(last=False)
 

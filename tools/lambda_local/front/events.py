@@ -2,11 +2,10 @@
 invocations")."""
 import json
 import re
-import time
-from datetime import datetime, timezone
 from typing import Dict, Optional
 from urllib.parse import unquote
 
+from ..clock.asked import time_of
 from ..configuration import Members
 from ..history.entries import request_identifier
 from ..http1 import Headers
@@ -43,26 +42,24 @@ class Identifiers:
 
 
 class Event:
-    def __init__(self, identifier: str, function: str, target: str, headers: Headers, payload: bytes) -> None:
+    def __init__(self, identifier: str, function: str, target: str, headers: Headers, payload: bytes,
+                 since: int) -> None:
+        """`since` is the moment at which it is taken."""
         self.identifier, self.function, self.target, self.headers = identifier, function, target, headers
-        self.payload, self.since, self.attempts, self.throttles = payload, time.monotonic(), 0, 0
+        self.payload, self.since, self.attempts, self.throttles = payload, since, 0, 0
         # What the function reported at the last attempt, if its record needs it and it is kept
         self.result: Optional[bytes] = None
         self.is_running = self.has_failed = False
+        self.waits = False  # for its next attempt to be due
 
     @property
     def size(self) -> int:
         """The bytes that are held for it."""
         return len(self.payload) + len(self.result or b"")
 
-    @property
-    def age(self) -> float:
-        return time.monotonic() - self.since
-
-    def record(self, condition: str, arn: str) -> bytes:
+    def record(self, condition: str, arn: str, moment: int) -> bytes:
         """What the destination gets. Payload and result stand in it as they are: it is hardly longer than both."""
-        moment = datetime.now(timezone.utc).isoformat(timespec="milliseconds").replace("+00:00", "Z")
-        members = {"version": json.dumps("1.0").encode(), "timestamp": json.dumps(moment).encode(),
+        members = {"version": json.dumps("1.0").encode(), "timestamp": json.dumps(time_of(moment)).encode(),
                    "requestContext": json.dumps({"requestId": self.identifier, "functionArn": arn,
                                                  "condition": condition,
                                                  "approximateInvokeCount": self.attempts}).encode(),

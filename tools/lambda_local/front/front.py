@@ -7,6 +7,7 @@ import threading
 import time
 from typing import Any, Callable, Dict, Iterator, List, Optional, Protocol, Sequence, Tuple
 
+from ..clock.followed import Clock
 from ..outgoing import Log, several
 from ..service import Fault, Service, free_ports
 from ..streaming.streams import Streams
@@ -108,15 +109,18 @@ class Front(threading.Thread):
 
     def serve(self, service: Service, tails: Optional[Tails] = None, others: Sequence[Other] = (),
               streams: Optional[Streams] = None,
-              answered: Callable[[str, int], None] = lambda target, size: None) -> None:
+              answered: Callable[[str, int], None] = lambda target, size: None,
+              clock: Optional[Clock] = None) -> None:
         """Begins to answer, by this service; `tails` has what Invoke answers with the log type Tail, and `others` are
         further servers that its thread runs, which have the responses that are streamed. `answered` is told the target
-        and the bytes of each answer of the service."""
+        and the bytes of each answer of the service. `clock` is one that follows the service's trace, if there is one;
+        else the front asks for itself."""
         self.service, configuration = service, service.configuration
-        self.client = Client(service.port, answered)
+        self.client, self.clock = Client(service.port, answered), clock or Clock(service.port, self.tell_of_clock)
         self.places = Places(places_for(sum(len(one["ports"]) for one in configuration["functions"]),
                                         sum(other.descriptors for other in others)))
-        port = InvokePort(self.client, self.settings, configuration, self.drain_seconds, self.log, self.places, tails)
+        port = InvokePort(self.client, self.settings, configuration, self.drain_seconds, self.log, self.places,
+                          self.clock, tails)
         self.queue, identifiers = port.queue, port.identifiers
         urls = {function: url_of(listener) for function, listener in self.urls.items()}
         streams = streams or Streams()
@@ -133,12 +137,12 @@ class Front(threading.Thread):
         from .gateway import Api, Url
         configuration = self.service.configuration
         for function, listener in self.urls.items():
-            url = Url(self.client, self.settings.urls[function], identifiers, self.log, function, configuration,
-                      streams)
+            url = Url(self.client, self.clock, self.settings.urls[function], identifiers, self.log, function,
+                      configuration, streams)
             self.servers.append(Server(listener, url, self.places, self.log))
         for name, listener in self.api_listeners.items():
             given = self.settings.apis[name]
-            api = Api(self.client, given.address, identifiers, self.log, given.routes, configuration)
+            api = Api(self.client, self.clock, given.address, identifiers, self.log, given.routes, configuration)
             self.servers.append(Server(listener, api, self.places, self.log))
 
     def run(self) -> None:
@@ -163,6 +167,9 @@ class Front(threading.Thread):
             self.last_told[what] = now
             self.log("up", f"the front: {what}", level="error")
 
+    def tell_of_clock(self, text: str) -> None:
+        self.log("up", text, level="error", kind="fault")
+
     def call(self, what: Callable[..., object], *given: object) -> None:
         """Has its thread call this soon, unless it has ended."""
         with contextlib.suppress(RuntimeError):
@@ -180,6 +187,7 @@ class Front(threading.Thread):
 
     def end(self) -> None:
         """Once the service has ended."""
+        self.clock.close()
         with contextlib.suppress(RuntimeError):  # (it has failed, and its loop is closed)
             self.loop.call_soon_threadsafe(self.loop.stop)
         self.join(END_SECONDS)

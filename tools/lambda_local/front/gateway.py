@@ -2,6 +2,7 @@
 import json
 from typing import Any, Callable, Dict, List, Mapping, NamedTuple, Optional, Tuple
 
+from ..clock.followed import Clock
 from ..configuration import Members
 from ..outgoing import Log
 from ..streaming.streams import Streams
@@ -46,8 +47,9 @@ class Gateway:
     """`find` gives what takes a request; None if no route does, and then `no_route_reply` is the answer."""
     preflight_status = 200
 
-    def __init__(self, client: Client, address: Address, identifiers: Identifiers, log: Log) -> None:
+    def __init__(self, client: Client, clock: Clock, address: Address, identifiers: Identifiers, log: Log) -> None:
         self.client, self.cors, self.identifiers, self.log = client, address.cors, identifiers, log
+        self.clock = clock
         self.budget, self.hosts = Budget(), further_hosts()
 
     def find(self, request: Request) -> Optional[Backend]:
@@ -102,7 +104,8 @@ class Gateway:
         except TooLong:
             return self.too_large(backend, request, "its body", backend.format.longest)
         held.is_whole()
-        context = {**backend.context, "requestId": self.identifiers.next(backend.function)}
+        context = {**backend.context, "requestId": self.identifiers.next(backend.function),
+                   "timeEpoch": self.clock.now()}
         request = request._replace(below=backend.below)
         try:
             context.update(await self.authorizer_of(request, backend, context, tell))
@@ -158,9 +161,9 @@ class Gateway:
 
 
 class Url(Gateway):
-    def __init__(self, client: Client, address: Address, identifiers: Identifiers, log: Log, function: str,
-                 configuration: Members, streams: Streams) -> None:
-        super().__init__(client, address, identifiers, log)
+    def __init__(self, client: Client, clock: Clock, address: Address, identifiers: Identifiers, log: Log,
+                 function: str, configuration: Members, streams: Streams) -> None:
+        super().__init__(client, clock, address, identifiers, log)
         self.streams = streams if address.streams else None
         name = f"{function.lower()}.lambda-url.{configuration['region']}.on.aws"
         context = {"accountId": "anonymous", "apiId": function.lower(), "domainName": name,
@@ -194,9 +197,9 @@ class Api(Gateway):
     """The routes of a port, each with a format of its own."""
     preflight_status = 204
 
-    def __init__(self, client: Client, address: Address, identifiers: Identifiers, log: Log,
+    def __init__(self, client: Client, clock: Clock, address: Address, identifiers: Identifiers, log: Log,
                  routes: Mapping[str, Target], configuration: Members) -> None:
-        super().__init__(client, address, identifiers, log)
+        super().__init__(client, clock, address, identifiers, log)
         self.context = {
             "accountId": configuration["account"], "apiId": "local",
             "domainName": f"local.execute-api.{configuration['region']}.amazonaws.com", "domainPrefix": "local"}
@@ -204,7 +207,7 @@ class Api(Gateway):
         for key, target in routes.items():
             by_stage.setdefault(target.integration.stage if address.stage_in_path else NO_STAGE, {})[key] = target
         self.routes = {stage: Routes(own) for stage, own in by_stage.items()}
-        self.authorizers, self.region = Authorizers(client), str(configuration["region"])
+        self.authorizers, self.region = Authorizers(client, clock), str(configuration["region"])
         self.formats = {key: made_of(target.integration, self.region) for key, target in routes.items()}
         # (what no route takes is answered as by the kind that all routes have)
         formats = list(self.formats.values())

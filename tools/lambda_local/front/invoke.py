@@ -1,8 +1,11 @@
 """The invoke port: asynchronous invocations are taken here, and the service is asked for all else."""
+import asyncio
 import functools
 import json
 from typing import Optional, Set
 
+from ..clock.asked import PATHS
+from ..clock.followed import Clock
 from ..configuration import Members
 from ..outgoing import Log
 from .budget import Budget, Full as NoRoom
@@ -22,20 +25,21 @@ MOST_PAYLOAD = 1 << 20  # bytes of an event (Developer Guide, "Lambda quotas")
 MOST_TARGETS = 1000  # that are remembered
 TYPE = "x-amz-invocation-type"
 CLOSES = ("connection", "close")
+OF_SERVICE = ("/_local/stop", PATHS)  # requests of the service itself beside which something is to be done here
 
 
 class InvokePort:
     """Without settings of asynchronous invocations, the service refuses those."""
 
     def __init__(self, client: Client, settings: Settings, configuration: Members, drain_seconds: float, log: Log,
-                 places: Places, tails: Optional[Tails] = None) -> None:
-        self.tails, self.followers = tails, Followers(places)
+                 places: Places, clock: Clock, tails: Optional[Tails] = None) -> None:
+        self.tails, self.followers, self.clock = tails, Followers(places), clock
         self.client, self.drain_seconds = client, drain_seconds
         self.identifiers, self.hosts = Identifiers(configuration), further_hosts()
         self.known: Set[str] = set()
         # A bundled runtime makes a root of the request identifier if there is none, and others do not.
         self.rootless = {member["name"] for member in settings.functions if "runtime" not in member}
-        self.queue = Queue(client, settings.asynchronous, configuration, self.identifiers, log,
+        self.queue = Queue(client, settings.asynchronous, configuration, self.identifiers, log, clock,
                            settings.of_functions) if settings.asynchronous else None
         self.budget = Budget()
 
@@ -43,10 +47,10 @@ class InvokePort:
         refusal = refusal_of(request.head, self.hosts)
         if refusal:
             return reply_of(refusal)
-        if self.queue and request.method == "POST" and request.path == "/_local/stop":
-            await self.queue.drain(self.drain_seconds)
         kind, function = first(request.headers, TYPE), function_of(request.target)
         try:
+            if request.method == "POST" and request.path.startswith(OF_SERVICE):
+                return await self.about_service(request)
             if (self.queue is None or function is None or request.method != "POST"
                     or kind not in ("Event", "DryRun")):
                 if is_following(request):
@@ -65,6 +69,24 @@ class InvokePort:
             return await self.take(self.queue, request, function, identifier)
         except NoRoom:
             return self.refusal(503, "Too many bodies are held")
+
+    async def about_service(self, request: Request) -> Reply:
+        """Before a stop, a paused clock goes on, and events are waited for. Once the clock was set, what is due by it
+        has begun before the answer."""
+        if request.path == "/_local/stop":
+            await asyncio.get_running_loop().run_in_executor(None, self.clock.resume)
+            if self.queue:
+                await self.queue.drain(self.drain_seconds)
+        if not request.path.startswith(PATHS):
+            return await relay(self.client, request, self.budget)
+        with self.clock.being_set():
+            reply = await relay(self.client, request, self.budget)
+        await asyncio.get_running_loop().run_in_executor(None, self.catch_up)
+        return reply
+
+    def catch_up(self) -> None:
+        self.clock.ask()
+        self.clock.settle()
 
     @staticmethod
     def malformed_reply(fault: Malformed, request: Optional[Request]) -> Reply:
@@ -99,7 +121,7 @@ class InvokePort:
             return stop_reply(identifier)
         headers = [(name, value) for name, value in headers_to_send(request.headers) if name.lower() != TYPE]
         try:
-            queue.put(Event(identifier, function, request.target, headers, payload or b"{}"))
+            queue.put(Event(identifier, function, request.target, headers, payload or b"{}", self.clock.now()))
         except Full:
             return throttle_reply("CallerRateLimitExceeded", identifier)
         return Reply(202, [("x-amzn-requestid", identifier)])

@@ -31,7 +31,7 @@ def event_of(request: Request, body: bytes, context: Members, parameters: Option
 def members_of(request: Request, context: Members, parameters: Optional[Dict[str, str]] = None,
                variables: Optional[Dict[str, str]] = None) -> Dict[str, object]:
     """The members of an event without the body."""
-    now, agent = time.time(), first(request.headers, "user-agent")
+    moment, agent = context["timeEpoch"], first(request.headers, "user-agent")
     path = request.path_with(context["stage"])
     return {
         "version": "2.0", "routeKey": context["routeKey"], "rawPath": path, "rawQueryString": request.query,
@@ -40,9 +40,17 @@ def members_of(request: Request, context: Members, parameters: Optional[Dict[str
             **context,
             "http": {"method": request.method, "path": path, "protocol": request.version, "sourceIp": HERE,
                      "userAgent": agent or ""},
-            "time": time.strftime("%d/%b/%Y:%H:%M:%S +0000", time.gmtime(now)), "timeEpoch": int(1000 * now)},
+            "time": time_in_log(moment), "timeEpoch": moment},
         **({"pathParameters": parameters} if parameters else {}),
         **({"stageVariables": variables} if variables else {})}
+
+
+def time_in_log(moment: int) -> str:
+    """A moment as logs of HTTP have it. (Python knows no year after 9999.)"""
+    try:
+        return time.strftime("%d/%b/%Y:%H:%M:%S +0000", time.gmtime(moment / 1000))
+    except (OverflowError, OSError, ValueError):
+        return "-"
 
 
 def cookies_of(request: Request) -> Dict[str, List[str]]:

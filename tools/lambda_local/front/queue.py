@@ -3,8 +3,9 @@ retries with asynchronous invocation")."""
 import asyncio
 import contextlib
 from collections import deque
-from typing import Deque, Dict, Mapping, Optional, Set
+from typing import Callable, Deque, Dict, Mapping, Optional, Set, Union
 
+from ..clock.followed import Clock, Timer
 from ..configuration import Members
 from ..outgoing import Log
 from .client import Client, Unreachable
@@ -33,7 +34,7 @@ class Lane:
         self.running = 0
         self.environments = self.limit = environments
         self.throttles = self.successes = 0
-        self.pause: Optional[asyncio.TimerHandle] = None
+        self.pause: Union[Timer, asyncio.TimerHandle, None] = None
 
     def note_throttle(self) -> float:
         """Returns the seconds until the next attempt."""
@@ -49,8 +50,9 @@ class Lane:
 
 class Queue:
     def __init__(self, client: Client, settings: Asynchronous, configuration: Members, identifiers: Identifiers,
-                 log: Log, of_functions: Mapping[str, Asynchronous] = {}) -> None:
+                 log: Log, clock: Clock, of_functions: Mapping[str, Asynchronous] = {}) -> None:
         self.client, self.settings, self.identifiers, self.log = client, settings, identifiers, log
+        self.clock = clock  # by which retries, pauses after throttles and the age of events are counted
         self.of_functions = of_functions  # those with settings of their own
         self.arn = f"arn:aws:lambda:{configuration['region']}:{configuration['account']}:function:"
         self.lanes = {function["name"]: Lane(len(function["ports"])) for function in configuration["functions"]}
@@ -62,6 +64,30 @@ class Queue:
     @property
     def count(self) -> int:
         return len(self.events)
+
+    @property
+    def waiting(self) -> int:
+        """How many events wait for an attempt to be due."""
+        held = [len(lane.ready) for lane in self.lanes.values() if isinstance(lane.pause, Timer)]
+        return sum(held) + sum(event.waits for event in list(self.events.values()))
+
+    def age(self, event: Event) -> float:
+        """Seconds since it was taken."""
+        return (self.clock.now() - event.since) / 1000
+
+    def later(self, seconds: float, call: Callable[[], None]) -> Timer:
+        """Has this called by the loop after so long."""
+        loop = asyncio.get_running_loop()
+
+        def run() -> None:
+            if not timer.is_cancelled:
+                call()
+
+        def due() -> None:
+            with contextlib.suppress(RuntimeError):  # (the loop has ended)
+                loop.call_soon_threadsafe(run)
+        timer = self.clock.after(seconds, due)
+        return timer
 
     def settings_of(self, event: Event) -> Asynchronous:
         return self.of_functions.get(event.function, self.settings)
@@ -108,11 +134,13 @@ class Queue:
             self.tasks.add(task)
             task.add_done_callback(self.tasks.discard)
 
-    def hold(self, lane: Lane, seconds: float) -> None:
-        """No attempt is begun for so long, or until one that runs has ended."""
+    def hold(self, lane: Lane, seconds: float, by_service: bool) -> None:
+        """No attempt is begun for so long, by the service's clock or by the machine's, or until one that runs has
+        ended."""
         if lane.pause:
             lane.pause.cancel()
-        lane.pause = asyncio.get_running_loop().call_later(seconds, self.release, lane)
+        lane.pause = self.later(seconds, lambda: self.release(lane)) if by_service else (
+            asyncio.get_running_loop().call_later(seconds, self.release, lane))
 
     def release(self, lane: Lane) -> None:
         if lane.pause:
@@ -123,7 +151,7 @@ class Queue:
     # ---- an attempt --------------------------------------------------------------------------------------------------
 
     async def attempt(self, lane: Lane, event: Event) -> None:
-        if event.age > (oldest := self.settings_of(event).oldest):
+        if self.age(event) > (oldest := self.settings_of(event).oldest):
             lane.running -= 1
             self.give_up(event, "EventAgeExceeded", f"is older than {oldest:g} s")
             return self.go_on(lane)
@@ -157,7 +185,7 @@ class Queue:
             self.say(event, f"{why}: again after {pause:g} s", "warning", "fault")
         event.throttles += 1
         lane.ready.appendleft(event)
-        self.hold(lane, pause)
+        self.hold(lane, pause, by_service=why is None)
 
     def settle(self, event: Event, status: Optional[int], headers: Headers, body: bytes) -> None:
         event.attempts += 1
@@ -170,7 +198,7 @@ class Queue:
                      invocation)
             self.forget(event)
         elif first(headers, "x-amz-function-error") is None:
-            self.say(event, f"ok after {1000 * event.age:.0f} ms"
+            self.say(event, f"ok after {1000 * self.age(event):.0f} ms"
                      + (f", attempt {event.attempts}" if event.attempts > 1 else ""), "ok", "ok", invocation)
             self.forget(event)
         else:
@@ -185,7 +213,12 @@ class Queue:
         delay = settings.delay(event.attempts)
         self.say(event, f"{what}, attempt {event.attempts} of {settings.retries + 1}: again after {delay:g} s",
                  "warning", "retry", invocation)
-        asyncio.get_running_loop().call_later(delay, self.enqueue, event)
+        event.waits = True
+        self.later(delay, lambda: self.try_again(event))
+
+    def try_again(self, event: Event) -> None:
+        event.waits = False
+        self.enqueue(event)
 
     def give_up(self, event: Event, condition: str, why: str, invocation: Optional[str] = None) -> None:
         """The destination gets its record, which takes the place of the event; a destination's own failure ends
@@ -203,10 +236,11 @@ class Queue:
         try:
             for result in (event.result, None):
                 event.result = result
-                record = event.record(condition, arn)
+                record = event.record(condition, arn, self.clock.now())
                 if self.size + len(record) <= MOST_BYTES:
                     break
-            made = Event(self.identifiers.next(destination), destination, target_of(destination), [], record)
+            made = Event(self.identifiers.next(destination), destination, target_of(destination), [], record,
+                         self.clock.now())
             self.put(made)
         except Full:
             self.say(event, f"has no record, for which there is no room: {self.size} bytes are held", "error", "lost")
@@ -217,7 +251,7 @@ class Queue:
 
     def say(self, event: Event, text: str, level: str, status: str, invocation: Optional[str] = None) -> None:
         self.log(event.function, f"event {event.identifier} {text}", level=level, kind="event", function=event.function,
-                 request=event.identifier, status=status, attempts=event.attempts, age_ms=round(1000 * event.age),
+                 request=event.identifier, status=status, attempts=event.attempts, age_ms=round(1000 * self.age(event)),
                  invocation=invocation)
 
     # ---- the end -----------------------------------------------------------------------------------------------------

@@ -2,12 +2,12 @@
 Guide, "Set up Lambda proxy integrations"), and an HTTP API ("Create AWS Lambda proxy integrations for HTTP APIs")."""
 import json
 import re
-import time
 from typing import Callable, Dict, List, Mapping, Optional
 
 from ..configuration import Members
 from .http import OF_CONNECTION, TOKEN, Headers, Reply, Request, every, first
 from .payload import (FRAMING, HERE, Unmappable, body_in, body_of, headers_in, parameters_in, read_result, status_in,
+                      time_in_log,
                       text_in)
 from .settings import Integration
 
@@ -71,16 +71,16 @@ def headers_of(request: Request, keeps_case: bool) -> Dict[str, List[str]]:
 
 
 def context_of(request: Request, context: Members, resource: str, integration: Integration) -> Dict[str, object]:
-    now, is_rest = time.time(), integration.is_rest
+    moment, is_rest = context["timeEpoch"], integration.is_rest
     identity: Dict[str, Optional[str]] = {**dict.fromkeys(UNKNOWN_IDENTITY), "sourceIp": HERE,
                 "userAgent": first(request.headers, "user-agent") or "",
                 **({"apiKey": first(request.headers, "x-api-key")} if is_rest else {"clientCert": None})}
-    members = {name: value for name, value in context.items() if name != "routeKey"}
+    members = {name: value for name, value in context.items() if name not in ("routeKey", "timeEpoch")}
     return {
         **({} if is_rest else {"authorizer": {"claims": None, "scopes": None}}), **members,
         "extendedRequestId": context["requestId"], "httpMethod": request.method, "identity": identity,
         "path": request.path_with(integration.stage), "protocol": request.version,
-        "requestTime": time.strftime("%d/%b/%Y:%H:%M:%S +0000", time.gmtime(now)), "requestTimeEpoch": int(1000 * now),
+        "requestTime": time_in_log(moment), "requestTimeEpoch": moment,
         "resourceId": "local" if is_rest else None, "resourcePath": resource, "stage": integration.stage}
 
 

@@ -11,6 +11,7 @@ import threading
 import time
 from typing import Dict, List, Optional, Tuple
 
+from ..clock.followed import STEP
 from ..life import Generation
 from ..reports import kind_in
 from ..service import EXTENSION, RUNTIME, Fault, Service, ask
@@ -27,9 +28,11 @@ from .supervised import told
 from .watch import Watch
 
 FAULT = "Extension.Fault"  # how a fault of this tool itself is reported
-SHUTDOWN_SECONDS = 2.0  # an environment's, for its extensions
-SPARE = 0.1  # of them, for lambda_local up itself
+SHUTDOWN_SECONDS = 2  # an environment's, for its extensions
+SPARE = 100  # milliseconds of them, for lambda_local up itself
+TICKED = 5  # milliseconds after which the service has taken note of a deadline
 MEMORY_SECONDS = 0.05  # between two looks at the memory of a function that may have no more than is said
+TERM_SECONDS = 0.5  # for a runtime that is spun down
 SOON = 1.0  # a runtime that ends within this many seconds of its start, without an invocation, ended early
 
 
@@ -39,6 +42,7 @@ class Environment(threading.Thread):
                  printed: Printed, sidecars: Sidecars) -> None:
         self.number, self.function, self.port, self.variables = number, function, port, variables
         self.service, self.watch, self.stopping, self.log, self.printed = service, watch, stopping, log, printed
+        self.clock = watch.clock  # by which limits, pauses and deadlines are counted; what processes take is real time
         super().__init__(name=watch.environment(number).name, daemon=True)
         self.sidecars = sidecars
         self.beside = sidecars.of(number, port)  # what is between the processes of this generation and its port
@@ -63,7 +67,7 @@ class Environment(threading.Thread):
             if self.service.process.poll() is None and not self.stopping.is_set():
                 self.say(f"lost the service: {fault}", level="error")
         finally:
-            self.end(0)
+            self.end()
 
     def one_guarded_generation(self) -> bool:
         """Whether another one follows. A fault of this tool in one generation is reported, and the next is begun."""
@@ -74,7 +78,7 @@ class Environment(threading.Thread):
         except Exception as fault:
             self.say(f"lambda_local up could not go on with this generation: {told(fault)}", level="error",
                      kind="fault")
-            self.end(0)
+            self.end()
             if self.identifier is not None:
                 ask(self.port, "POST", EXTENSION + "exit/error", self.remember("lambda_local up failed", FAULT),
                     {**self.me(), "Lambda-Extension-Function-Error-Type": FAULT})
@@ -105,7 +109,7 @@ class Environment(threading.Thread):
                     self.start_runtime()
             except OSError as fault:
                 self.ended_by(f"Runtime could not be started: {fault}", "Runtime.ExitError", str(self.identifier))
-                return self.close(0, time.time() + SHUTDOWN_SECONDS)
+                return self.close(self.in_shutdown())
             return self.attend(waiting)
         finally:
             waiting.close()
@@ -192,7 +196,7 @@ class Environment(threading.Thread):
             self.say(str(fault), level="error")
             self.restarts.note(True)
             return False
-        limit = None if self.function.debug else self.function.init
+        limit, begun = None if self.function.debug else self.function.init, self.clock.now()
         if limit is None:
             self.say(f"waiting for a debugger: Init has no time limit until {self.function.name} is invoked")
         while not self.stopping.is_set():
@@ -201,13 +205,13 @@ class Environment(threading.Thread):
             self.enforce_memory(runtime)
             if runtime.ended(MEMORY_SECONDS if self.look_ms else 0.1):
                 return self.fail_unseen(reason_of(runtime.status()), "Runtime.ExitError")
-            if limit is not None and time.monotonic() - runtime.begun > limit:
+            if limit is not None and self.clock.reached(begun + 1000 * limit):
                 return self.fail_unseen(f"Init timed out after {limit} s", "Init.Timeout")
         return False
 
     def fail_unseen(self, reason: str, kind: str) -> bool:
         """Ends an Init of which the service knows nothing. (What the runtime has reported itself comes first.)"""
-        self.end(0)
+        self.end()
         before = self.watch.environment(self.number).before
         if before and before.report and before is not self.reported:
             self.pause.last_report = before.report
@@ -256,7 +260,7 @@ class Environment(threading.Thread):
 
     def runtime_exited(self, runtime: Process) -> bool:
         self.ended_by(reason_of(runtime.status()), "Runtime.ExitError", str(self.identifier))
-        return self.close(0, time.time() + SHUTDOWN_SECONDS)
+        return self.close(self.in_shutdown())
 
     def extension_exited(self, process: Process, waiting: http.client.HTTPConnection) -> bool:
         """It is reported in its own name, so that its shutdown isn't waited for, and the service says that all
@@ -266,7 +270,7 @@ class Environment(threading.Thread):
         found = generation.named(name) if generation else None
         reason, identifier = reason_of(process.status(), "Extension"), found.identifier if found else self.identifier
         self.ended_by(reason, "Extension.Crash", str(identifier), process.name)
-        return self.shut_down(waiting) if found else self.close(0, time.time() + SHUTDOWN_SECONDS)
+        return self.shut_down(waiting) if found else self.close(self.in_shutdown())
 
     def ended_by(self, reason: str, kind: str, identifier: str, who: Optional[str] = None) -> None:
         """The service's caller hears at once that a process has ended."""
@@ -290,27 +294,29 @@ class Environment(threading.Thread):
         answer = waiting.getresponse()
         body = answer.read()
         if answer.status != 200:
-            self.end(0)
+            self.end()
             return True
         event = json.loads(body)
-        reason, deadline = event["shutdownReason"], event["deadlineMs"] / 1000
+        reason, deadline = event["shutdownReason"], event["deadlineMs"]
         self.beside.closes(reason)
         if not self.stopping.is_set():
             self.say(f"shuts down, {reason}")
-        return self.close(min(deadline - time.time(), SHUTDOWN_SECONDS) - SPARE, deadline, reason == "SPINDOWN",
-                          asks=True)
+        return self.close(deadline, reason == "SPINDOWN", asks=True)
 
-    def close(self, seconds: float, deadline: float, spins_down: bool = False, asks: bool = False) -> bool:
+    def in_shutdown(self) -> int:
+        """The moment at which a shutdown that begins now is over."""
+        return self.clock.now() + 1000 * SHUTDOWN_SECONDS
+
+    def close(self, deadline: int, spins_down: bool = False, asks: bool = False) -> bool:
         """Ends all processes, says that this generation is done, and waits for the end of its Closing."""
         lived = time.monotonic() - self.runtime.begun if self.runtime else 0.0
         self.beside.closes("FAILURE")  # (unless the service has said why)
-        self.end(seconds if asks else max(0.0, deadline - time.time() - SPARE), spins_down)
+        self.end(min(deadline, self.in_shutdown()) - SPARE, spins_down)
         if asks:
             ask(self.port, "GET", EXTENSION + "event/next", headers=self.me())
         generation = self.watch.generation(self.number, self.identifier)
         if generation:
-            closing = generation
-            self.watch.until(lambda: closing.is_over or self.stopping.is_set(), deadline + 0.005 - time.time())
+            self.wait_for_end(generation, deadline + TICKED)
         if generation and generation.report:
             self.pause.last_report = generation.report
         elif generation and not generation.is_ready:
@@ -320,17 +326,25 @@ class Environment(threading.Thread):
         self.restarts.note(is_early and not spins_down)
         return True
 
-    def end(self, seconds: float, gently: bool = False) -> None:
-        """Ends all processes: the runtime at once or gently, extensions by themselves within this many seconds."""
-        until = time.monotonic() + seconds
+    def wait_for_end(self, closing: Generation, deadline: int) -> None:
+        """Waits until a generation has ended, up to this moment."""
+        def is_over() -> bool:
+            return closing.is_over or self.stopping.is_set()
+        while not (is_over() or self.watch.is_lost or self.clock.reached(deadline)):
+            self.watch.until(is_over, STEP)
+
+    def end(self, deadline: int = 0, gently: bool = False) -> None:
+        """Ends all processes: the runtime at once or gently, extensions by themselves up to this moment."""
+        has_time = deadline > self.clock.now()
         if self.runtime:
-            self.runtime.end(min(0.5, max(0.0, seconds)) if gently else 0)
+            self.runtime.end(TERM_SECONDS if gently and has_time else 0)
             self.runtime = None
         while self.extensions:
             name, process = self.extensions.pop()
-            process.ended(until - time.monotonic())
+            while has_time and not process.ended(STEP) and not self.clock.reached(deadline):
+                pass
             process.end()
-            if seconds > 0:
+            if has_time:
                 self.say_done(name)
         self.beside.ends()
 
@@ -358,7 +372,7 @@ class Environment(threading.Thread):
                 else:
                     self.say(f"restarting in {self.restarts.pause} s: it keeps exiting right after it starts",
                              level="warning")
-                    hurry.wait(self.restarts.pause)
+                    self.clock.wait(hurry, self.restarts.pause)
         if self.pause.was_hurried():
             self.restarts.note(False)
 

@@ -11,6 +11,7 @@ import time
 from typing import Any, Dict, Iterator, List, NamedTuple, Optional
 from urllib.parse import urlsplit
 
+from ..clock.followed import Clock
 from ..json_reader import NotJson, read_json
 from ..outgoing import several
 from ..reports import shorten
@@ -111,10 +112,11 @@ class Poller(threading.Thread):
     """Takes batches from a queue, one after the other. A function has several of them, as it has environments; a FIFO
     queue has one, so that its order is kept."""
 
-    def __init__(self, function: str, queue: Queue, service: Any, keeps_credentials: bool, stopping: threading.Event,
-                 log: Log):
+    def __init__(self, function: str, queue: Queue, service: Any, clock: Clock, keeps_credentials: bool,
+                 stopping: threading.Event, log: Log):
         super().__init__(name=f"queue of {function}", daemon=True)
         self.function, self.queue, self.service, self.stopping, self.log = function, queue, service, stopping, log
+        self.clock = clock  # by which windows and the pauses after throttles are counted; the server's time is real
         self.keeps_credentials, self.region = keeps_credentials, service.configuration["region"]
         self.pause, self.arn = 0.0, ""
         self.has_odd = False  # the last poll had a message that is none, which was told
@@ -179,9 +181,9 @@ class Poller(threading.Thread):
             taken = self.received(min(MOST_AT_ONCE, self.queue.batch - len(messages)))
             messages += taken
             if messages and end is None:
-                end = time.monotonic() + self.queue.window
+                end = self.clock.now() + 1000 * self.queue.window
             size = sum(len(str(message.get("Body", ""))) for message in messages)
-            if (end is None or len(messages) >= self.queue.batch or size >= MOST_BYTES or time.monotonic() >= end):
+            if (end is None or len(messages) >= self.queue.batch or size >= MOST_BYTES or self.clock.reached(end)):
                 break
         return messages
 
@@ -251,7 +253,7 @@ class Poller(threading.Thread):
                 return Invoked(None, f"has no outcome: {one_line(fault)}")
             if status != 429:
                 break
-            if self.stopping.wait(pause):
+            if self.clock.wait(self.stopping, pause):
                 return Invoked(None, "is not invoked, since all stops")
             pause = min(LONGEST_RETRY, 2 * pause)
         if status != 200:
@@ -288,11 +290,11 @@ def one_line(fault: Exception) -> str:
     return shorten(" ".join(f"{type(fault).__name__}: {fault}".split()))
 
 
-def pollers_of(queues: Dict[str, Queue], service: Any, keeps_credentials: bool, stopping: threading.Event,
-               log: Log) -> List[Poller]:
+def pollers_of(queues: Dict[str, Queue], service: Any, clock: Clock, keeps_credentials: bool,
+               stopping: threading.Event, log: Log) -> List[Poller]:
     pollers = []
     environments = {part["name"]: len(part["ports"]) for part in service.configuration["functions"]}
     for name, queue in queues.items():
         count = 1 if queue.is_fifo else min(MOST_POLLERS, environments[name])
-        pollers += [Poller(name, queue, service, keeps_credentials, stopping, log) for _ in range(count)]
+        pollers += [Poller(name, queue, service, clock, keeps_credentials, stopping, log) for _ in range(count)]
     return pollers

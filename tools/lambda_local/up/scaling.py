@@ -1,6 +1,5 @@
 """Environments beyond a function's least number: each is started once an invocation is bound to it, and ends after a
 while without work."""
-import time
 from typing import Dict, Iterable, Tuple
 
 from .. import life
@@ -19,10 +18,10 @@ class Scaling:
     def __init__(self, environments: Iterable[Environment], watch: Watch, service: Service) -> None:
         self.environments = [environment for environment in environments if environment.is_extra]
         self.watch, self.service = watch, service
-        self.last: Dict[Environment, Tuple[Work, float]] = {}
+        self.last: Dict[Environment, Tuple[Work, int]] = {}  # and since which moment
 
     def look(self) -> None:
-        now = time.monotonic()
+        now = self.watch.clock.now()
         for environment in self.environments:
             here = self.watch.environment(environment.number)
             if not environment.is_started:
@@ -32,11 +31,11 @@ class Scaling:
             elif here.generation.is_ready:
                 self.look_at_idle(environment, here, now)
 
-    def look_at_idle(self, environment: Environment, here: life.Environment, now: float) -> None:
+    def look_at_idle(self, environment: Environment, here: life.Environment, now: int) -> None:
         """One that had no work for long enough is spun down; if it works just now, the service refuses (409)."""
         work = (here.generation, here.generation.deliveries)
         seen, since = self.last.get(environment, (None, now))
-        if seen != work or now - since < (environment.function.idle or 0):
+        if seen != work or not self.watch.clock.reached(since + 1000 * (environment.function.idle or 0)):
             self.last[environment] = (work, since if seen == work else now)
             return
         self.last[environment] = (work, now)

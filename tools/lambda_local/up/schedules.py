@@ -8,11 +8,18 @@ from datetime import datetime, timezone
 from typing import Any, Dict, List, NamedTuple, Optional
 from urllib.parse import urlsplit
 
+from ..clock.followed import Clock
 from ..service import ask
 from .log import Log
 from .sources import Schedule, schedules_of
 
-LONGEST_WAIT = 30.0  # seconds, so that a clock that is set is followed
+LAST = datetime(9999, 12, 31, tzinfo=timezone.utc)  # after which nothing is due
+
+
+def identifier_of(name: str, schedule: Schedule, configuration: Dict[str, Any], moment: datetime) -> str:
+    """That of an event: the same one in a run with the same salt, at the same moment."""
+    words = configuration.get("salt", 0), name, schedule.text, moment.isoformat()
+    return str(uuid.uuid5(uuid.NAMESPACE_URL, " ".join(map(str, words))))
 
 
 def event_of(name: str, schedule: Schedule, configuration: Dict[str, Any], moment: datetime) -> bytes:
@@ -21,9 +28,17 @@ def event_of(name: str, schedule: Schedule, configuration: Dict[str, Any], momen
         return json.dumps(schedule.input).encode()
     account, region = configuration["account"], configuration["region"]
     return json.dumps({
-        "version": "0", "id": str(uuid.uuid4()), "detail-type": "Scheduled Event", "source": "aws.events",
+        "version": "0", "id": identifier_of(name, schedule, configuration, moment), "detail-type": "Scheduled Event", "source": "aws.events",
         "account": account, "time": moment.strftime("%Y-%m-%dT%H:%M:%SZ"), "region": region,
         "resources": [f"arn:aws:events:{region}:{account}:rule/{name}"], "detail": {}}).encode()
+
+
+def moment_of(milliseconds: int) -> datetime:
+    """A moment of the service's clock as a time."""
+    try:
+        return datetime.fromtimestamp(milliseconds / 1000, timezone.utc)
+    except (OverflowError, ValueError, OSError):
+        return LAST
 
 
 class Due(NamedTuple):
@@ -32,43 +47,34 @@ class Due(NamedTuple):
     schedule: Schedule
 
 
-def now() -> datetime:
-    return datetime.now(timezone.utc)
+class Schedules:
+    """All schedules of a run, from its `begin` on. They are due by the service's clock."""
 
+    def __init__(self, functions: List[Dict[str, Any]], service: Any, clock: Clock, stopping: threading.Event,
+                 log: Log):
+        self.functions, self.service, self.clock, self.stopping, self.log = functions, service, clock, stopping, log
 
-class Schedules(threading.Thread):
-    """All schedules of a run."""
-
-    def __init__(self, functions: List[Dict[str, Any]], service: Any, stopping: threading.Event, log: Log):
-        super().__init__(name="schedules")
-        self.service, self.stopping, self.log = service, stopping, log
-        self.due: List[Due] = []
-        begun = now()
-        for member in functions:
+    def begin(self) -> None:
+        begun = moment_of(self.clock.now())
+        for member in self.functions:
             for schedule in schedules_of(member):
                 self.note(member["name"], schedule, begun)
 
     def note(self, function: str, schedule: Schedule, after: datetime) -> None:
         moment = schedule.expression.next_after(after)
         if moment is not None:
-            self.due.append(Due(moment, function, schedule))
+            due = Due(moment, function, schedule)
+            self.clock.at(round(1000 * moment.timestamp()), lambda: self.come(due))
 
-    def run(self) -> None:
-        while self.due:
-            first = min(self.due, key=lambda due: due.moment)
-            if self.stopping.wait(max(0.0, min(LONGEST_WAIT, (first.moment - now()).total_seconds()))):
-                return
-            if first.moment > now():
-                continue
-            self.due.remove(first)
-            self.fire(first)
-            # (what was due while the machine slept is sent once)
-            self.note(first.function, first.schedule, max(first.moment, now()) if self.is_late(first) else first.moment)
-
-    @staticmethod
-    def is_late(due: Due) -> bool:
-        following = due.schedule.expression.next_after(due.moment)
-        return following is not None and following <= now()
+    def come(self, due: Due) -> None:
+        """It is due, or has been: what was due again meanwhile, as while the machine slept or in an advance, is sent
+        once."""
+        if self.stopping.is_set():
+            return
+        self.fire(due)
+        following, now = due.schedule.expression.next_after(due.moment), moment_of(self.clock.now())
+        is_late = following is not None and following <= now
+        self.note(due.function, due.schedule, max(due.moment, now) if is_late else due.moment)
 
     def fire(self, due: Due) -> None:
         payload = event_of(due.function, due.schedule, self.service.configuration, due.moment)

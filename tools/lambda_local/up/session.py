@@ -98,7 +98,7 @@ class Session:
         self.closer = Closer(self.sidecars, self.service, self.watch, log)
         self.front.serve(self.service, Tails(invocations, self.watch, self.closer),
                          self.sidecars.serve(self.service.configuration, self.printed), self.sidecars.streams,
-                         self.limits.answered)
+                         self.limits.answered, self.watch.clock)
         self.watch.takers.append(self.sidecars.pairing(self.front.call).take)
         self.refused = RefusedCalls(self.service.configuration, self.sidecars, self.sidecars.tell)
         self.watch.takers.append(self.refused.take)
@@ -115,9 +115,9 @@ class Session:
             self.looks.between = BETWEEN_LOOKS
         self.threads: List[threading.Thread] = [self.watch, self.looks, *self.environments]
         self.clients, self.ending = surroundings.Clients(log, self.stopping), threading.Event()
-        self.sources: List[threading.Thread] = [
-            Schedules(list(front.functions), self.service, self.ending, log),
-            *pollers_of(queues, self.service, options.keep_credentials, self.ending, log)]
+        self.schedules = Schedules(list(front.functions), self.service, self.watch.clock, self.ending, log)
+        self.sources: List[threading.Thread] = [*pollers_of(queues, self.service, self.watch.clock,
+                                                            options.keep_credentials, self.ending, log)]
         if options.reload:
             self.threads.append(Reload(self.environments, self.service, self.stopping, log, self.project.watched))
 
@@ -218,6 +218,7 @@ class Session:
             if self.wait_until_ready():
                 for thread in (self.clients, *self.sources):
                     thread.start()
+                self.schedules.begin()
                 if self.options.command:
                     status = self.run_command()
                 else:
@@ -329,6 +330,7 @@ class Session:
         """Stops the service and all processes in order; the service's status, or 4 if the history is not saved. It is
         saved if that is asked, or the command failed."""
         self.ending.set()
+        self.step("letting the clock go on", self.watch.clock.resume)
         self.step("waiting for events", lambda: self.front.drain(lambda: self.service.process.poll() is not None))
         self.step("looking at limits", self.limits.look_at_the_end)
         gone = self.service.process.poll() is not None

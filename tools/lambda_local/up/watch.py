@@ -7,6 +7,7 @@ import time
 from collections import Counter
 from typing import Callable, Counter as Counts, Iterator, List, Optional, Set
 
+from ..clock.followed import Clock
 from ..history.entries import Entry
 from ..history.running import Lost, NoDescriptor, Running
 from ..history.shapes import NotTrace
@@ -39,6 +40,7 @@ class Watch(threading.Thread):
         super().__init__(name="watch", daemon=True)
         self.service, self.log = service, log
         self.lines = Lines(log, ())
+        self.clock = Clock(service.port, lambda text: log("up", text, level="error", kind="fault"))
         self.life, self.lock = Life(service.configuration), threading.RLock()
         self.running = Running(service.port, len(self.life.environments), only_reports=True)
         self.taken = 0  # entries, of all that followers were given
@@ -68,6 +70,7 @@ class Watch(threading.Thread):
         self._lose(None, 0)
 
     def _come(self, entry: Entry) -> None:
+        self.clock.note(entry.moment)
         with self.lock:
             for take in (*self.takers, self._take):
                 self._call(take, entry)

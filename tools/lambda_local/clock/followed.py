@@ -1,0 +1,226 @@
+"""The clock by which the tools wait: the service's, whose moments go on with the machine's clock, stand still in a
+pause, and are moved forward on request (docs/semantics.md, "The clock").
+
+What waits by it: the retries of events, their greatest age and their pauses after throttles; schedules; the time that
+an environment may be idle, that an Init of its own may take, and that follows early ends; the window of a queue's batch
+and its pauses after throttles; the rest of a shutdown; the results that an authorizer has given; and the moments in
+events and records. What waits for a connection, a process, another server or a reader is real time, and so is whatever
+asks the machine's clock itself: the limits of connections, what is given to a process to end, the wait until all is
+ready, the lines of the log.
+
+How it is known: each entry of a trace that is followed has a moment, which is a reading (`note`); so an advance is
+known at once. What runs between two readings is counted by the machine's clock, and never runs ahead of a clock that
+is running. A pause makes no entry: so the service is asked before anything is taken to be due (`reached`), and, while
+it is known to be paused and something waits, now and then (BETWEEN_ASKS). Nothing is asked while nothing waits. Who
+sets the clock through this process says so (`ask`). A service that has no clock to ask runs with the machine's."""
+import contextlib
+import heapq
+import http.client
+import itertools
+import threading
+import time
+from typing import Callable, Iterator, List, Optional
+
+from ..service import ask
+from .asked import RESUME, SHOW, NotClock, Reading, reading_of
+
+BETWEEN_ASKS = 0.25  # seconds, while the clock is known to be paused and something waits
+LONGEST_REST = 30.0  # seconds, after which it is asked in any case: the time of day may have been set
+STEP = 0.05  # seconds between two looks of one who waits for something else too
+ASK_SECONDS = 5.0  # for an answer
+Tell = Callable[[str], None]
+
+
+class Timer:
+    """What is called once a moment is reached; `moment` is in milliseconds."""
+
+    def __init__(self, moment: int, number: int, call: Callable[[], None]) -> None:
+        self.moment, self.number, self.call, self.is_cancelled = moment, number, call, False
+
+    def __lt__(self, other: "Timer") -> bool:
+        return (self.moment, self.number) < (other.moment, other.number)
+
+    def cancel(self) -> None:
+        self.is_cancelled = True
+
+
+class Clock:
+    """That of the service at this port. Each method may be called by any thread; `tell` gets a line for a timer that
+    fails."""
+
+    def __init__(self, port: int, tell: Tell = lambda line: None) -> None:
+        self.port, self.tell = port, tell
+        self._changed = threading.Condition(threading.RLock())
+        self._known = 0  # the greatest reading: no reading is less
+        self._base, self._since = int(1000 * time.time()), time.monotonic()  # what is counted on from
+        self._is_running = self._has_clock = True
+        self._asked = 0.0  # when the service was asked last
+        self._setting = 0  # requests by which it is being set
+        self._timers: List[Timer] = []
+        self._numbers = itertools.count()
+        self._calling: Optional[Timer] = None
+        self._thread: Optional[threading.Thread] = None
+        self._is_closed = False
+
+    # ---- what it reads -----------------------------------------------------------------------------------------------
+
+    def now(self) -> int:
+        """The moment, in milliseconds, as far as it is known without asking."""
+        with self._changed:
+            return self._now()
+
+    def _now(self) -> int:
+        passed = int(1000 * (time.monotonic() - self._since)) if self._is_running else 0
+        return max(self._known, self._base + passed)
+
+    @property
+    def is_paused(self) -> bool:
+        """Whether it is known to be."""
+        return not self._is_running
+
+    def note(self, moment: int) -> None:
+        """An entry was made at this moment."""
+        if moment <= self._known:
+            return
+        with self._changed:
+            if moment > self._known:
+                is_new = not self._is_running or moment > self._now()
+                self._known = moment
+                if is_new:
+                    self._count_from(moment)
+                if self._timers and (is_new or self._timers[0].moment <= moment):
+                    self._changed.notify_all()
+
+    def _count_from(self, moment: int) -> None:
+        self._base, self._since = moment, time.monotonic()
+
+    def _take(self, reading: Reading) -> None:
+        with self._changed:
+            self._known = max(self._known, reading.now)
+            self._is_running = reading.is_running
+            self._count_from(reading.now)
+            self._changed.notify_all()
+
+    def ask(self) -> None:
+        """Has the service say what it reads. If it says nothing, as one that has ended, its clock is taken to run."""
+        self._asked = time.monotonic()
+        try:
+            if self._has_clock:
+                status, _, body = ask(self.port, *SHOW, timeout=ASK_SECONDS)
+                return self._take(reading_of(status, body))
+        except NotClock as fault:
+            self._has_clock = fault.status >= 500  # (one that has no memory just now may have one)
+        except (OSError, http.client.HTTPException):
+            pass
+        with self._changed:
+            self._take(Reading(self._now(), True))
+
+    def reached(self, moment: int) -> bool:
+        """Whether it has come to this moment: of that the service is asked."""
+        with self._changed:
+            if self._known >= moment:
+                return True
+            rested = time.monotonic() - self._asked
+            if self._setting or (self._now() < moment if self._is_running else rested < BETWEEN_ASKS):
+                return False
+        self.ask()
+        return self._known >= moment
+
+    @contextlib.contextmanager
+    def being_set(self) -> Iterator[None]:
+        """While this lasts a request sets it, and nothing is taken to be due by what it is asked meanwhile: the entry
+        of that request comes first, so equal requests make equal histories."""
+        with self._changed:
+            self._setting += 1
+        try:
+            yield
+        finally:
+            with self._changed:
+                self._setting -= 1
+                self._changed.notify_all()
+
+    def resume(self) -> None:
+        """Lets it go on, as before a stop: in a pause an environment that shuts down would be waited for."""
+        try:
+            ask(self.port, *RESUME, timeout=ASK_SECONDS)
+        except (OSError, http.client.HTTPException):
+            pass  # (it has ended)
+        self.ask()
+
+    # ---- who waits ---------------------------------------------------------------------------------------------------
+
+    def at(self, moment: int, call: Callable[[], None]) -> Timer:
+        """Has this called once the moment is reached, by a thread of the clock's: what is due first is called first,
+        and what is due at the same moment in the order of these calls. It may not wait long."""
+        with self._changed:
+            timer = Timer(moment, next(self._numbers), call)
+            heapq.heappush(self._timers, timer)
+            if self._thread is None and not self._is_closed:
+                self._thread = threading.Thread(target=self._run, name="clock", daemon=True)
+                self._thread.start()
+            if self._timers[0] is timer:
+                self._changed.notify_all()
+            return timer
+
+    def after(self, seconds: float, call: Callable[[], None]) -> Timer:
+        return self.at(self.now() + round(1000 * seconds), call)
+
+    def wait(self, event: threading.Event, seconds: float) -> bool:
+        """Waits until the event is set, at most so long by this clock; whether it was set."""
+        end = self.now() + round(1000 * seconds)
+        while not event.wait(STEP):
+            if self.reached(end):
+                return event.is_set()
+        return True
+
+    def settle(self, seconds: float = ASK_SECONDS) -> None:
+        """Waits until all that is due has been called, at most so long."""
+        with self._changed:
+            self._changed.wait_for(lambda: self._is_closed or not self._calling and not self._has_due(), seconds)
+
+    def _has_due(self) -> bool:
+        while self._timers and self._timers[0].is_cancelled:
+            heapq.heappop(self._timers)
+        return bool(self._timers) and self._timers[0].moment <= self._known
+
+    def close(self) -> None:
+        """Nothing more is called."""
+        with self._changed:
+            self._is_closed = True
+            self._timers.clear()
+            self._changed.notify_all()
+
+    def _run(self) -> None:
+        while (timer := self._next()) is not None:
+            try:
+                timer.call()
+            except Exception as fault:
+                self.tell(f"what was due at {timer.moment} has failed: {type(fault).__name__}: {fault}")
+            with self._changed:
+                self._calling = None
+                self._changed.notify_all()
+
+    def _next(self) -> Optional[Timer]:
+        """The next timer that is due; none once all ends."""
+        while True:
+            with self._changed:
+                while not self._is_closed and not self._has_due() and not self._is_to_ask():
+                    self._changed.wait(self._rest())
+                if self._is_closed:
+                    return None
+                if self._has_due():
+                    self._calling = heapq.heappop(self._timers)
+                    return self._calling
+            self.ask()
+
+    def _is_to_ask(self) -> bool:
+        return bool(self._timers) and not self._setting and self._rest() == 0
+
+    def _rest(self) -> Optional[float]:
+        """Seconds until the service is to be asked; none if nothing waits, or it is just being set."""
+        if not self._timers or self._setting:
+            return None
+        rested = time.monotonic() - self._asked
+        if not self._is_running:
+            return max(0.0, BETWEEN_ASKS - rested)
+        return max(0.0, min((self._timers[0].moment - self._now()) / 1000, LONGEST_REST - rested))
