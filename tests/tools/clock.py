@@ -1,5 +1,5 @@
 """Checks `lambda_local clock` against a service that runs, one that `lambda_local up` runs, and servers that answer
-otherwise. The program is LAMBDA_LOCAL_PROGRAM, else ./lambda_local."""
+otherwise, and the clock by which the tools wait against one that a test sets. The program is LAMBDA_LOCAL_PROGRAM, else ./lambda_local."""
 import http.server
 import json
 import os
@@ -7,14 +7,16 @@ import re
 import subprocess
 import sys
 import threading
+import time
 import urllib.error
 import urllib.request
 
 from lambda_local.clock.durations import NotDuration, milliseconds_in
+from lambda_local.clock.followed import Clock as Followed
 from lambda_local.in_process import LambdaLocal
 from tests import ROOT
 from tests.library.cases import Case
-from tests.library.up_kit import Up
+from tests.library.up_kit import Up, until
 
 CLOCK = [sys.executable, os.path.join(ROOT, "tools"), "clock"]
 CLEAN = {name: value for name, value in os.environ.items() if name != "AWS_ENDPOINT_URL_LAMBDA"}
@@ -139,3 +141,127 @@ class Clock(Case):
         self.check("after which it is as it was", read(endpoint=up.endpoint), (before + 90_000, "paused"))
         read("resume", endpoint=up.endpoint)
         up.end()
+
+
+class Scripted:
+    """A service whose clock a test sets; it counts what it is asked."""
+
+    def __init__(self, now=None):
+        self.begun, self.at, self.is_running = time.monotonic(), now or int(1000 * time.time()), True
+        self.asked, self.entries = [], 0
+        owner = self
+
+        class Service(http.server.BaseHTTPRequestHandler):
+            def do_GET(self):
+                owner.asked.append(self.path)
+                body = json.dumps({"now": owner.reads(), "running": owner.is_running}).encode()
+                self.send_response(200)
+                self.send_header("Content-Length", str(len(body)))
+                self.end_headers()
+                self.wfile.write(body)
+            do_POST = do_GET
+
+            def log_message(self, *words):
+                pass
+        self.server = http.server.ThreadingHTTPServer(("127.0.0.1", 0), Service)
+        threading.Thread(target=self.server.serve_forever, daemon=True).start()
+        self.port = self.server.server_port
+
+    def reads(self):
+        return self.at + (int(1000 * (time.monotonic() - self.begun)) if self.is_running else 0)
+
+    def set(self, is_running, forward=0):
+        self.at, self.begun, self.is_running = self.reads() + forward, time.monotonic(), is_running
+
+    def close(self):
+        self.server.shutdown()
+        self.server.server_close()
+
+
+class FollowedClock(Case):
+    def setUp(self):
+        self.service = Scripted()
+        self.told, self.came = [], []
+        self.clock = Followed(self.service.port, self.told.append)
+        self.addCleanup(self.service.close)
+        self.addCleanup(self.clock.close)
+
+    def later(self, name, milliseconds):
+        return self.clock.at(self.clock.now() + milliseconds, lambda: self.came.append(name))
+
+    def test_nothing_is_asked_while_nothing_waits(self):
+        self.clock.note(self.service.reads())
+        self.check("its moment is counted on", abs(self.clock.now() - self.service.reads()) < 2000)
+        self.check("what is far off is not reached", self.clock.reached(self.clock.now() + 60_000), False)
+        timer = self.later("an hour", 3_600_000)
+        time.sleep(0.6)
+        timer.cancel()
+        self.check("at most once is it asked", len(self.service.asked) <= 1, shown=self.service.asked)
+
+    def test_runs(self):
+        self.later("second", 300)
+        self.later("first", 100)
+        self.later("third", 300)
+        self.later("none", 200).cancel()
+        self.check("what is due comes in its order", (until(lambda: len(self.came) == 3, 10), self.came),
+                   (True, ["first", "second", "third"]))
+        self.check("what fails is told, and stops nothing", self.clock.at(0, lambda: 1 // 0) is not None)
+        self.later("after it", 1)
+        self.check("the next one comes", until(lambda: "after it" in self.came, 10))
+        self.check("a line", (len(self.told), "ZeroDivisionError" in self.told[0]), (1, True))
+
+    def test_advance(self):
+        for name, milliseconds in (("last", 7_200_000), ("first", 3_600_000), ("later", 90_000_000)):
+            self.later(name, milliseconds)
+        self.service.set(True, 86_400_000)
+        self.clock.note(self.service.reads())
+        self.clock.settle()
+        self.check("all that is due by an entry's moment has come", self.came, ["first", "last"])
+
+    def test_paused(self):
+        self.service.set(False)
+        self.clock.ask()
+        self.check("it is known to be paused", self.clock.is_paused)
+        self.later("soon", 50)
+        count = len(self.service.asked)
+        time.sleep(1.2)
+        self.check("nothing comes", (self.came, self.clock.reached(self.service.reads() + 1)), ([], False))
+        self.check("it is asked some times a second", 1 <= len(self.service.asked) - count <= 6,
+                   shown=len(self.service.asked) - count)
+        self.service.set(True)
+        self.check("it comes once the clock goes on", until(lambda: self.came == ["soon"], 10))
+        self.service.set(False)
+        self.later("unseen", 200)
+        time.sleep(0.8)
+        self.check("a pause of which nothing was heard counts", self.came, ["soon"])
+        self.service.set(False, 1000)
+        with self.clock.being_set():
+            time.sleep(0.6)
+            self.check("nothing is due while it is being set", self.came, ["soon"])
+        self.check("then it is", until(lambda: self.came == ["soon", "unseen"], 10))
+
+    def test_waits(self):
+        event = threading.Event()
+        begun = time.monotonic()
+        self.check("its time is over", self.clock.wait(event, 0.2), False)
+        self.check("not before", time.monotonic() - begun >= 0.19)
+        event.set()
+        self.check("it is set", self.clock.wait(event, 60), True)
+
+    def test_no_clock(self):
+        """What a service without a clock, or one that has ended, is asked: nothing waits for ever."""
+        for answer in (404, None):
+            server = http.server.ThreadingHTTPServer(("127.0.0.1", 0), Answers)
+            server.answer = (404, b"{}")
+            threading.Thread(target=server.serve_forever, daemon=True).start()
+            if answer is None:
+                server.shutdown()
+                server.server_close()
+            clock = Followed(server.server_port)
+            came = []
+            clock.at(clock.now() + 50, lambda: came.append(1))
+            self.check(f"an answer {answer}", until(lambda: came == [1], 10))
+            clock.close()
+            if answer is not None:
+                server.shutdown()
+                server.server_close()
