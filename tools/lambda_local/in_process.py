@@ -18,10 +18,12 @@ import urllib.error
 import urllib.request
 from typing import TYPE_CHECKING, Any, Callable, Dict, List, Mapping, Optional, Tuple, Union
 
+from .clock.own import OwnClock
 from .configuration import OF_FUNCTION, Kind, Members, is_whole, mistakes_of, shown
 from .paths import bundled_module
 from .sandbox import Changes, Sandbox
 from .service import Service
+from .troubles import CRASH, Troubled
 from .variables import OF_FUNCTION as VARIABLES
 from .variables import of_function, text_of
 
@@ -94,8 +96,10 @@ class Runtime(threading.Thread):
     """The runtime of one environment: examples/runtime.py, but for what handlers need that share their test's
     process."""
 
-    def __init__(self, owner: "LambdaLocal", port: int, handler: Handler, memory: str) -> None:
+    def __init__(self, owner: "LambdaLocal", function: str, number: int, port: int, handler: Handler,
+                 memory: str) -> None:
         super().__init__(name=f"lambda_local {port}", daemon=True)
+        self.function, self.number = function, number  # of its environment
         self.owner, self.memory, self.code = owner, memory, bundled_module("runtime.py")
         self.handler = self.code.with_context(handler)
         self.environment = self.code.Environment(f"127.0.0.1:{port}")
@@ -104,7 +108,8 @@ class Runtime(threading.Thread):
         """Handles invocations until the environment closes; it then begins anew."""
         try:
             while not self.owner.has_ended():
-                with contextlib.suppress(OSError):
+                with contextlib.suppress(OSError, http.client.HTTPException):
+                    self.owner.hold_init(self.function, self.number)
                     self.code.serve(self.environment, self.handler, self.begin, self.outcome,
                                     sets_trace=len(self.owner.runtimes) == 1)
                 if not self.owner.has_ended():
@@ -125,6 +130,13 @@ class Runtime(threading.Thread):
 
     def outcome(self, handler: Handler, payload: bytes, headers: Mapping[str, str]) -> Tuple[str, str, Dict[str, str]]:
         """What an invocation comes to: "response" or "error", and the body and headers to post."""
+        trouble = self.owner.kind_of(self.function)
+        if trouble == "timeout":
+            self.owner.time_out(int(headers["Lambda-Runtime-Deadline-Ms"]))
+            raise ConnectionError("its time is over")  # (the runtime begins anew, as one that was killed)
+        if trouble == "crash":
+            self.owner.crash(self.function, self.number)
+            return "error", json.dumps(CRASH), {"Lambda-Runtime-Function-Error-Type": CRASH["errorType"]}
         try:
             return "response", self.code.text_of(handler(self.code.read(payload), self.context_of(headers))), {}
         except BaseException as fault:  # also pytest.fail and sys.exit: who invoked it is to see them
@@ -163,7 +175,7 @@ def tell_of_events(who: str, text: str, level: str = "info", kind: str = "up", a
         print(f"[{who}] {text}", file=sys.stderr)
 
 
-class LambdaLocal:
+class LambdaLocal(Troubled):
     """A service of these functions: `timeout`, `reserved`, `environments`, `variables` .. of a function by `functions`.
     `patches` is pytest's MonkeyPatch, or what makes the same changes and undoes them."""
 
@@ -177,7 +189,9 @@ class LambdaLocal:
     def __init__(self, functions: Optional[Mapping[str, Members]] = None, program: Optional[str] = None,
                  patches: Optional[Changes] = None, keep_credentials: bool = False,
                  asynchronous: Union[None, bool, Members] = None, **handlers: Handler) -> None:
+        super().__init__()
         self.program, self.patches = program, patches
+        self.clock = OwnClock(lambda: str(self.started().endpoint_url))
         self.runtimes: List[Runtime] = []
         self.faults: Dict[str, BaseException] = {}
         if functions or handlers:
@@ -205,10 +219,20 @@ class LambdaLocal:
         self.sandbox = Sandbox(self.service, variables, keep_credentials, self.patches)
         for (_, memory), part in zip(parts, self.service.configuration["functions"]):
             if handler := handlers.get(part["name"]):
-                self.runtimes += [Runtime(self, port, handler, memory) for port in part["ports"]]
+                self.runtimes += [Runtime(self, part["name"], number, port, handler, memory)
+                                  for number, port in zip(self.numbers_of(part["name"]), part["ports"])]
         for runtime in self.runtimes:
             runtime.start()
         return self
+
+    def numbers_of(self, name: str) -> List[int]:
+        number, numbers = 1, {}
+        for part in self.started().configuration["functions"]:
+            numbers[part["name"]] = list(range(number, number + len(part["ports"])))
+            number += len(part["ports"])
+        if name not in numbers:
+            raise ValueError(f"there is no function {name!r}: there are {', '.join(numbers)}")
+        return numbers[name]
 
     def has_ended(self) -> bool:
         return self.stopped or self.service is not None and self.service.process.poll() is not None
@@ -246,7 +270,7 @@ class LambdaLocal:
             except urllib.error.HTTPError as fault:
                 text = fault.read()
                 fault.close()
-                if fault.code != 429 or time.monotonic() > end:
+                if fault.code != 429 or time.monotonic() > end or "throttle" in self.troubles.get(name, ()):
                     raise FunctionError({"errorType": fault.headers.get("x-amzn-ErrorType"),
                                          "errorMessage": text.decode(errors="replace")}) from None
                 time.sleep(0.005)
@@ -275,18 +299,27 @@ class LambdaLocal:
         return self.service.history() if self.service and not self.stopped else self.log
 
     def settled(self, seconds: float = 5) -> bool:
-        """Waits until nothing is in flight and no event is left; whether it came to that."""
+        """Waits until nothing is in flight and no event is left, but for those that wait for a clock that is paused;
+        whether it came to that."""
         end = time.monotonic() + seconds
-        while self.front and self.front.queue and self.front.queue.count or self.stats()["inFlight"]:
+        while self._events() or self.stats()["inFlight"] or self._events():
             if time.monotonic() > end:
                 return False
             time.sleep(0.005)
         return True
 
+    def _events(self) -> int:
+        """Those that are left and are not waiting for a clock that is paused."""
+        if not self.front or not self.front.queue:
+            return 0
+        return self.front.queue.count - (self.front.queue.waiting if self.front.clock.is_paused else 0)
+
     def stop(self) -> None:
         """Stops it, and checks its counts and that its history replays to itself."""
         if self.service is None or self.stopped:
             return
+        with contextlib.suppress(OSError, http.client.HTTPException, RuntimeError):
+            self.clock.resume()  # (in a pause an environment that shuts down would be waited for)
         if self.front:
             self.front.drain(self.has_ended)
             self.front.end()
