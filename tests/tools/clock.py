@@ -1,5 +1,6 @@
 """Checks `lambda_local clock` against a service that runs, one that `lambda_local up` runs, and servers that answer
-otherwise, and the clock by which the tools wait against one that a test sets. The program is LAMBDA_LOCAL_PROGRAM, else ./lambda_local."""
+otherwise; and the clock by which the tools wait, against one that a test sets. The program is LAMBDA_LOCAL_PROGRAM,
+else ./lambda_local."""
 import http.server
 import json
 import os

@@ -42,7 +42,8 @@ class Clock(Case):
             self.check("after it the clock goes on", clock.is_paused, False)
             for words, wanted in (((0,), "it is 0 milliseconds"), ((-1,), "seconds is -1"), (("3",), "seconds is '3'"),
                                   ((True,), "seconds is True"), ((float("nan"),), "seconds is nan"),
-                                  ((float("inf"),), "seconds is inf"), ((2 ** 53,), "seconds is 9007"), ((2 ** 50,), "milliseconds in all")):
+                                  ((float("inf"),), "seconds is inf"), ((2 ** 53,), "seconds is 9007"),
+                                  ((2 ** 50,), "milliseconds in all")):
                 kind, text = fault_of(lambda words=words: clock.advance(*words))
                 self.check(f"no advance: {words}", (kind, wanted in text), ("ValueError", True), shown=text)
             kind, text = fault_of(lambda: clock.advance(milliseconds=2 ** 53 - 1))
@@ -110,7 +111,8 @@ class Clock(Case):
 
 class Troubles(Case):
     def test_throttled(self):
-        with LambdaLocal({"f": {"environments": 2, "reserved": 1}}, f=lambda event: event, g=lambda event: 2) as service:
+        with LambdaLocal({"f": {"environments": 2, "reserved": 1}}, f=lambda event: event,
+                         g=lambda event: 2) as service:
             with service.throttled("f"):
                 kind, text = fault_of(lambda: service.invoke("f"))
                 self.check("it is throttled", (kind, json.loads(text)["Reason"]), (

@@ -94,8 +94,8 @@ class UpClock(Case):
         advance(up.endpoint, 900)
         thread.join()
         report = json.loads(got[0][1])
-        self.quietly("its caller gets Lambda's timeout", (got[0][0], report["errorType"],
-                                                          report["errorMessage"].endswith("Task timed out after 900 seconds")),
+        is_said = report["errorMessage"].endswith("Task timed out after 900 seconds")
+        self.quietly("its caller gets Lambda's timeout", (got[0][0], report["errorType"], is_said),
                      (200, "Function.Timeout", True))
         self.quietly("the event is taken", rests(up, before + 1) and send(up, "fails"), 202)
         for count, seconds in ((2, 60), (3, 120)):

@@ -19,6 +19,7 @@ TOOLS = {
     "invoke": ".invoke",
     "rerun": ".rerun",
     "timeline": ".timeline",
+    "trouble": ".trouble",
     "up": ".up",
 }
 SAME = {"help": ["--help"], **dict.fromkeys(("-V", "-v", "version"), ["--version"])}

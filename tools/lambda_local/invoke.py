@@ -159,7 +159,7 @@ def refusal(name: str, status: int, headers: Message, body: bytes) -> str:
     """A line on an answer that is no result of the function."""
     try:
         members = json.loads(body)
-        told = members.get("message") or members.get("Message") or ""
+        told = members.get("message") or members.get("Message") or members.get("errorMessage") or ""
         reason = members.get("Reason") or ""
     except (ValueError, RecursionError, AttributeError):
         told, reason = body[:300].decode(errors="replace"), ""

@@ -121,7 +121,7 @@ class Front(threading.Thread):
                                         sum(other.descriptors for other in others)))
         port = InvokePort(self.client, self.settings, configuration, self.drain_seconds, self.log, self.places,
                           self.clock, tails)
-        self.queue, identifiers = port.queue, port.identifiers
+        self.port, self.queue, identifiers = port, port.queue, port.identifiers
         urls = {function: url_of(listener) for function, listener in self.urls.items()}
         streams = streams or Streams()
         management = Management(port, self.client, self.settings, configuration, urls, streams)

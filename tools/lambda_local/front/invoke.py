@@ -2,7 +2,8 @@
 import asyncio
 import functools
 import json
-from typing import Optional, Set
+from typing import Callable, Optional, Set, Tuple
+from urllib.parse import parse_qs
 
 from ..clock.asked import PATHS
 from ..clock.followed import Clock
@@ -25,6 +26,8 @@ MOST_PAYLOAD = 1 << 20  # bytes of an event (Developer Guide, "Lambda quotas")
 MOST_TARGETS = 1000  # that are remembered
 TYPE = "x-amz-invocation-type"
 CLOSES = ("connection", "close")
+TROUBLE = "/_local/trouble"
+Trouble = Callable[[str, str], Tuple[int, str]]  # for a function and a kind, a status and a sentence
 OF_SERVICE = ("/_local/stop", PATHS)  # requests of the service itself beside which something is to be done here
 
 
@@ -37,6 +40,7 @@ class InvokePort:
         self.client, self.drain_seconds = client, drain_seconds
         self.identifiers, self.hosts = Identifiers(configuration), further_hosts()
         self.known: Set[str] = set()
+        self.trouble: Optional[Trouble] = None  # if somebody can make it
         # A bundled runtime makes a root of the request identifier if there is none, and others do not.
         self.rootless = {member["name"] for member in settings.functions if "runtime" not in member}
         self.queue = Queue(client, settings.asynchronous, configuration, self.identifiers, log, clock,
@@ -49,6 +53,8 @@ class InvokePort:
             return reply_of(refusal)
         kind, function = first(request.headers, TYPE), function_of(request.target)
         try:
+            if self.trouble is not None and request.method == "POST" and request.path == TROUBLE:
+                return await self.order(request, self.trouble)
             if request.method == "POST" and request.path.startswith(OF_SERVICE):
                 return await self.about_service(request)
             if (self.queue is None or function is None or request.method != "POST"
@@ -69,6 +75,17 @@ class InvokePort:
             return await self.take(self.queue, request, function, identifier)
         except NoRoom:
             return self.refusal(503, "Too many bodies are held")
+
+    async def order(self, request: Request, trouble: Trouble) -> Reply:
+        """What `lambda_local up` itself does wrong on request."""
+        query = parse_qs(request.query, keep_blank_values=True)
+        given = [query.get(name, []) for name in ("function", "kind")]
+        if sorted(query) != ["function", "kind"] or [len(values) for values in given] != [1, 1]:
+            status, text = 400, "function and kind are there once each"
+        else:
+            status, text = await asyncio.get_running_loop().run_in_executor(None, trouble, given[0][0], given[1][0])
+        body = {"message": text} if status == 202 else {"errorMessage": text, "errorType": "InvalidTrouble"}
+        return Reply(status, [("content-type", "application/json")], of_json(body))
 
     async def about_service(self, request: Request) -> Reply:
         """Before a stop, a paused clock goes on, and events are waited for. Once the clock was set, what is due by it

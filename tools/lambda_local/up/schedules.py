@@ -28,7 +28,8 @@ def event_of(name: str, schedule: Schedule, configuration: Dict[str, Any], momen
         return json.dumps(schedule.input).encode()
     account, region = configuration["account"], configuration["region"]
     return json.dumps({
-        "version": "0", "id": identifier_of(name, schedule, configuration, moment), "detail-type": "Scheduled Event", "source": "aws.events",
+        "version": "0", "id": identifier_of(name, schedule, configuration, moment),
+        "detail-type": "Scheduled Event", "source": "aws.events",
         "account": account, "time": moment.strftime("%Y-%m-%dT%H:%M:%SZ"), "region": region,
         "resources": [f"arn:aws:events:{region}:{account}:rule/{name}"], "detail": {}}).encode()
 

@@ -36,6 +36,7 @@ from .scaling import BETWEEN_LOOKS, Scaling
 from .schedules import Schedules
 from .sources import queues_of, refuse_aws
 from .supervised import BROKEN, Supervisor, told
+from .troubles import Troubles
 from .unnamed import Unnamed
 from .watch import Watch
 
@@ -103,6 +104,10 @@ class Session:
         self.refused = RefusedCalls(self.service.configuration, self.sidecars, self.sidecars.tell)
         self.watch.takers.append(self.refused.take)
         self.environments = list(self.make_environments())
+        troubles = Troubles(self.environments, self.watch, log)
+        self.front.port.trouble = troubles.order
+        self.watch.followers.append(troubles.take)
+        self.looks.hooks.append(Hook("look after trouble that was called for", troubles.look))
         self.closer.environments += self.environments
         self.looks.hooks.append(Hook("look for extensions under another name", Unnamed(
             self.watch.life.environments.values(),
