@@ -272,6 +272,18 @@ delete process.env.LAMBDA_LOCAL_MARK;
 const print = process.stdout.write.bind(process.stdout);
 const begin = (id) => { if (MARK) print(`\0${MARK}${id}\n`); };
 
+// What the clock reads by which an invocation times out: that of `./lambda_local up` can be paused, and moved forward.
+const CLOCK = process.env.LAMBDA_LOCAL_CLOCK;
+delete process.env.LAMBDA_LOCAL_CLOCK;
+function clock() {
+  try {
+    const [moment, since, runs] = fs.readFileSync(CLOCK, "ascii").split(" ").map(BigInt);
+    return Number(moment + ((process.hrtime.bigint() - since) / 1000000n) * runs);
+  } catch { // (there is none, or not any more)
+    return Date.now();
+  }
+}
+
 // What this program says itself.
 function tell(text) {
   process.stderr.write(`${text}\n`);
@@ -420,7 +432,7 @@ function contextOf(headers, done) {
     identity: parsed("lambda-runtime-cognito-identity"),
     invokedFunctionArn,
     awsRequestId: headers["lambda-runtime-aws-request-id"],
-    getRemainingTimeInMillis: () => Math.max(0, deadline - Date.now()),
+    getRemainingTimeInMillis: () => Math.max(0, deadline - clock()),
     done, succeed: (output) => done(null, output), fail: (fault) => done(fault ?? "handled"),
   };
 }

@@ -218,8 +218,21 @@ class Context:
                                                   env=client_context.get("env"))
         self.deadline = int(headers["Lambda-Runtime-Deadline-Ms"])
 
+    clock_file = None  # of `./lambda_local up`
+
+    @staticmethod
+    def clock():
+        """What the clock reads by which the invocation times out: that of `./lambda_local up` can be paused, and moved
+        forward."""
+        try:
+            with open(Context.clock_file, encoding="ascii") as file:
+                moment, since, runs = map(int, file.read().split())
+            return moment + (time.monotonic_ns() - since) // 1_000_000 * runs
+        except (TypeError, OSError, ValueError):  # (there is none, or not any more)
+            return int(1000 * time.time())
+
     def get_remaining_time_in_millis(self):
-        return max(0, self.deadline - int(1000 * time.time()))
+        return max(0, self.deadline - self.clock())
 
     def log(self, text):
         sys.stdout.write(str(text))
@@ -498,6 +511,7 @@ def main():
         print(__doc__)
         return 0 if len(words) == 1 else 2
     address = (addresses or [os.environ.get("AWS_LAMBDA_RUNTIME_API") or "127.0.0.1:9001"])[0]
+    Context.clock_file = os.environ.pop("LAMBDA_LOCAL_CLOCK", None)
     environment, begin = Environment(address), marks_invocations()
     try:
         handler = init(environment, (names or [os.environ.get("_HANDLER")])[0])

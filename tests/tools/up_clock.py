@@ -222,3 +222,32 @@ class UpClock(Case):
             else:
                 self.check("a signal ends it", up.end(), (0, []))
             self.check("in seconds", time.monotonic() - begun < 15, shown=time.monotonic() - begun)
+
+    def test_remaining_time(self):
+        """What is left of an invocation's time, by the bundled runtimes: as the service counts it, at no request."""
+        up = started(self, function("py", timeout=60),
+                     {"name": "js", "runtime": "node", "handler": "index.js", "timeout": 60, "environments": 1},
+                     app=APP + "\ndef py(event, context):\n    first = context.get_remaining_time_in_millis()\n"
+                               "    time.sleep(0.3)\n    return first, context.get_remaining_time_in_millis(), "
+                               "'LAMBDA_LOCAL_CLOCK' in os.environ\n",
+                     files={"index.js": "exports.js = async (event, context) => {\n"
+                                        "  const first = context.getRemainingTimeInMillis();\n"
+                                        "  await new Promise((resolve) => setTimeout(resolve, 300));\n"
+                                        "  return [first, context.getRemainingTimeInMillis(), "
+                                        "'LAMBDA_LOCAL_CLOCK' in process.env];\n};\n"})
+        for name in ("py", "js"):
+            first, second, is_seen = up.invoke(name)[0]
+            self.check(f"{name}: it goes by", 250 <= first - second < 20_000 and 30_000 < first <= 60_500, shown=(
+                first, second))
+            self.check(f"{name}: the variable is not seen", is_seen, False)
+        advance(up.endpoint, 7 * DAY)
+        for name in ("py", "js"):
+            first, second, _ = up.invoke(name)[0]
+            self.check(f"{name}: after an advance too", 250 <= first - second < 20_000 and 30_000 < first <= 60_500,
+                       shown=(first, second))
+        pause(up.endpoint)
+        for name in ("py", "js"):
+            first, second, _ = up.invoke(name)[0]
+            self.check(f"{name}: in a pause it stands", first == second and 59_500 <= first <= 60_500,
+                       shown=(first, second))
+        self.check("it ends", up.end(), (0, []))

@@ -125,6 +125,7 @@ class Runtime(threading.Thread):
         """Lambda's context, of this function alone, and the headers."""
         context = self.code.Context(headers)
         context.function_name, context.memory_limit_in_mb = context.invoked_function_arn.split(":")[6], self.memory
+        context.clock = self.owner.clock.now
         context.log_group_name, context.headers = f"/aws/lambda/{context.function_name}", headers
         return context
 

@@ -17,9 +17,10 @@ import contextlib
 import heapq
 import http.client
 import itertools
+import os
 import threading
 import time
-from typing import Callable, Iterator, List, Optional
+from typing import Callable, Iterator, List, Optional, Tuple
 
 from ..service import ask
 from .asked import RESUME, SHOW, NotClock, Reading, reading_of
@@ -28,6 +29,7 @@ BETWEEN_ASKS = 0.25  # seconds, while the clock is known to be paused and someth
 LONGEST_REST = 30.0  # seconds, after which it is asked in any case: the time of day may have been set
 STEP = 0.05  # seconds between two looks of one who waits for something else too
 ASK_SECONDS = 5.0  # for an answer
+SLACK = 20  # milliseconds by which what is shared may be off
 Tell = Callable[[str], None]
 
 
@@ -42,6 +44,25 @@ class Timer:
 
     def cancel(self) -> None:
         self.is_cancelled = True
+
+
+class Shared:
+    """A file with one line: a moment, the machine's monotonic clock then, in nanoseconds, and 1 if it has run on since
+    or 0 if it is paused. It is written anew only if that says something else."""
+
+    def __init__(self, path: str) -> None:
+        self.path = path
+        self.noted: Optional[Tuple[float, bool]] = None
+
+    def note(self, moment: int, since: float, is_running: bool) -> None:
+        offset = moment - 1000 * since if is_running else float(moment)
+        if self.noted and self.noted[1] == is_running and abs(self.noted[0] - offset) < (SLACK if is_running else 1):
+            return
+        self.noted = offset, is_running
+        with contextlib.suppress(OSError):  # (its folder has gone with the service, or has no room: it is as it was)
+            with open(self.path + ".new", "w", encoding="ascii") as file:
+                file.write(f"{moment} {round(1e9 * since)} {int(is_running)}\n")
+            os.replace(self.path + ".new", self.path)
 
 
 class Clock:
@@ -61,6 +82,7 @@ class Clock:
         self._calling: Optional[Timer] = None
         self._thread: Optional[threading.Thread] = None
         self._is_closed = False
+        self._shared: Optional[Shared] = None
 
     # ---- what it reads -----------------------------------------------------------------------------------------------
 
@@ -93,12 +115,20 @@ class Clock:
 
     def _count_from(self, moment: int) -> None:
         self._base, self._since = moment, time.monotonic()
+        if self._shared:
+            self._shared.note(self._base, self._since, self._is_running)
+
+    def share(self, path: str) -> None:
+        """From now on this file says what it reads, for runtimes that are asked how much time is left."""
+        with self._changed:
+            self._shared = Shared(path)
+            self._shared.note(self._base, self._since, self._is_running)
 
     def _take(self, reading: Reading) -> None:
         with self._changed:
             self._known = max(self._known, reading.now)
             self._is_running = reading.is_running
-            self._count_from(reading.now)
+            self._count_from(max(self._known, reading.now))
             self._changed.notify_all()
 
     def ask(self) -> None:

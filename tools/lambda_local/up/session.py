@@ -2,6 +2,7 @@
 order."""
 import argparse
 import http.client
+import os
 import signal
 import threading
 import time
@@ -85,6 +86,8 @@ class Session:
                                options.up, patience.of_service(options.patient))
         self.is_served = True
         self.watch = Watch(self.service, log)
+        self.clock_file = os.path.join(self.service.folder, "clock")
+        self.watch.clock.share(self.clock_file)
         self.looks = Looks(self.watch, self.stopping)
         self.printed = {number: Printed() for number in self.watch.life.environments}
         invocations = self.make_invocations()
@@ -172,9 +175,10 @@ class Session:
                 if self.report is None:
                     self.printed[number].follow(self.show)
                 if function.command:
+                    own = {"LAMBDA_LOCAL_CLOCK": self.clock_file} if function.is_bundled else {}
                     variables = surroundings.of_environment(self.service, function, number, beside.port,
                                                             self.options.keep_credentials,
-                                                            self.front.variables())
+                                                            {**self.front.variables(), **own})
                     restarts = Restarts(self.options.reload)
                     yield Environment(self.service, self.watch, function, number, port, variables, restarts,
                                       self.stopping, self.log, self.printed[number], self.sidecars)
