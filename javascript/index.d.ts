@@ -64,6 +64,30 @@ export interface Stats {
   throttled: number;
 }
 
+/** How far an advance goes: the sum of these, from 1 millisecond. */
+export interface Advance {
+  milliseconds?: number;
+  seconds?: number;
+  minutes?: number;
+  hours?: number;
+  days?: number;
+}
+
+/** The clock of a service (docs/trouble.md). Moments are milliseconds since 1970. */
+export interface Clock {
+  /** What it reads. */
+  now(): Promise<number>;
+  isPaused(): Promise<boolean>;
+  /** Moves it forward; what is due by then has happened, or begun, once this is done. Gives what it reads then. */
+  advance(by: Advance): Promise<number>;
+  /** Stops it; nothing becomes due until it goes on or is moved. */
+  pause(): Promise<number>;
+  /** Lets it go on from where it stood. */
+  resume(): Promise<number>;
+  /** Does this while it is paused; after it, it goes on, unless it was paused before. */
+  paused<Output>(work: (clock: Clock) => Output | Promise<Output>): Promise<Output>;
+}
+
 /** A service that runs. */
 export class Service {
   private constructor();
@@ -80,6 +104,10 @@ export class Service {
   invoke<Output = any>(name: string, event?: unknown, options?: { patience?: number }): Promise<Output>;
   /** Invokes it asynchronously: the service keeps the event, and tries it again if it fails. */
   event(name: string, event?: unknown): Promise<void>;
+  /** Its clock. */
+  readonly clock: Clock;
+  /** Does this while the function's reservation is 0: its callers get 429. */
+  throttled<Output>(name: string, work: () => Output | Promise<Output>): Promise<Output>;
   /** The counts so far. */
   stats(): Promise<Stats>;
   /** The text of the history; after the stop the whole of it. */

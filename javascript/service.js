@@ -5,6 +5,7 @@ const fs = require("node:fs");
 const os = require("node:os");
 const path = require("node:path");
 const { setTimeout: sleep } = require("node:timers/promises");
+const { Clock } = require("./clock.js");
 const { FunctionError } = require("./function_error.js");
 const { run } = require("./child.js");
 
@@ -41,6 +42,10 @@ class Service {
   // `host` is what serves: its endpointUrl, child and end().
   constructor(host, options, leaveSandbox) {
     Object.assign(this, { endpointUrl: host.endpointUrl, urls: host.urls ?? {} });
+    this.clock = new Clock((method, route) => {
+      this.refuseEnded();
+      return ask(this.endpointUrl, method, route);
+    });
     Object.defineProperty(this, "own", { value: { host, options, leaveSandbox, faults: new Map(), isStopped: false } });
   }
 
@@ -95,6 +100,32 @@ class Service {
       errorType: headers["x-amzn-errortype"], errorMessage: body?.message ?? body?.Message ?? text });
   }
 
+  // Does this while the function's reservation is 0, so that its callers get 429. Returns what this gave.
+  async throttled(name, work) {
+    const function_ = encodeURIComponent(name);
+    const { status, headers, text } = await this.asked("GET", `/2019-09-30/functions/${function_}/concurrency`);
+    if (status !== 200) throw this.refusal(headers, text);
+    const before = JSON.parse(text).ReservedConcurrentExecutions;
+    await this.reserve(function_, 0);
+    try {
+      return await work();
+    } finally {
+      if (!this.hasEnded()) await this.reserve(function_, before);
+    }
+  }
+
+  async reserve(name, count) {
+    const route = `/2017-10-31/functions/${name}/concurrency`;
+    const { status, headers, text } = await (count === undefined ? this.asked("DELETE", route)
+      : this.asked("PUT", route, JSON.stringify({ ReservedConcurrentExecutions: count })));
+    if (status !== 200 && status !== 204) throw this.refusal(headers, text);
+  }
+
+  async asked(method, route, body) {
+    this.refuseEnded();
+    return ask(this.endpointUrl, method, route, body);
+  }
+
   // The counts of the service.
   async stats() {
     return JSON.parse(await this.local("stats"));
@@ -141,7 +172,10 @@ class Service {
   async end() {
     const { host } = this.own;
     try {
-      if (host.child.status === undefined) this.own.history = await this.local("history");
+      if (host.child.status === undefined) {
+        await ask(this.endpointUrl, "POST", "/_local/clock/resume"); // (a stop would wait in a pause)
+        this.own.history = await this.local("history");
+      }
       this.own.isStopped = true;
       const status = await host.end(this);
       if (status !== 0) throw new Error(`the service ended with ${status}: ${host.child.lines.slice(-1)}`);
