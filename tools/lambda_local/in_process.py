@@ -102,6 +102,7 @@ class Runtime(threading.Thread):
         self.function, self.number = function, number  # of its environment
         self.owner, self.memory, self.code = owner, memory, bundled_module("runtime.py")
         self.handler = self.code.with_context(handler)
+        self.context = type("Context", (self.code.Context,), {"clock": staticmethod(self.now)})
         self.environment = self.code.Environment(f"127.0.0.1:{port}")
 
     def run(self) -> None:
@@ -121,11 +122,17 @@ class Runtime(threading.Thread):
         if self.owner.sandbox:
             self.owner.sandbox.begin(request)
 
+    def now(self) -> int:
+        """What the clock reads by which invocations time out: the machine's, if the service does not say it."""
+        try:
+            return self.owner.clock.now()
+        except (OSError, http.client.HTTPException, RuntimeError):
+            return int(1000 * time.time())
+
     def context_of(self, headers: Mapping[str, str]) -> Any:
         """Lambda's context, of this function alone, and the headers."""
-        context = self.code.Context(headers)
+        context = self.context(headers)
         context.function_name, context.memory_limit_in_mb = context.invoked_function_arn.split(":")[6], self.memory
-        context.clock = self.owner.clock.now
         context.log_group_name, context.headers = f"/aws/lambda/{context.function_name}", headers
         return context
 
