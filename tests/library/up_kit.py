@@ -20,6 +20,7 @@ HANDLER = '''import os, sys, time
 def run(event):
     do = event.get("do")
     if do == "hang": time.sleep(600)
+    if do == "long": time.sleep(2)
     if do == "crash": os._exit(7)
     if do == "later": import threading; threading.Timer(0.3, os._exit, [9]).start()
     if do == "fail": return {}["missing"]

@@ -118,7 +118,10 @@ class UpTest(Case):
         up = Up("--debug", "f")
         self.check("a function to debug begins",
                    up.until("waiting for a debugger: Init has no time limit until f is invoked", 10))
+        self.check("its clock is paused, which is said", up.has("f: one environment, and the clock is paused, for the "
+                                                                "debugger: lambda_local clock resume lets it go on"))
         self.check("and serves", isinstance(up.invoke()[0], int))
+        self.check("longer than its timeout", isinstance(up.invoke(do="long")[0], int))
         self.check("nothing is left of it", up.end(), (0, []))
         # As at a breakpoint, for longer than an Init has (10 s) and than others are waited for.
         held = "import time; time.sleep(12)\n"

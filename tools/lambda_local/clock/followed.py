@@ -23,7 +23,7 @@ import time
 from typing import Callable, Iterator, List, Optional, Tuple
 
 from ..service import ask
-from .asked import RESUME, SHOW, NotClock, Reading, reading_of
+from .asked import PAUSE, RESUME, SHOW, NotClock, Reading, reading_of
 
 BETWEEN_ASKS = 0.25  # seconds, while the clock is known to be paused and something waits
 LONGEST_REST = 30.0  # seconds, after which it is asked in any case: the time of day may have been set
@@ -171,10 +171,15 @@ class Clock:
 
     def resume(self) -> None:
         """Lets it go on, as before a stop: in a pause an environment that shuts down would be waited for."""
-        try:
-            ask(self.port, *RESUME, timeout=ASK_SECONDS)
-        except (OSError, http.client.HTTPException):
-            pass  # (it has ended)
+        self._set(RESUME)
+
+    def pause(self) -> None:
+        """Pauses it, as for a debugger; `is_paused` says whether the service has such a clock."""
+        self._set(PAUSE)
+
+    def _set(self, request: Tuple[str, str]) -> None:
+        with contextlib.suppress(OSError, http.client.HTTPException):  # (it has ended)
+            ask(self.port, *request, timeout=ASK_SECONDS)
         self.ask()
 
     # ---- who waits ---------------------------------------------------------------------------------------------------

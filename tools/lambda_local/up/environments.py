@@ -372,7 +372,10 @@ class Environment(threading.Thread):
                 else:
                     self.say(f"restarting in {self.restarts.pause} s: it keeps exiting right after it starts",
                              level="warning")
-                    self.clock.wait(hurry, self.restarts.pause)
+                    if self.function.debug:  # (its clock is paused: it would never be over)
+                        hurry.wait(self.restarts.pause)
+                    else:
+                        self.clock.wait(hurry, self.restarts.pause)
         if self.pause.was_hurried():
             self.restarts.note(False)
 

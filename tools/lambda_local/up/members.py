@@ -24,7 +24,6 @@ from .processes import program_of
 NAME = "lambda_local.up"  # under which lambda_local up registers
 LONGEST = 16 << 20  # bytes of UP.json
 MOST_EXTENSIONS = 9  # the tenth is lambda_local up
-DEBUG_TIMEOUT = 900
 LONGEST_INIT = 900  # seconds
 IDLE_SECONDS = 60  # after which an environment beyond the least number ends
 
@@ -233,7 +232,7 @@ class Function:
             raise Fault(2, f"{self.where}: {several(len(part['ports']), 'port')} for {several(count, 'environment')}: "
                            "leave one of the two out")
         if self.debug:
-            part.update(ports=part["ports"][:1], timeout=DEBUG_TIMEOUT)
+            part.update(ports=part["ports"][:1])
             if part.get("reserved", 0) > 1:
                 part["reserved"] = 1
         part["extensions"] = self.expected

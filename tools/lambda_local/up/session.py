@@ -88,6 +88,8 @@ class Session:
         self.watch = Watch(self.service, log)
         self.clock_file = os.path.join(self.service.folder, "clock")
         self.watch.clock.share(self.clock_file)
+        if any(function.debug for function in self.functions):
+            self.watch.clock.pause()
         self.looks = Looks(self.watch, self.stopping)
         self.printed = {number: Printed() for number in self.watch.life.environments}
         invocations = self.make_invocations()
@@ -162,7 +164,10 @@ class Session:
         number = 0
         for function, part in zip(self.functions, self.service.configuration["functions"]):
             if function.debug:
-                self.say(f"{function.name}: one environment and a timeout of {part['timeout']} s, for the debugger")
+                is_paused = self.watch.clock.is_paused
+                why = ("and the clock is paused, for the debugger: lambda_local clock resume lets it go on" if is_paused
+                       else "and its timeout as it is, since the service's clock cannot be paused")
+                self.say(f"{function.name}: one environment, {why}", level="info" if is_paused else "warning")
             for note in function.notes:
                 self.say(f"{function.name}: {note}", level="warning")
             for port in part["ports"]:
