@@ -24,7 +24,9 @@ MOST_FOLLOWERS = 64
 TURNED_AWAY = {"errorMessage": "64 connections follow the trace, as many as may at once",
                "errorType": "TooManyFollowers"}
 READERS, LARGE = 200, 5 << 20
-SHARE = 320 << 10  # of each reader: 128 KiB of text, its thread, and what memory rounds up
+# In bytes: what 200 readers may hold together, each 128 KiB of text, with its thread and what memory rounds up; and what
+# one that follows may hold beyond its part of that.
+MOST_HELD, OF_FOLLOWER = 64 << 20, 16 << 10
 
 
 def chunks_of(file):
@@ -265,7 +267,8 @@ class TraceFollowed(Case):
                                all(head_of(one).startswith(b"HTTP/1.1 200 ") for one in each))
                     time.sleep(1)
                     held = resident(service.process) - before
-                    self.check(f"readers of {path} hold little", held < count * SHARE,
+                    share = MOST_HELD // READERS + (OF_FOLLOWER if path == FOLLOWED else 0)
+                    self.check(f"readers of {path} hold little", held < count * share,
                                shown=f"{held >> 10} KiB for {count} readers")
                     for connection in each:
                         connection.close()
