@@ -67,6 +67,7 @@ API = {  # further APIs by their names, each with one route or more
     "http": {"authorizer": {**BY_FUNCTION, "simple": True}, "routes": {
         "GET /in/{id}": "f", "GET /policy": {"function": "f", "authorizer": {**BY_FUNCTION, "ttl": 60}},
         "GET /one": {"function": "f", "authorizer": {**BY_FUNCTION, "payload": "1.0"}},
+        "GET /old": {"function": "f", **HTTP1, "authorizer": {**BY_FUNCTION, "payload": "2.0"}},
         "GET /free": {"function": "f", "authorizer": {"function": "auth"}}}},
 }
 
@@ -216,6 +217,8 @@ class Authorizers(Case):
                                                               "authorizationToken", "httpMethod", "resource")],
                    ["1.0", "REQUEST", "arn:aws:execute-api:us-east-1:123456789012:local/$default/GET/one", "yes", "yes",
                     "GET", "/one"])
+        self.check("of an event in format 1.0", ask("http", "/old", Token="yes"),
+                   (200, {"principalId": "ada", **context}))
         before = asked()[0]
         self.check("without a source each request asks", [ask("http", "/free")[0] for _ in range(2)] + [
             asked()[0] - before], [200, 200, 2])
