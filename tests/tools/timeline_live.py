@@ -209,12 +209,12 @@ class TimelineLive(TimelineCase):
             self.check("its last calls stay", "\noutput" in drawn)
             page.service.kill()
             page.service = Service(dict(CONFIGURATION, invokePort=port))
-            drawn = page.until(lambda drawn: "has gone" not in drawn)
-            self.check("another one is shown", "No calls yet." in drawn and "has gone" not in drawn, shown=drawn[:300])
+            drawn = page.until(lambda drawn: "has been unreachable" not in drawn)
+            self.check("another one is shown", "No calls yet." in drawn and "has been unreachable" not in drawn, shown=drawn[:300])
             status, said = page.end()
             lines = said.splitlines()
             self.check("both are said",
-                       status == 0 and len(lines) == 2 and "has gone at" in lines[0] and "answers again" in lines[1],
+                       status == 0 and len(lines) == 2 and "has been unreachable since" in lines[0] and "answers again" in lines[1],
                        shown=said)
 
     def test_faults(self):
