@@ -210,12 +210,12 @@ class TimelineLive(TimelineCase):
             page.service.kill()
             page.service = Service(dict(CONFIGURATION, invokePort=port))
             drawn = page.until(lambda drawn: "has been unreachable" not in drawn)
-            self.check("another one is shown", "No calls yet." in drawn and "has been unreachable" not in drawn, shown=drawn[:300])
+            self.check("another one is shown", "No calls yet." in drawn and "has been unreachable" not in drawn,
+                       shown=drawn[:300])
             status, said = page.end()
             lines = said.splitlines()
-            self.check("both are said",
-                       status == 0 and len(lines) == 2 and "has been unreachable since" in lines[0] and "answers again" in lines[1],
-                       shown=said)
+            is_said = len(lines) == 2 and "has been unreachable since" in lines[0] and "answers again" in lines[1]
+            self.check("both are said", status == 0 and is_said, shown=said)
 
     def test_faults(self):
         port = free_ports(1, ())[0]
