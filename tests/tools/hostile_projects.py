@@ -246,7 +246,8 @@ class Hostile(Case):
         os.makedirs(os.path.join(self.folder, "cdk.out"))
         with mock.patch.object(os, "listdir", side_effect=PermissionError(13, "Permission denied")):
             seen = self.seen(self.folder)
-        self.check("a folder that cannot be read", seen.startswith("refused: ") and "has no project" in seen, shown=seen)
+        self.check("a folder that cannot be read", seen.startswith("refused: ") and "has no project" in seen,
+                   shown=seen)
 
     def test_no_code(self) -> None:
         if not HAS_YAML:
