@@ -364,7 +364,9 @@ function placeOf(fault, file, isES) {
 function notThere(folder, name) {
   const base = path.resolve(ROOT, folder, name);
   const source = [".ts", ".mts", ".cts", ".tsx", ".jsx"].find((each) => fs.existsSync(base + each));
-  const built = source ? `; there is ${path.basename(base)}${source}: compile it first` : "";
+  const words = [path.join(folder, name) + source, "--bundle", "--platform=node", `--outdir=${path.join(folder, "")}`];
+  const command = `npx esbuild ${words.join(" ")}`;
+  const built = source ? `; there is ${path.basename(base)}${source}: compile it first, with ${command}` : "";
   return `${path.dirname(base)} has no ${path.basename(base)}.js, .mjs or .cjs${built}`;
 }
 

@@ -98,6 +98,8 @@ LIES: Dict[str, Tuple[str, str, str, str]] = {
     "runtimes_node": ("errors", "examples/runtime.mjs", "cut(() => fault.name)", "typeof fault"),
     "runtimes_python": ("errors", "examples/runtime.py", '"errorType": error_type[', '"errorKind": error_type['),
     "shop": ("shop", OF_TOOLS + "from_template/services.py", "{sqs}/{account}/{name}", "{sqs}/{name}"),
+    "six_projects": ("each", OF_TOOLS + "from_template/stacks.py",
+                     "return dict(assets_in(", "return dict(() and assets_in("),
     "sources": ("what_fails", OF_TOOLS + "up/queues.py",
                 "return Invoked(None, \"failed\")", "return Invoked([], \"\")"),
     "stopping": ("stops", OF_TOOLS + "service.py", "/_local/stop", "/_local/stops"),

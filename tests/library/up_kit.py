@@ -102,6 +102,7 @@ class Up:
 
     def write(self, name, text):
         path = os.path.join(self.at, name)
+        os.makedirs(os.path.dirname(path), exist_ok=True)
         with open(path, "w") as file:
             file.write(text)
         if text.startswith("#!"):

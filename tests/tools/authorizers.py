@@ -8,7 +8,9 @@ import json
 import re
 import time
 
+from lambda_local.front import authorize as deciders
 from lambda_local.front import settings
+from lambda_local.front.authorizers import Authorizer
 from lambda_local.front.policies import Verdict, WrongPolicy, matches, verdict_of
 from lambda_local.front.tokens import WrongToken, as_texts, claims_of, scopes_of
 from lambda_local.service import Fault
@@ -67,6 +69,7 @@ API = {  # further APIs by their names, each with one route or more
     "http": {"authorizer": {**BY_FUNCTION, "simple": True}, "routes": {
         "GET /in/{id}": "f", "GET /policy": {"function": "f", "authorizer": {**BY_FUNCTION, "ttl": 60}},
         "GET /one": {"function": "f", "authorizer": {**BY_FUNCTION, "payload": "1.0"}},
+        "GET /old": {"function": "f", **HTTP1, "authorizer": {**BY_FUNCTION, "payload": "2.0"}},
         "GET /free": {"function": "f", "authorizer": {"function": "auth"}}}},
 }
 
@@ -216,6 +219,8 @@ class Authorizers(Case):
                                                               "authorizationToken", "httpMethod", "resource")],
                    ["1.0", "REQUEST", "arn:aws:execute-api:us-east-1:123456789012:local/$default/GET/one", "yes", "yes",
                     "GET", "/one"])
+        self.check("of an event in format 1.0", ask("http", "/old", Token="yes"),
+                   (200, {"principalId": "ada", **context}))
         before = asked()[0]
         self.check("without a source each request asks", [ask("http", "/free")[0] for _ in range(2)] + [
             asked()[0] - before], [200, 200, 2])
@@ -250,6 +255,20 @@ class Authorizers(Case):
                 ("a number", said({**allow, "Resource": 1}),
                  "Resource of a statement must be a string, or a list of strings")):
             self.check(f"a policy: {name}", seen, wanted)
+
+    def test_bounds(self):
+        """What is kept of answers."""
+        kept = deciders.Authorizers(None)
+        for number in range(deciders.MOST_KEPT + 2):
+            kept.keep(("x", (str(number),)), Authorizer("function", ttl=60), {"n": number})
+        self.check("so many, without the oldest", (len(kept.kept), [("x", (text,)) in kept.kept for text in "12"]),
+                   (deciders.MOST_KEPT, [False, True]))
+        kept.keep(("x", ("2",)), Authorizer("function", ttl=60), {"n": "again"})
+        kept.keep(("x", ("new",)), Authorizer("function", ttl=60), {})
+        self.check("one that comes again is the newest", (kept.kept[("x", ("2",))].result, ("x", ("3",)) in kept.kept),
+                   ({"n": "again"}, False))
+        kept.keep(("x", ("none",)), Authorizer("function", ttl=0), {})
+        self.check("without a time nothing", ("x", ("none",)) in kept.kept, False)
 
     def test_tokens(self):
         def said(token, wanted={}):

@@ -9,7 +9,7 @@ import json
 import time
 from typing import Any, AsyncIterator, List
 
-from lambda_local.front import sending
+from lambda_local.front import sending, tail
 from lambda_local.front.http import Reply, Request
 from lambda_local.front.wire import Gone
 from lambda_local.http1 import RequestReader
@@ -40,6 +40,8 @@ class Written:
 
 
 class Pieces:
+    is_closed = False
+
     def __init__(self, pieces: List[bytes], seconds: float = 0) -> None:
         self.pieces, self.seconds = pieces, seconds
 
@@ -50,7 +52,7 @@ class Pieces:
             yield piece
 
     async def aclose(self) -> None:
-        pass
+        self.is_closed = True
 
 
 def request_of(method: str, version: str) -> Request:
@@ -145,6 +147,40 @@ class FrontAnswers(Case):
         self.check("a piece that is there", wire.writes, 2)  # (the second has the end of chunks, or nothing)
         wire, _ = written("GET", "HTTP/1.1", Reply(200, [("content-length", "2")], pieces=Pieces([b"ab"], 0.05)))
         self.check("a piece that comes later", wire.writes, 3)
+
+    def test_tail_that_fails(self) -> None:
+        """An answer is its caller's, whatever is known of its log; and it ends with its caller."""
+        class Tails:
+            def is_prepared(self, function: str) -> bool:
+                return False
+
+            def prepare(self, function: str) -> None:
+                raise OSError("gone")
+
+            def result_of(self, function: str, identifier: str) -> str:
+                raise ValueError(identifier)
+
+        class Slow(Tails):
+            def result_of(self, function: str, identifier: str) -> str:
+                time.sleep(0.5)
+                return ""
+        lines: List[str] = []
+        pieces = Pieces([b"x"])
+
+        async def invoke() -> Reply:
+            return Reply(200, [("x-amzn-requestid", "r")], b"1", pieces)
+
+        async def left() -> None:
+            task = asyncio.get_running_loop().create_task(tail.with_tail(Slow(), "f", invoke, lines.append))
+            await asyncio.sleep(0.2)
+            task.cancel()
+            await asyncio.wait([task])
+        reply = asyncio.run(tail.with_tail(Tails(), "f", invoke, lines.append))
+        self.check("the answer", (reply.body, reply.headers), (b"1", [("x-amzn-requestid", "r")]))
+        self.check("both faults are told", [line.split(": ", 1)[1] for line in lines], ["OSError('gone')",
+                                                                                        "ValueError('r')"])
+        asyncio.run(left())
+        self.check("one whose caller goes is closed", pieces.is_closed)
 
     def test_kept(self) -> None:
         """On a kept connection to each kind of port, preludes and methods by turns with an invocation whose answer is

@@ -11,6 +11,7 @@ import shutil
 import tempfile
 import time
 from typing import Dict, Optional, Tuple
+from unittest import mock
 
 from lambda_local.configuration import Members
 from lambda_local.from_template import find
@@ -238,6 +239,14 @@ class Hostile(Case):
             "type": "aws:cloudformation:stack", "properties": {"templateFile": "../stolen.template.json"}}}}))
         seen = self.seen(self.folder)
         self.check("a template that a manifest names", (SECRET in seen, "is outside of" in seen), (False, True),
+                   shown=seen)
+
+    def test_unreadable(self) -> None:
+        """A folder that cannot be listed is none that can be served, in a line."""
+        os.makedirs(os.path.join(self.folder, "cdk.out"))
+        with mock.patch.object(os, "listdir", side_effect=PermissionError(13, "Permission denied")):
+            seen = self.seen(self.folder)
+        self.check("a folder that cannot be read", seen.startswith("refused: ") and "has no project" in seen,
                    shown=seen)
 
     def test_no_code(self) -> None:

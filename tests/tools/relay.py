@@ -11,8 +11,10 @@ import threading
 import time
 from unittest import mock
 
+from lambda_local.front.front import listener_at
 from lambda_local.telemetry import relay
-from lambda_local.telemetry.conversation import Conversation
+from lambda_local.telemetry.conversation import Conversation, Ears
+from lambda_local.telemetry.proxy import Proxy
 from lambda_local.telemetry.quick import Quick
 from lambda_local.telemetry.refusals import Refusals
 from lambda_local.telemetry.relay_process import Marking, Pipe
@@ -234,6 +236,35 @@ class Relay(Case):
             item = left[name].pop(0)
             passing.passes(name, item[0]) if isinstance(item, tuple) else passing.take(name, item)
         return wrong + ([(now, passing.held)] if now[0] != "5" or any(passing.held.values()) else [])
+
+    def test_full(self):
+        """A proxy whose connections all wait for answers closes a newcomer, and says so once."""
+        async def come(count):
+            lines = []
+            service = await asyncio.start_server(lambda *_: None, "127.0.0.1", 0)
+            proxy = Proxy(listener_at(0, "a proxy", "up.json"), service.sockets[0].getsockname()[1], Ears(),
+                          lines.append, most=2)
+            await proxy.start()
+            readers, closed = [], 0
+            for _ in range(count):
+                reader, writer = await asyncio.open_connection(*proxy.address)
+                writer.write(b"GET /2018-06-01/runtime/invocation/next HTTP/1.1\r\nHost: a\r\n\r\n")
+                readers.append((reader, writer))
+                await asyncio.sleep(0.2)
+            for reader, _ in readers:
+                try:
+                    closed += await asyncio.wait_for(reader.read(1), 0.2) == b""
+                except ConnectionError:
+                    closed += 1
+                except asyncio.TimeoutError:
+                    pass
+            await proxy.stop()
+            service.close()
+            return closed, lines
+        closed, lines = asyncio.run(come(4))
+        self.check("two of four are closed, and one line says so", (closed, lines),
+                   (2, ["a connection of its processes is closed at once: 2 others, which are the most, wait for "
+                        "answers"]))
 
     def test_one_that_hangs(self):
         """Whoever has a message for a relay that takes none waits for a while, and no longer."""

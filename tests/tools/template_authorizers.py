@@ -1,13 +1,16 @@
 """Checks which authorizers lambda_local from_template finds in SAM, CloudFormation and Serverless templates, as their
 public references have them, and that what it makes of one runs. The program is LAMBDA_LOCAL_PROGRAM, else
 ./lambda_local."""
+import importlib.util
 import json
 import os
 import tempfile
+import unittest.mock
 import urllib.error
 import urllib.request
 
 from lambda_local.from_template.own_values import merge
+from lambda_local.front.authorizers import authorizer_of
 from tests.library.cases import Case
 from tests.library.events_kit import READY
 from tests.library.template_kit import up_and_said
@@ -27,6 +30,14 @@ def of_type(kind, **properties):
 AUTH = of_type("Serverless::Function", Runtime="provided")
 ARN = {"Fn::GetAtt": ["A", "Arn"]}
 URI = {"Fn::Sub": "arn:aws:apigateway:${AWS::Region}:lambda:path/2015-03-31/functions/${A.Arn}/invocations"}
+
+
+def translated_by_sam(template):
+    """What CloudFormation gets of a template of SAM."""
+    from samtranslator.parser.parser import Parser
+    from samtranslator.translator.translator import Translator
+    with unittest.mock.patch.dict(os.environ, {"AWS_DEFAULT_REGION": "us-east-1"}):
+        return Translator({}, Parser()).translate(json.loads(json.dumps(template)), {})
 
 
 def authorizers_of(made, where=None):
@@ -118,6 +129,38 @@ class TemplateAuthorizers(Case):
                     "identity": ["$request.header.Authorization"]},
             "own": {"function": "A", "identity": ["$request.querystring.k"], "ttl": 7, "payload": "1.0"}}))
         self.check("signatures", "ignores the authorizer of the route GET /iam, AWS_IAM: it takes each" in said)
+
+    def test_open_api(self):
+        """SAM's own translator writes a document of the same authorizers."""
+        if not importlib.util.find_spec("samtranslator"):
+            self.skipTest("aws-sam-translator is not here")
+        listed = {"T": {"FunctionArn": ARN, "Identity": {"Header": "X", "ValidationExpression": "a+",
+                                                         "ReauthorizeEvery": 5}},
+                  "Q": {"FunctionArn": ARN, "FunctionPayloadType": "REQUEST", "Identity": {
+                      "Headers": ["A"], "QueryStrings": ["b"]}},
+                  "P": {"UserPoolArn": "arn", "Identity": {"Header": "Y"}}}
+        of_http = {"J": {"IdentitySource": "$request.header.A", "AuthorizationScopes": ["s"],
+                         "JwtConfiguration": {"issuer": "i", "audience": ["a"]}},
+                   "L": {"FunctionArn": ARN, "AuthorizerPayloadFormatVersion": "2.0", "EnableSimpleResponses": True,
+                         "Identity": {"Headers": ["A"]}}}
+
+        def auth(kind, api, name):
+            return kind, {"RestApiId" if kind == "Api" else "ApiId": {"Ref": api}, **(
+                {"Auth": {"Authorizer": name}} if name else {})}
+        template = {"Resources": {
+            "A": of_type("Serverless::Function", Runtime="python3.12", Handler="a.b", InlineCode="x"),
+            "F": function(plain=auth("Api", "R", None), none=auth("Api", "R", "NONE"), q=auth("Api", "R", "Q"),
+                          p=auth("Api", "R", "P"), j=auth("HttpApi", "V", "J"), l=auth("HttpApi", "V", "L")),
+            "R": of_type("Serverless::Api", StageName="p", Auth={"DefaultAuthorizer": "T", "Authorizers": listed}),
+            "V": of_type("Serverless::HttpApi", Auth={"Authorizers": of_http})}}
+        template["Resources"]["F"]["Properties"].update(Runtime="python3.12", Handler="a.b", InlineCode="x")
+        made, _ = up_and_said(template)
+        translated, said = up_and_said(translated_by_sam(template))
+        seen, wanted = ({name: authorizer_of(given, name in ("plain", "q", "p"))
+                         for name, given in authorizers_of(one)[1].items()} for one in (translated, made))
+        self.check("there are five", sorted(wanted), ["j", "l", "p", "plain", "q"])
+        self.check("those of the document", seen, wanted, shown=said)
+        self.check("nothing is said of them", "uthoriz" in said or "security" in said, False, shown=said)
 
     def test_serverless(self):
         made, said = up_and_said({

@@ -222,7 +222,8 @@ class Templates(Case):
                 "GET /orders/{id}": rest, "ANY /all": rest, "GET /safe": rest, "GET /http": "F"}, shown=said)
             for words in ("ignores GET /far of Rest: its integration HTTP_PROXY is not a function here",
                           "ignores GET /none of Rest: it has no x-amazon-apigateway-integration",
-                          "ignores security of GET /safe of Rest", "ignores DefinitionUri of Gone: ../http.json"):
+                          "ignores security key of GET /safe of Rest, which",
+                          "ignores DefinitionUri of Gone: ../http.json"):
                 self.check(f"OpenAPI: {words}", words in said, shown=said)
 
     def test_serverless_variables(self):

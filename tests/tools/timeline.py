@@ -257,7 +257,8 @@ class Timeline(TimelineCase):
         status, picture, said = run("--svg", script=json.dumps({**one, "functions": functions}) + "\n0 tick\n")
         labels = re.findall(r'<text class="head"[^>]*>([^<]*)', picture)
         self.check("labels by what differs", (status, labels), (
-            0, ["\u2026hello \u00b7 1", "\u2026orders \u00b7 2", "\u2026order\u2026he-night \u00b7 3"]), shown=said or labels)
+            0, ["\u2026hello \u00b7 1", "\u2026orders \u00b7 2", "\u2026order\u2026f-the-night \u00b7 3"]),
+            shown=said or labels)
         titles = re.findall(r"<title>([^<]* \u00b7 environment \d)</title>", picture)
         self.check("titles", titles, [f"{name} \u00b7 environment {n}" for n, name in enumerate(names, 1)])
         self.check("short names stay", short_names(["a-hello", "a-orders"], 20), {

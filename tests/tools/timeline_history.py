@@ -203,7 +203,7 @@ class TimelineHistory(TimelineCase):
                    "Its replay gives the same answers." in page[1] and "differs" not in text[1]
                    and page[2] == text[2] == "")
         page, said = run("--html", script=HISTORY[:-1])[1:]
-        self.check("a line that is cut off is left out", "line 15 has no end, so it may be cut off" in said
+        self.check("a line that is cut off is left out", "line 15 has no line end, so it may be cut off" in said
                    and "line 14: the history ends here, but the replay also answers `6 6 accepted`" in page, shown=said)
 
     def test_hidden(self):

@@ -202,19 +202,20 @@ class TimelineLive(TimelineCase):
             page.call()
             page.until(lambda drawn: "\noutput" in drawn)
             page.service.stop()
-            drawn = page.until(lambda drawn: "has gone" in drawn)
+            drawn = page.until(lambda drawn: "has been unreachable" in drawn)
             self.check("the page says that the service has gone",
-                       "The service has been unreachable since" in drawn and "it was stopped" in drawn, shown=drawn[:300])
+                       "The service has been unreachable since" in drawn and "it was stopped" in drawn,
+                       shown=drawn[:300])
             self.check("its last calls stay", "\noutput" in drawn)
             page.service.kill()
             page.service = Service(dict(CONFIGURATION, invokePort=port))
-            drawn = page.until(lambda drawn: "has gone" not in drawn)
-            self.check("another one is shown", "No calls yet." in drawn and "has gone" not in drawn, shown=drawn[:300])
+            drawn = page.until(lambda drawn: "has been unreachable" not in drawn)
+            self.check("another one is shown", "No calls yet." in drawn and "has been unreachable" not in drawn,
+                       shown=drawn[:300])
             status, said = page.end()
             lines = said.splitlines()
-            self.check("both are said",
-                       status == 0 and len(lines) == 2 and "has gone at" in lines[0] and "answers again" in lines[1],
-                       shown=said)
+            is_said = len(lines) == 2 and "has been unreachable since" in lines[0] and "answers again" in lines[1]
+            self.check("both are said", status == 0 and is_said, shown=said)
 
     def test_faults(self):
         port = free_ports(1, ())[0]
@@ -227,8 +228,10 @@ class TimelineLive(TimelineCase):
             ("no port", ("--live", "http://127.0.0.1"), "write the service's address on this machine"),
             ("a port that is none", ("--live", "http://127.0.0.1:99999"),
              "write the service's address on this machine"),
-            ("an input", ("--live", "http://127.0.0.1:9000", "x.txt"), "--live shows a running service: leave out an input"),
-            ("a form", ("--live", "http://127.0.0.1:9000", "--html"), "--live shows a running service: leave out --html"),
+            ("an input", ("--live", "http://127.0.0.1:9000", "x.txt"),
+             "--live shows a running service: leave out an input"),
+            ("a form", ("--live", "http://127.0.0.1:9000", "--html"),
+             "--live shows a running service: leave out --html"),
             ("a window", ("--live", "http://127.0.0.1:9000", "--to", "+1"),
              "--live shows a running service: leave out --to"),
             ("an output", ("--live", "http://127.0.0.1:9000", "-o", "x.html"),

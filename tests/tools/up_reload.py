@@ -1,6 +1,7 @@
-"""Checks which files --reload watches, that equal paths are walked once, and that a change of UP.json is reported. The
-program is LAMBDA_LOCAL_PROGRAM, else ./lambda_local."""
+"""Checks which files --reload watches, layers and compiled sources among them, that equal paths are walked once, and
+that a change of UP.json is reported. The program is LAMBDA_LOCAL_PROGRAM, else ./lambda_local."""
 import os
+import shutil
 import tempfile
 import threading
 import types
@@ -8,7 +9,7 @@ from unittest import mock
 
 from lambda_local.up import reload
 from tests.library.cases import Case
-from tests.library.up_kit import RUNTIME, Up
+from tests.library.up_kit import RUNTIME, Up, until
 
 # By gitignore(5): the last pattern that matches decides; one with a slash is of its own folder; one that ends with a
 # slash is of folders.
@@ -69,3 +70,28 @@ class UpReload(Case):
             file.write("# changed\n")
         self.check("a change of the code does", up.until("restarting f: app.py changed", 20))
         self.check("nothing is left", up.end(), (0, []))
+
+    def test_layers(self):
+        """A layer that is a folder is watched."""
+        up = Up("--reload", functions=[{"name": "f", "runtime": "python", "handler": "app.run", "layers": ["layer"]}],
+                app="import shared\ndef run(event, context):\n    return shared.NAME\n",
+                files={"layer/python/shared.py": "NAME = 'one'\n"})
+        up.until("[up] ready")
+        self.check("what a layer has", up.invoke("f", 20)[0], "one")
+        up.write("layer/python/shared.py", "NAME = 'another'\n")
+        self.check("a change of a layer", up.until("shared.py changed", 30), shown=up.lines)
+        self.check("the new code answers", until(lambda: up.invoke("f", 20)[0] == "another", 30))
+        up.end()
+
+    def test_typescript(self):
+        """A source that has to be compiled is named, with the command that does so; --reload sees what that writes."""
+        if not shutil.which("node"):
+            return
+        up = Up("--reload", functions=[{"name": "f", "runtime": "node", "handler": "src/ts/app.handler"}],
+                files={"src/ts/app.ts": "export const handler = async (event: object): Promise<string> => 'typed';\n"})
+        wanted = ("/src/ts has no app.js, .mjs or .cjs; there is app.ts: compile it first, with npx esbuild "
+                  "src/ts/app.ts --bundle --platform=node --outdir=src/ts")
+        self.check("the folder, the source and the command", up.until(wanted, 30), shown=up.lines)
+        up.write("src/ts/app.js", "exports.handler = async (event) => 'typed';\n")  # (as esbuild does)
+        self.check("what is compiled is served", until(lambda: up.invoke("f", 20)[0] == "typed", 30), shown=up.lines)
+        up.end()

@@ -175,29 +175,31 @@ class Resources:
             return None
         value = self.scope.evaluate_or_reason(properties.get("AuthorizationScopes")).value
         scopes = [str(one) for one in value] if isinstance(value, list) else []
-        return once(f"{key}, {self.kind}", scopes, self.told, lambda at: self.made_of(
+        return once(f"{key}, {self.kind}", scopes, self.told, lambda at: of_resource(
             Reader(self.listed[str(key)], at, self.is_rest, names, self.scope), scopes))
 
-    def made_of(self, reader: Reader, scopes: List[str]) -> Optional[Members]:
-        given = reader.given
-        given.without_meaning(["Name", "RestApiId", "ApiId", "AuthType", "AuthorizerCredentials", "ProviderARNs",
-                               "AuthorizerCredentialsArn"])
-        kind = given.text("Type") or given.text("AuthorizerType")
-        identity = [part.strip() for text in reader.texts("IdentitySource") for part in text.split(",")]
-        reader.put("identity", identity)
-        if kind in ("TOKEN", "REQUEST"):
-            reader.function(given.raw("AuthorizerUri"))
-            reader.put("type", "TOKEN" if kind == "TOKEN" else None)
-            reader.put("ttl", given.whole("AuthorizerResultTtlInSeconds", 0, authorizers.LONGEST_TTL))
-            reader.put("validation", given.text("IdentityValidationExpression") if kind == "TOKEN" else None)
-            if not self.is_rest:
-                reader.put("payload", given.text("AuthorizerPayloadFormatVersion"))
-                reader.put("simple", reader.flag("EnableSimpleResponses"))
-        else:
-            given.without_meaning(["AuthorizerResultTtlInSeconds", "IdentityValidationExpression"])
-            wanted = given.raw("JwtConfiguration") or {}
-            reader.tokens(token_of(Object(wanted, f"JwtConfiguration of {reader.where}", self.scope, tell)), scopes)
-        return reader.close()
+
+def of_resource(reader: Reader, scopes: List[str]) -> Optional[Members]:
+    """By the properties of AWS::ApiGateway::Authorizer or AWS::ApiGatewayV2::Authorizer."""
+    given = reader.given
+    given.without_meaning(["Name", "RestApiId", "ApiId", "AuthType", "AuthorizerCredentials", "ProviderARNs",
+                           "AuthorizerCredentialsArn"])
+    kind = given.text("Type") or given.text("AuthorizerType")
+    identity = [part.strip() for text in reader.texts("IdentitySource") for part in text.split(",")]
+    reader.put("identity", identity)
+    if kind in ("TOKEN", "REQUEST"):
+        reader.function(given.raw("AuthorizerUri"))
+        reader.put("type", "TOKEN" if kind == "TOKEN" else None)
+        reader.put("ttl", given.whole("AuthorizerResultTtlInSeconds", 0, authorizers.LONGEST_TTL))
+        reader.put("validation", given.text("IdentityValidationExpression") if kind == "TOKEN" else None)
+        if not reader.is_rest:
+            reader.put("payload", given.text("AuthorizerPayloadFormatVersion"))
+            reader.put("simple", reader.flag("EnableSimpleResponses"))
+    else:
+        given.without_meaning(["AuthorizerResultTtlInSeconds", "IdentityValidationExpression"])
+        wanted = given.raw("JwtConfiguration") or {}
+        reader.tokens(token_of(Object(wanted, f"JwtConfiguration of {reader.where}", reader.scope, tell)), scopes)
+    return reader.close()
 
 
 def referenced_in(given: object) -> Optional[str]:

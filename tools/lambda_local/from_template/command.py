@@ -106,8 +106,8 @@ def main() -> int:
         if not source.is_template:
             raise Fault(f"{source.path} is an UP.json already: name a template")
         if options.output and not options.force and not is_own(options.output):
-            raise Fault(f"{options.output} was changed since from_template wrote it: --force overwrites it; values of your own "
-                        "are kept in lambda_local.json beside the template")
+            raise Fault(f"{options.output} was changed since from_template wrote it: --force overwrites it; values of "
+                        "your own are kept in lambda_local.json beside the template")
         up = up_of_source(source, given_of(options), options.values)
     except Fault as fault:
         tell(fault)

@@ -26,8 +26,12 @@ class Source(NamedTuple):
 
 
 def is_assembly(folder: str) -> bool:
-    return os.path.isfile(os.path.join(folder, MANIFEST)) or any(
-        name.endswith(".template.json") for name in os.listdir(folder))
+    """Whether a folder is one of CDK; one that cannot be read is none."""
+    try:
+        names = os.listdir(folder)
+    except OSError:
+        return False
+    return os.path.isfile(os.path.join(folder, MANIFEST)) or any(name.endswith(".template.json") for name in names)
 
 
 def candidates(folder: str) -> Iterator[Source]:

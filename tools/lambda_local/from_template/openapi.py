@@ -8,6 +8,7 @@ from .files import Folder
 from .gateway_resources import function_invoked_by
 from .messages import Fault, excerpt, tell
 from .objects import Object
+from .openapi_security import Security
 from .reader import LONGEST, parse
 from .named import resources_of
 from .routes import FunctionRoute, Of, key_of
@@ -30,8 +31,9 @@ def add_routes(functions: List[Members], scope: Scope, folder: Folder, base: str
         for key, properties in resources_of(kind, scope):
             body = document_of(key, properties, inline, file, scope, folder, base)
             if body is not None:
+                security = Security(key, body, kind in REST, [str(made["name"]) for made in functions], scope)
                 for route in routes_in(body):
-                    add_route(key, kind in REST, *route, functions, scope, known)
+                    add_route(key, kind in REST, *route, functions, scope, known, security)
 
 
 def document_of(key: str, properties: Members, inline: str, file: str, scope: Scope, folder: Folder,
@@ -66,7 +68,7 @@ def routes_in(body: Members) -> Iterator[Tuple[str, str, object]]:
 
 
 def add_route(key: str, is_rest: bool, method: str, path: str, operation: object, functions: List[Members],
-              scope: Scope, known: Known) -> None:
+              scope: Scope, known: Known, security: Security) -> None:
     """Gives a function one route, unless it has it by an event that says the same; one of another integration is told,
     but for a preflight's."""
     where = f"{method.upper()} {path} of {key}"
@@ -86,9 +88,6 @@ def add_route(key: str, is_rest: bool, method: str, path: str, operation: object
         tell(f"{made['name']}: {where} is a proxy integration here, without mapping templates")
         given.without_meaning(["requestTemplates", "requestParameters"])
     given.close()
-    told = sorted(set(map(str, members_of({"": operation}, ""))) & {"security", "x-amazon-apigateway-auth"})
-    if told and members_of({"": operation}, "").get("security") != []:
-        tell(f"ignores {', '.join(told)} of {where}")
     try:
         route = FunctionRoute(key_of(method, path), Of(scope.prefix + key, is_rest, payload))
     except WrongRoute as fault:
@@ -96,4 +95,4 @@ def add_route(key: str, is_rest: bool, method: str, path: str, operation: object
         return
     if (name := (str(made["name"]), route.key, route.of.key)) not in known:
         known.add(name)
-        made.setdefault("routes", []).append(route)
+        made.setdefault("routes", []).append(route._replace(authorizer=security.of_operation(operation, where)))

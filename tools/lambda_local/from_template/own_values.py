@@ -67,7 +67,8 @@ def merge(made: Members, path: str, keys: Dict[str, str]) -> Members:
                 f", did you mean {near[0]}?" if near else f"; there are {', '.join(by_name)}"))
         by_name[name] = merged_function(by_name[name], {**member, "name": name}, folder)
     functions: List[Members] = list(by_name.values())
-    if AUTHORIZER in (own.get("api") or {}):
+    api = own.get("api")
+    if isinstance(api, dict) and AUTHORIZER in api:  # (what is wrong with another value is said of the whole)
         made = {**made, "routes": {route: without_authorizer(given) for route, given in made.get("routes", {}).items()}}
     rest = {name: value for name, value in own.items() if name != "functions"}
     return {**merged({name: value for name, value in made.items() if name != "functions"}, rest),

@@ -37,7 +37,7 @@ class InvokePort:
     def __init__(self, client: Client, settings: Settings, configuration: Members, drain_seconds: float, log: Log,
                  places: Places, clock: Clock, tails: Optional[Tails] = None) -> None:
         self.tails, self.followers, self.clock = tails, Followers(places), clock
-        self.client, self.drain_seconds = client, drain_seconds
+        self.client, self.drain_seconds, self.log = client, drain_seconds, log
         self.identifiers, self.hosts = Identifiers(configuration), further_hosts()
         self.known: Set[str] = set()
         self.trouble: Optional[Trouble] = None  # if somebody can make it
@@ -64,7 +64,7 @@ class InvokePort:
                 has_root = function not in self.rootless or request.method != "POST"
                 ask = functools.partial(relay, self.client, request, self.budget, has_root)
                 if self.tails and function is not None and first(request.headers, LOG_TYPE) == "Tail":
-                    return await with_tail(self.tails, function, ask)
+                    return await with_tail(self.tails, function, ask, self.tell)
                 return await ask()
             reply = await self.unknown(request)
             if reply:
@@ -116,6 +116,9 @@ class InvokePort:
     @staticmethod
     def refusal(status: int, text: str) -> Reply:
         return of_service(status, text)
+
+    def tell(self, text: str) -> None:
+        self.log("up", text, level="error", kind="http")
 
     async def unknown(self, request: Request) -> Optional[Reply]:
         """What the service answers to this name and qualifier; none if it knows the function."""

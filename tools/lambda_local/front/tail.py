@@ -8,6 +8,7 @@ LOG_TYPE, LOG_RESULT = "x-amz-log-type", "X-Amz-Log-Result"
 LONGEST_SECONDS = 5.0  # until it is known
 PREPARE_SECONDS = 15.0  # until what a function prints is divided
 T = TypeVar("T")
+Tell = Callable[[str], None]
 
 
 class Tails(Protocol):
@@ -23,22 +24,31 @@ class Tails(Protocol):
         """Sees to that, before it is invoked."""
 
 
-async def with_tail(tails: Tails, function: str, invoke: Callable[[], Awaitable[Reply]]) -> Reply:
+async def with_tail(tails: Tails, function: str, invoke: Callable[[], Awaitable[Reply]], tell: Tell) -> Reply:
     """The answer of `invoke` with the end of the log; without it if that is not known in time."""
     if not tails.is_prepared(function):
-        await result_in_time(lambda: tails.prepare(function), PREPARE_SECONDS)
+        await result_in_time(lambda: tails.prepare(function), tell, PREPARE_SECONDS)
     reply = await invoke()
     identifier = first(reply.headers, "x-amzn-requestid")
     if reply.status != 200 or identifier is None:
         return reply
     name = identifier
-    result = await result_in_time(lambda: tails.result_of(function, name))
+    try:
+        result = await result_in_time(lambda: tails.result_of(function, name), tell)
+    except BaseException:  # (its caller has gone)
+        if reply.pieces is not None:
+            await reply.pieces.aclose()
+        raise
     return reply if result is None else reply._replace(headers=[*reply.headers, (LOG_RESULT, result)])
 
 
-async def result_in_time(look: Callable[[], T], seconds: float = LONGEST_SECONDS) -> Optional[T]:
-    """Returns what a function that may wait gives; none if it takes long."""
+async def result_in_time(look: Callable[[], T], tell: Tell, seconds: float = LONGEST_SECONDS) -> Optional[T]:
+    """Returns what a function that may wait gives; none if it takes long, or has a fault, which is told: the answer of
+    an invocation does not depend on its log."""
     try:
         return await asyncio.wait_for(asyncio.get_running_loop().run_in_executor(None, look), seconds)
     except asyncio.TimeoutError:
+        return None
+    except Exception as fault:
+        tell(f"the log of an invocation cannot be had: {fault!r}"[:300])
         return None

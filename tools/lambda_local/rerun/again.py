@@ -2,16 +2,18 @@
 import contextlib
 import http.client
 import time
-from typing import Callable, Dict, List, Optional, Sequence, Tuple
+from collections import deque
+from typing import Callable, Deque, Dict, List, Optional, Sequence, Set, Tuple
 
 from ..outgoing import several
 from ..service import Fault, Service
 from .compare import Pointer
-from .inner import Made
 from .play import Sent, play
 from .record import Identified, Invocation, Recording, parsed
 from .report import Result, judged, of_made, of_new
 
+Key = Tuple[str, Optional[bytes], Optional[int]]  # a function, an event, and the ticket of a maker or one of these:
+ANY, UNKNOWN = -1, -2
 SETTLES = 5.0  # seconds for what functions have made and did not wait for
 PAUSE = 0.05
 
@@ -76,23 +78,39 @@ def matched(then: Sequence[Invocation], now: List[Invocation],
     leaves `now`."""
     found: Dict[int, Invocation] = {}
     for knows_maker, has_event in ((True, True), (True, False), (False, True), (False, False)):
+        lanes: Dict[Key, Deque[Invocation]] = {}
+        for one in now:
+            for key in keys_of(one, knows_maker, has_event):
+                lanes.setdefault(key, deque()).append(one)
+        taken: Set[int] = set()
         for each in then:
-            if each.ticket in found:
-                continue
-            for one in now:
-                if (one.function == each.function and (one.payload == each.payload or not has_event)
-                        and is_of_maker(each.made, one.made, makers, knows_maker)):
-                    found[each.ticket] = one
-                    now.remove(one)
-                    break
+            lane = None if each.ticket in found else lanes.get(key_wanted(each, makers, knows_maker, has_event))
+            while lane and lane[0].ticket in taken:
+                lane.popleft()
+            if lane:
+                found[each.ticket] = one = lane.popleft()
+                taken.add(one.ticket)
+        now[:] = [one for one in now if one.ticket not in taken]
     return [(each, found.get(each.ticket)) for each in then]
 
 
-def is_of_maker(then: Optional[Made], now: Optional[Made], makers: Dict[int, int], knows_maker: bool) -> bool:
-    """Whether the same invocation has made both; or, if its maker need not be known, whether it may have."""
-    if then is None or then.by is None or now is None or now.by is None:
-        return not knows_maker
-    return knows_maker and makers.get(then.by) == now.by
+def maker_of(one: Invocation) -> Optional[int]:
+    return None if one.made is None else one.made.by
+
+
+def keys_of(one: Invocation, knows_maker: bool, has_event: bool) -> List[Key]:
+    """By what an invocation of now may be found: its maker, or that it is one, and that its maker is not known."""
+    function, event, maker = one.function, one.payload if has_event else None, maker_of(one)
+    if knows_maker:
+        return [] if maker is None else [(function, event, maker)]
+    return [(function, event, ANY), *([(function, event, UNKNOWN)] if maker is None else [])]
+
+
+def key_wanted(each: Invocation, makers: Dict[int, int], knows_maker: bool, has_event: bool) -> Key:
+    """By what a recorded one is looked for: the same maker; or any if its own is not known, else one not known."""
+    maker = maker_of(each)
+    by = makers.get(-1 if maker is None else maker) if knows_maker else ANY if maker is None else UNKNOWN
+    return each.function, each.payload if has_event else None, by
 
 
 def notes_of(unknown: Sequence[Invocation]) -> List[str]:

@@ -207,7 +207,7 @@ class Proxy:
         self.newcomers = Newcomers(listener, self._welcome, self._tell_shortage, AT_ONCE)
         self.pairs: Dict[Pair, None] = {}  # in the order in which they came
         self.beginning: Set["asyncio.Task[None]"] = set()
-        self.has_told = False
+        self.told: Set[str] = set()
 
     @property
     def address(self) -> Tuple[str, int]:
@@ -234,6 +234,8 @@ class Proxy:
             idle = next((pair for pair in self.pairs if pair.is_idle), None)
             if idle is None:
                 peer.close()
+                self._tell_once(f"a connection of its processes is closed at once: {self.most} others, which are the "
+                                "most, wait for answers")
                 return
             self.leave(idle)
             idle.abort()
@@ -244,9 +246,12 @@ class Proxy:
         task.add_done_callback(self.beginning.discard)
 
     def _tell_shortage(self) -> None:
-        if not self.has_told:
-            self.has_told = True
-            self.tell("no file descriptor is left for another connection of its processes (ulimit -n): they wait")
+        self._tell_once("no file descriptor is left for another connection of its processes (ulimit -n): they wait")
+
+    def _tell_once(self, line: str) -> None:
+        if line not in self.told:
+            self.told.add(line)
+            self.tell(line)
 
     def leave(self, pair: Pair) -> None:
         self.pairs.pop(pair, None)

@@ -104,7 +104,7 @@ class Live:
         if self.gone is None and not self.ended.is_set():
             with self.lock:
                 self.gone, self.version = f"{datetime.now(timezone.utc):%H:%M:%SZ}: {why}", self.version + 1
-            say(f"the service {self.url} has gone at {self.gone}")
+            say(f"the service {self.url} has been unreachable since {self.gone}")
 
     def drawn(self) -> Tuple[int, str]:
         """The version, and the page's part that belongs to it as HTML."""

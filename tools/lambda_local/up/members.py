@@ -217,16 +217,14 @@ class Function:
             return
         if not self.command:
             raise Fault(2, f"{self.where}: environments: you start its runtimes yourself: write a number")
-        most = given.get("max", max(1, given.get("min", 1)))
+        most = room.most_of(given)
         self.least, self.idle = min(given.get("min", 1), len(self.part["ports"])), given.get("idle", IDLE_SECONDS)
         if given.get("min", 1) > most:
             raise Fault(2, f"{self.where}: environments: min is {given['min']}, which is more than max, {most}")
 
     def _part(self, member: Members) -> Members:
         part = {name: value for name, value in member.items() if name in OF_FUNCTION}
-        count = member.get("environments", 1)
-        if isinstance(count, dict):
-            count = count.get("max", max(1, count.get("min", 1)))
+        count = room.most_of(member.get("environments", 1))
         part.setdefault("ports", [0] * count)
         if "environments" in member and count != len(part["ports"]):
             raise Fault(2, f"{self.where}: {several(len(part['ports']), 'port')} for {several(count, 'environment')}: "

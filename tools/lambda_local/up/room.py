@@ -1,5 +1,5 @@
 """How many environments each function has that does not say it, within the 256 of a service."""
-from typing import Dict, List, Tuple
+from typing import Dict, List, Tuple, Union
 
 from ..configuration import Members
 
@@ -7,12 +7,16 @@ MOST_IN_ALL = 256
 MOST_BY_DEFAULT = 10  # of a function: one that is started, and those that parallel callers need
 
 
+def most_of(given: Union[int, Members]) -> int:
+    """The most environments that a function's member `environments` allows."""
+    return int(given.get("max", max(1, given.get("min", 1)))) if isinstance(given, dict) else int(given)
+
+
 def count_of(member: Members) -> int:
     """The most environments of a function that says how many."""
     if "ports" in member:
         return len(member["ports"])
-    given = member.get("environments", 1)
-    return int(given.get("max", max(1, given.get("min", 1)))) if isinstance(given, dict) else int(given)
+    return most_of(member.get("environments", 1))
 
 
 def is_open(member: Members) -> bool:
