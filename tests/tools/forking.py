@@ -126,7 +126,8 @@ class Forking(Case):
         up = up_of()
         up.until("ready")
         again(up)
-        for do, said in (("crash", "exit status 7"), ("exit", "exit status 5"), ("signal", "signal: segmentation fault"),
+        for do, said in (("crash", "exit status 7"), ("exit", "exit status 5"),
+                         ("signal", "signal: segmentation fault"),
                          ("later", "exit status 9")):
             up.invoke(patience=20, do=do)
             self.check(f"{do}: its end is told", up.until(said, 20))

@@ -24,8 +24,8 @@ MOST_FOLLOWERS = 64
 TURNED_AWAY = {"errorMessage": "64 connections follow the trace, as many as may at once",
                "errorType": "TooManyFollowers"}
 READERS, LARGE = 200, 5 << 20
-# In bytes: what 200 readers may hold together, each 128 KiB of text, with its thread and what memory rounds up; and what
-# one that follows may hold beyond its part of that.
+# In bytes: what 200 readers may hold together, each 128 KiB of text, with its thread and what memory rounds up; and
+# what one that follows may hold beyond its part of that.
 MOST_HELD, OF_FOLLOWER = 64 << 20, 16 << 10
 
 
