@@ -53,6 +53,9 @@ class JavaScript(Case):
     def test_service(self) -> None:
         self.run_tests("tests/javascript/service.test.mjs")
 
+    def test_clock(self) -> None:
+        self.run_tests("tests/javascript/clock.test.mjs")
+
     def test_sandbox(self) -> None:
         self.run_tests("tests/javascript/sandbox.test.mjs")
 
