@@ -140,7 +140,7 @@ class Invoke(Case):
             self.check("--tail prints the log on standard error", invoke("f", "--tail", "--endpoint", endpoint),
                        (0, '{"ok": true}\n', "START ..\nprint\u00e9d\nEND ..\n"))
             self.check("--event does not wait for a result", invoke("f", "7", "--event", "--endpoint", endpoint),
-                       (0, "", "invoke: f: the event is taken: an-identifier\n"))
+                       (0, "", "invoke: f: event accepted: an-identifier\n"))
             self.check("what was asked", AsDocumented.seen, [
                 ("/2015-03-31/functions/f/invocations", None, "Tail", b"{}"),
                 ("/2015-03-31/functions/f/invocations", "Event", None, b"7")])
@@ -156,7 +156,7 @@ class Invoke(Case):
                    (status, left, json.loads(up.output or "0")),
                    (0, [], ["f", "index.handler", "hello"]))
         up = Up(command=["--", *INVOKE, "f", "--event"], whole={"asynchronous": True})
-        self.check("an event is taken", (up.end(None)[0], up.has("the event is taken: ")), (0, True))
+        self.check("an event is taken", (up.end(None)[0], up.has("event accepted: ")), (0, True))
         up = Up(command=["--", os.path.join(ROOT, "examples", "invoke.sh"), "f", '{"do":"name"}'])
         self.check("examples/invoke.sh is led there too", (up.end(None)[0], up.output.split("\n")[-1]),
                    (0, '["f", "index.handler", "hello"]'))

@@ -268,7 +268,7 @@ class Launcher(Case):
             self.check("and one too many", (status, "has `99 99 done`, but the replay ends before it" in said),
                        (1, True))
             for name, text, word in (("a script without answers", text_of(ROOT, "examples", "first_call.txt"),
-                                      "no answers to compare with"),
+                                      "no answers to compare"),
                                      ("another text", "hello\n", "line 1 must be `form 2`"),
                                      ("nothing", "", "line 1 must be `form 2`"),
                                      ("a call that is none", history + "5000 nothing\n",

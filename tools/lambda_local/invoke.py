@@ -9,8 +9,8 @@ The service is that of AWS_ENDPOINT_URL_LAMBDA, which `lambda_local up` prints a
 NAME is the name of the function or its ARN. What the function returns, or its error, goes to standard output; all else
 to standard error.
 
-Exit statuses: 0, the function has returned, or its event is taken; 1, it has failed; 2, a fault in the arguments; 3,
-the service has refused, for example since no environment is free; 4, the service cannot be reached."""
+Exit statuses: 0, the function has returned, or its event was accepted; 1, it has failed; 2, a fault in the arguments;
+3, the service has refused, for example since no environment is free; 4, the service cannot be reached."""
 import argparse
 import base64
 import binascii
@@ -174,7 +174,7 @@ def tell(options: argparse.Namespace, answer: Answer) -> int:
     if options.tail and status == 200:
         show_log(headers)
     if options.event and status == 202:
-        say(f"{options.name}: the event is taken: {headers.get('x-amzn-RequestId', 'it has no identifier')}")
+        say(f"{options.name}: event accepted: {headers.get('x-amzn-RequestId', 'it has no identifier')}")
         return 0
     if status != 200:
         say(refusal(options.name, status, headers, body))

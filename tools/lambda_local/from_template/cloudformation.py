@@ -5,7 +5,8 @@ from typing import Dict, List, Optional, Set, Tuple
 from ..configuration import Members
 from .messages import LineGroups, excerpt, tell
 from .services import KINDS
-from .values import NO_VALUE, Scope, Unknown, members_of, type_of
+from .shared import Unknown
+from .values import NO_VALUE, Scope, members_of, type_of
 
 FUNCTION, SAM_FUNCTION = "AWS::Lambda::Function", "AWS::Serverless::Function"
 ALIAS, VERSION = "AWS::Lambda::Alias", "AWS::Lambda::Version"

@@ -4,7 +4,8 @@ from typing import Callable, Optional
 from ..configuration import Members
 from ..front import settings
 from .messages import excerpt
-from .values import NO_VALUE, Scope, Unknown
+from .shared import Unknown
+from .values import NO_VALUE, Scope
 
 Tell = Callable[[str], None]  # takes a line on what is left out
 ANY_SITE: Members = {"allowOrigins": ["*"], "allowHeaders": ["*"], "allowMethods": ["*"]}

@@ -13,7 +13,8 @@ from .layers import layers_of
 from .messages import VALUES, LineGroups, excerpt, tell
 from .objects import Object
 from .services import PAGE, ids_in
-from .values import NO_VALUE, Scope, Unknown, is_scalar, members_of, text_of
+from .shared import Unknown
+from .values import NO_VALUE, Scope, is_scalar, members_of, text_of
 
 READ = {"FunctionName", "Handler", "Timeout", "ReservedConcurrentExecutions", "Environment", "Runtime", "CodeUri",
         "Code", "InlineCode", "MemorySize", "PackageType", "ImageUri", "ImageConfig", "Layers", "AutoPublishAlias",

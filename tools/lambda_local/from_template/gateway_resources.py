@@ -11,7 +11,8 @@ from .objects import Object
 from .named import function_of, resources_of
 from .routes import FunctionRoute, Of, check_key, key_of
 from .messages import excerpt, tell
-from .values import Scope, Unknown, members_of
+from .shared import Unknown
+from .values import Scope, members_of
 
 REST, HTTP = "AWS::ApiGateway::", "AWS::ApiGatewayV2::"
 # What a method or a route has that has no meaning here, or is read elsewhere

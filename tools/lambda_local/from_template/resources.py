@@ -8,7 +8,8 @@ from .cloudformation import merged
 from .named import function_of, resources_of
 from .routes import IMPLICIT, IMPLICIT_REST
 from .messages import excerpt, tell
-from .values import Scope, Unknown, members_of
+from .shared import Unknown
+from .values import Scope, members_of
 
 URL, HTTP_API, REST_API = "AWS::Lambda::Url", "AWS::Serverless::HttpApi", "AWS::Serverless::Api"
 

@@ -9,7 +9,8 @@ from .messages import LineGroups, excerpt, tell
 from .objects import Object
 from .routes import OF_SERVERLESS, REST_OF_SERVERLESS
 from .serverless_scope import ServerlessScope
-from .values import Unknown, members_of
+from .shared import Unknown
+from .values import members_of
 
 __all__ = ["ServerlessScope", "apis_of", "functions_in"]
 

@@ -11,7 +11,8 @@ from .files import Folder
 from .given import Given, of_env_file
 from .messages import Fault, excerpt, tell
 from .reader import LONGEST, parse
-from .values import ACCOUNT, REGION, Scope, Unknown, is_scalar, members_of, text_of
+from .shared import Unknown
+from .values import ACCOUNT, REGION, Scope, is_scalar, members_of, text_of
 
 INNERMOST = re.compile(r"\$\{([^${}]*)\}")
 WHOLE = re.compile(r"\s*\$\{([^${}]*)\}\s*")  # a text that is a single variable

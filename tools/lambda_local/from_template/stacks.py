@@ -10,7 +10,8 @@ from .find import MANIFEST
 from .given import Given, check_names
 from .messages import Fault, excerpt, tell
 from .reader import LONGEST, parse, read
-from .values import Scope, Shared, members_of, type_of
+from .shared import Shared
+from .values import Scope, members_of, type_of
 
 MOST_STACKS, DEEPEST = 200, 10
 NESTED = {"AWS::Serverless::Application": "Location", "AWS::CloudFormation::Stack": "TemplateURL"}

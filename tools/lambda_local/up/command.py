@@ -36,7 +36,7 @@ over it. UP.json is a service's configuration (docs/formats.md) in which each fu
 At the top, "asynchronous": false refuses invocations of the types Event and DryRun, and "routes" is an HTTP or REST
 API (docs/events.md).
 `account` and `region` may be absent; so may ports and `invokePort`: then free ones are used. A function without a
-runtime or command is yours to start, at the address that is printed. docs/up.md tells what happens when.
+runtime or command waits for one that you start, at the address that is printed. docs/up.md tells what happens when.
 
 Its own lines and those of the functions go to standard error. Exit statuses: the command's, else the service's
 (docs/formats.md); 2 for a fault in the arguments or in UP.json; 4 if something cannot be started; 5 if an environment
