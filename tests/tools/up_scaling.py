@@ -24,10 +24,10 @@ handler() {
 '''
 
 
-def scaled(environments, timeout=60, **members):
+def scaled(environments, timeout=60, environ=None, **members):
     function = {"name": "f", "command": [RUNTIME], "handler": "app.handler", "timeout": timeout,
                 "environments": environments, **members}
-    return Up(functions=[function], files={"app.sh": APP})
+    return Up(functions=[function], files={"app.sh": APP}, environ=environ)
 
 
 def settle(up):
@@ -86,7 +86,8 @@ class UpScaling(Case):
         self.check("nothing is left of them", up.end(), (0, []))
 
     def test_one_after_the_other(self):
-        up = scaled({"min": 1, "max": 6})
+        # (a shell starts a process to ask again, which on a busy machine takes more than the usual patience)
+        up = scaled({"min": 1, "max": 6}, environ={**os.environ, "LAMBDA_LOCAL_PATIENCE_MS": "2000"})
         up.until("[up] ready", 60)
         seen = [up.invoke(patience=0)[0] for _ in range(100)]
         self.check("a caller that invokes again and again stays with one process", len(processes(seen)), 1)
