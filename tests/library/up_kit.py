@@ -20,12 +20,12 @@ HANDLER = '''import os, sys, time
 def run(event):
     do = event.get("do")
     if do == "hang": time.sleep(600)
-    if do == "long": time.sleep(2)
     if do == "crash": os._exit(7)
     if do == "later": import threading; threading.Timer(0.3, os._exit, [9]).start()
     if do == "fail": return {}["missing"]
     if do == "name": return [os.environ[name] for name in ("AWS_LAMBDA_FUNCTION_NAME", "_HANDLER", "GREETING")]
     if do == "variables": return dict(os.environ)
+    if do == "long": time.sleep(2)
     return os.getpid()
 '''
 # (what is broken ends at once, also on a machine where Python takes a second to start)
