@@ -4,7 +4,6 @@ SQS's API, which boto3 asks; how long messages are invisible, and where they go 
 import base64
 import http.client
 import json
-import os
 import sys
 import threading
 import time
@@ -13,8 +12,8 @@ from urllib.parse import urlsplit
 
 from ..clock.followed import Clock
 from ..json_reader import NotJson, read_json
+from ..other_server import ANSWER_SECONDS, NoClient, client_of, one_line
 from ..outgoing import several
-from ..reports import shorten
 from ..service import ask
 from .log import Log
 from .sources import MOST_AT_ONCE, Queue
@@ -25,29 +24,6 @@ MOST_BYTES = 4 << 20  # of a batch's messages; an event has at most 6 MiB
 FIRST_PAUSE, LONGEST_PAUSE = 1.0, 30.0  # seconds, after a fault of the queue; each further one doubles it
 FIRST_RETRY, LONGEST_RETRY, MOST_THROTTLES = 0.05, 2.0, 30  # seconds; after that many throttles a batch is given back
 INVOKE_SECONDS = 1000  # longer than any invocation and its Init
-
-
-class NoClient(Exception):
-    """boto3 is not here."""
-
-
-def client_of(queue: Queue, region: str, keeps_credentials: bool) -> Any:
-    """A client of this queue's server. Without the user's credentials it reads no configuration of theirs, and goes
-    past their proxies."""
-    try:
-        import botocore.session  # type: ignore  # (what boto3 is made of)
-        from botocore.config import Config  # type: ignore
-    except ImportError:
-        raise NoClient from None
-    settings: Dict[str, Any] = {"connect_timeout": 2, "read_timeout": POLL_SECONDS + 10, "retries": {"max_attempts": 0}}
-    if keeps_credentials:
-        return botocore.session.Session().create_client("sqs", region_name=region, endpoint_url=queue.endpoint,
-                                                        config=Config(**settings))
-    own: Dict[str, Any] = {"profile": (None, [], None, None), "config_file": (None, None, os.devnull, None),
-                           "credentials_file": (None, None, os.devnull, None)}
-    return botocore.session.Session(session_vars=own).create_client(
-        "sqs", region_name=region, endpoint_url=queue.endpoint, aws_access_key_id="local",
-        aws_secret_access_key="local", config=Config(proxies={}, **settings))
 
 
 # ---- events ----------------------------------------------------------------------------------------------------------
@@ -128,7 +104,8 @@ class Poller(threading.Thread):
 
     def run(self) -> None:
         try:
-            self.client = client_of(self.queue, self.region, self.keeps_credentials)
+            self.client = client_of("sqs", self.queue.endpoint, self.region, self.keeps_credentials,
+                                    POLL_SECONDS + ANSWER_SECONDS)
         except NoClient:
             return self.say(f"it is not polled, since {sys.executable} has no boto3: pip install boto3", "error")
         except Exception as fault:
@@ -284,10 +261,6 @@ def parts_of(messages: List[Dict[str, Any]]) -> Iterator[List[Dict[str, Any]]]:
     """As many as a queue deletes at once."""
     for begin in range(0, len(messages), MOST_AT_ONCE):
         yield messages[begin:begin + MOST_AT_ONCE]
-
-
-def one_line(fault: Exception) -> str:
-    return shorten(" ".join(f"{type(fault).__name__}: {fault}".split()))
 
 
 def pollers_of(queues: Dict[str, Queue], service: Any, clock: Clock, keeps_credentials: bool,

@@ -1,0 +1,113 @@
+"""Another server of AWS's APIs, such as moto's: clients of it, and queues and topics of it as destinations. boto3 (its
+botocore) makes the requests, if it is installed.
+
+No request goes to AWS itself: `refuse_aws` looks at each address before a client is made, and a client that has no
+credentials of the user's reads no profile, no configuration and no proxy of theirs."""
+import os
+import re
+import threading
+from typing import Any, Dict, Optional
+from urllib.parse import urlsplit
+
+from .aws_hosts import is_of_aws
+from .reports import shorten
+
+CONNECT_SECONDS = 2
+ANSWER_SECONDS = 10.0  # for an answer that a server does not hold back on purpose
+ARN = re.compile(r"arn:[a-z-]{1,32}:(sqs|sns):([a-z0-9-]{1,64}):(\d{12}):([A-Za-z0-9_.-]{1,256})")
+EXAMPLE = "arn:aws:sqs:us-east-1:123456789012:failed"
+
+
+class NoClient(Exception):
+    """boto3 is not here."""
+
+
+def client_of(service: str, endpoint: str, region: str, keeps_credentials: bool,
+              answer_seconds: float = ANSWER_SECONDS) -> Any:
+    """A client of this server's API of a service, such as "sqs", "kinesis" or "dynamodbstreams". It sends no request
+    twice. Several threads may use it."""
+    try:
+        import botocore.session  # type: ignore  # (what boto3 is made of)
+        from botocore.config import Config  # type: ignore
+    except ImportError:
+        raise NoClient from None
+    settings: Dict[str, Any] = {"connect_timeout": CONNECT_SECONDS, "read_timeout": answer_seconds,
+                                "retries": {"max_attempts": 0}, "max_pool_connections": 16}
+    if keeps_credentials:
+        return botocore.session.Session().create_client(service, region_name=region, endpoint_url=endpoint,
+                                                        config=Config(**settings))
+    own: Dict[str, Any] = {"profile": (None, [], None, None), "config_file": (None, None, os.devnull, None),
+                           "credentials_file": (None, None, os.devnull, None)}
+    return botocore.session.Session(session_vars=own).create_client(
+        service, region_name=region, endpoint_url=endpoint, aws_access_key_id="local",
+        aws_secret_access_key="local", config=Config(proxies={}, **settings))
+
+
+def one_line(fault: Exception) -> str:
+    return shorten(" ".join(f"{type(fault).__name__}: {fault}".split()))
+
+
+def code_of(fault: Exception) -> str:
+    """What AWS calls a fault that its server has answered, such as `ExpiredIteratorException`; else nothing."""
+    response = getattr(fault, "response", None)
+    error = response.get("Error") if isinstance(response, dict) else None
+    return str(error.get("Code", "")) if isinstance(error, dict) else ""
+
+
+def host_of(url: str) -> str:
+    try:
+        return urlsplit(url).hostname or ""
+    except ValueError:
+        return ""
+
+
+def is_endpoint(url: str) -> bool:
+    """Whether this is the address of a server, `http://HOST:PORT`, without a path."""
+    try:
+        parts = urlsplit(url)
+        return bool(parts.scheme in ("http", "https") and parts.hostname and parts.path in ("", "/")
+                    and not (parts.query or parts.fragment or parts.username or parts.password)
+                    and re.fullmatch("[!-~]{1,1024}", url) and (parts.port is None or parts.port > 0))
+    except ValueError:
+        return False
+
+
+def is_refused(url: str, keeps_credentials: bool) -> bool:
+    """Whether a request to this address would go to AWS itself, which nobody has asked for."""
+    return not keeps_credentials and is_of_aws(host_of(url))
+
+
+class Destination:
+    """A queue or a topic of a server, by its ARN, to which texts are sent (a function's `onFailure`). Any thread may
+    send; a client is made with the first text."""
+
+    def __init__(self, arn: str, endpoint: str, keeps_credentials: bool) -> None:
+        found = ARN.fullmatch(arn)
+        if found is None:
+            raise ValueError(f"{arn} is not the ARN of an SQS queue or an SNS topic")
+        self.arn, self.endpoint, self.keeps_credentials = arn, endpoint, keeps_credentials
+        self.service, self.region, self.account, self.name = found[1], found[2], found[3], found[4]
+        self._lock = threading.Lock()
+        self._client: Any = None
+        self._url: Optional[str] = None
+
+    @property
+    def client(self) -> Any:
+        with self._lock:
+            if self._client is None:
+                self._client = client_of(self.service, self.endpoint, self.region, self.keeps_credentials)
+            return self._client
+
+    def send(self, text: str) -> None:
+        """Sends it once. Raises NoClient, or whatever the client raises: `one_line` has the words."""
+        if self.service == "sns":
+            self.client.publish(TopicArn=self.arn, Message=text)
+        else:
+            self.client.send_message(QueueUrl=self.url(), MessageBody=text)
+
+    def url(self) -> str:
+        """The queue's address, by its server."""
+        if self._url is None:
+            self._url = str(self.client.get_queue_url(QueueName=self.name,
+                                                      QueueOwnerAWSAccountId=self.account)["QueueUrl"])
+        return self._url
