@@ -46,7 +46,7 @@ export interface File {
 }
 
 export interface Options {
-  /** Takes asynchronous invocations (`event`): true, or the members of `asynchronous` of UP.json (docs/events.md). */
+  /** Takes asynchronous invocations (`event`): true, or the members of `asynchronous` of UP.json (docs/asynchronous.md). */
   asynchronous?: boolean | Record<string, unknown>;
   /** Leaves credentials and region as they are, and lets requests to AWS through. */
   keepCredentials?: boolean;

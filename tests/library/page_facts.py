@@ -88,8 +88,9 @@ def sources_of(root, crate):
 
 
 # The tools whose options a page lists, each of them.
-HELPS = {"docs/up.md": ("./lambda_local up", "./lambda_local invoke"), "docs/rerun.md": ("./lambda_local rerun",),
-         "docs/timeline.md": ("./lambda_local timeline",), "docs/ci.md": ("tools/package",),
+HELPS = {"docs/up_reference.md": ("./lambda_local up", "./lambda_local invoke"),
+         "docs/rerun.md": ("./lambda_local rerun",), "docs/timeline.md": ("./lambda_local timeline",),
+         "docs/ci.md": ("tools/package",),
          "docs/conformance.md": ("./lambda_local conformance runtime", "./lambda_local conformance extension"),
          "docs/conformance_service.md": ("./lambda_local conformance service",),
          "docs/checks.md": ("tests/hours", "tests/memory", "tests/newcomer", "tests/pages", "tests/release",
@@ -283,7 +284,7 @@ def of_semantics(root, page, text):
     yield from drawings.life_cycle_faults(definitions, text_of(root, "docs", "life_cycle.svg"))
 
 
-def of_up(root, page, text):
+def of_processes(root, page, text):
     """The pauses before a restart."""
     said = re.search(r"a pause of (\d+) s, then of ([\d, and]+) s", text)
     there = re.search(r"^PAUSES = \(([\d, ]+)\)", text_of(root, "tools", "lambda_local", "up", "restarts.py"), re.M)
@@ -302,8 +303,17 @@ def figures(root, page, text):
         yield "has a second list of what is not claimed: it stands in docs/proofs.md"
 
 
-OF_EACH = (links, files, options, unlisted, runs, names, numbers, kit, figures)
+# The pages that a subject begins with, before its references.
+FIRST_PAGES = ("docs/conformance.md", "docs/events.md", "docs/up.md")
+
+
+def first_pages(root, page, text):
+    if page in FIRST_PAGES and len(text.split()) > 800:
+        yield f"has {len(text.split())} words, and 800 are the most of a first page: tables stand on pages behind it"
+
+
+OF_EACH = (links, files, options, unlisted, runs, names, numbers, kit, figures, first_pages)
 OF_ONE = {"README.md": of_readme, "docs/formats.md": of_formats, "docs/proofs.md": of_proofs,
           "docs/checks.md": of_checks, "docs/architecture.md": of_architecture, "docs/variables.md": of_variables,
           "docs/DECISIONS.md": of_decisions, "docs/first_names.md": of_first_names, "docs/tools.md": of_tools,
-          "docs/semantics.md": of_semantics, "docs/up.md": of_up}
+          "docs/semantics.md": of_semantics, "docs/processes.md": of_processes}

@@ -7,8 +7,8 @@
     reader.next_event()                                     # PAUSED, until next_message() is called
 
 It takes what `hyper` takes, which the service reads by, and refuses what `hyper` refuses, with the same status
-(docs/events.md lists what differs). It raises `Malformed` and nothing else, whatever comes. All of it is linear in the
-bytes that come, in whichever pieces."""
+(docs/function_urls.md lists what differs). It raises `Malformed` and nothing else, whatever comes. All of it is linear
+in the bytes that come, in whichever pieces."""
 from .events import (CLOSED, NEED_DATA, PAUSED, Data, EndOfMessage, Event, Limits, Malformed, Request, Response,
                      Unwritable)
 from .reader import CutShort, Reader, RequestReader, ResponseReader

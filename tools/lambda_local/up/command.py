@@ -34,9 +34,10 @@ over it. UP.json is a service's configuration (docs/formats.md) in which each fu
   queue          an object: the "url" of an SQS queue whose messages invoke it
   schedule       when it is invoked by itself, such as "rate(5 minutes)"
 At the top, "asynchronous": false refuses invocations of the types Event and DryRun, and "routes" is an HTTP or REST
-API (docs/events.md).
+API (docs/asynchronous.md, docs/routes.md).
 `account` and `region` may be absent; so may ports and `invokePort`: then free ones are used. A function without a
-runtime or command waits for one that you start, at the address that is printed. docs/up.md tells what happens when.
+runtime or command waits for one that you start, at the address that is printed. docs/processes.md tells what
+happens when, docs/up_reference.md has all members and options.
 
 Its own lines and those of the functions go to standard error. Exit statuses: the command's, else the service's
 (docs/formats.md); 2 for a fault in the arguments or in UP.json; 4 if something cannot be started; 5 if an environment
