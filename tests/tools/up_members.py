@@ -26,8 +26,8 @@ def told(text, folder, *options):
 
 # Members of the function greet, whose command is `true`, and what is said after "up: up.json: function greet: ".
 MEMBERS = ("aliases, asynchronous, command, directory, enforceMemory, environments, extensions, handler, init, "
-           "inline, layers, logs, memory, name, ports, python, queue, reserved, runtime, schedule, telemetry, timeout, "
-           "url, variables, watch")
+           "inline, layers, logs, memory, name, ports, python, queue, reserved, runtime, schedule, stream, telemetry, "
+           "timeout, topic, url, variables, watch")
 ENVIRONMENTS = 'environments must be a whole number from 1 to 256, or an object with "min" and "max", not '
 OF_FUNCTION: Dict[str, Tuple[Members, str]] = {
     "a member that nobody knows": ({"timeuot": 5}, "unknown member timeuot, did you mean timeout?"),

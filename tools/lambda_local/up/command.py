@@ -32,6 +32,8 @@ over it. UP.json is a service's configuration (docs/formats.md) in which each fu
   watch          files and folders for --reload (default: its directory)
   url            true: a port that turns HTTP requests into events of a Function URL
   queue          an object: the "url" of an SQS queue whose messages invoke it
+  stream         an object: the "url" of a server, and a stream of "kinesis" or "dynamodb" there that invokes it
+  topic          an object: the "url" of a server, and the "name" of an SNS topic there that invokes it
   schedule       when it is invoked by itself, such as "rate(5 minutes)"
 At the top, "asynchronous": false refuses invocations of the types Event and DryRun, and "routes" is an HTTP or REST
 API (docs/asynchronous.md, docs/routes.md).

@@ -8,6 +8,7 @@ import threading
 import time
 from typing import Callable, Dict, Iterator, List, Optional, Sequence, Tuple, TypeVar
 
+from ..event_sources.sources import Sources, prepare
 from ..front.front import Front
 from ..guard import GUARD
 from ..guard_process import end_all_below
@@ -28,7 +29,7 @@ from .log import OUTPUT, Log
 from .looks import Hook, Looks
 from .members import load
 from .project import project_by
-from .queues import Poller, pollers_of
+from .queues import pollers_of
 from .refused_calls import RefusedCalls
 from .reload import Reload
 from .restarts import Restarts
@@ -70,6 +71,7 @@ class Session:
             self.say(note)
         queues = queues_of(front.functions)
         refuse_aws(options.up, queues, options.keep_credentials)
+        positions = prepare(options.up, front.functions, options.keep_credentials)
         ready = options.patient * READY_SECONDS
         self.patience = options.ready or max([ready, *(function.init + ready / 2 for function in self.functions
                                                        if function.init)])
@@ -126,8 +128,11 @@ class Session:
         self.threads: List[threading.Thread] = [self.watch, self.looks, *self.environments]
         self.clients, self.ending = surroundings.Clients(log, self.stopping), threading.Event()
         self.schedules = Schedules(list(front.functions), self.service, self.watch.clock, self.ending, log)
-        self.sources: List[threading.Thread] = [*pollers_of(queues, self.service, self.watch.clock,
-                                                            options.keep_credentials, self.ending, log)]
+        self.event_sources = Sources(positions, front.functions, self.service, self.watch.clock,
+                                     options.keep_credentials, self.ending, log)
+        self.sources: List[threading.Thread] = [
+            *pollers_of(queues, self.service, self.watch.clock, options.keep_credentials, self.ending, log),
+            *self.event_sources.threads]
         if options.reload:
             self.threads.append(Reload(self.environments, self.service, self.stopping, log, self.project.watched))
 
@@ -233,6 +238,7 @@ class Session:
                 for thread in (self.clients, *self.sources):
                     thread.start()
                 self.schedules.begin()
+                self.event_sources.wait_until_begun(self.happened)
                 if self.options.command:
                     status = self.run_command()
                 else:
@@ -359,6 +365,7 @@ class Session:
         status, counts = self.step("the stop", self.service.stop) or (4, "")
         self.step("the end of the front", self.front.end)
         self.join()
+        self.step("the end of streams", self.event_sources.end)
         self.step("the end of the relay", self.sidecars.end)
         self.step("the end of those that were asked for their versions", self.clients.end)
         self.refused.end()
@@ -382,5 +389,5 @@ class Session:
         for thread in [*self.threads, *self.sources]:
             if thread.ident is not None:
                 thread.join(max(0.0, end - time.monotonic()))
-                if thread.is_alive() and not (isinstance(thread, Poller) and thread.is_held):
+                if thread.is_alive() and not getattr(thread, "is_held", False):
                     self.say(f"the thread {thread.name} does not end, and is left", level="error", kind="fault")

@@ -1,10 +1,12 @@
-"""The members of UP.json by which a function is invoked without a caller: a queue, and schedules."""
+"""The members of UP.json by which a function is invoked without a caller: a queue, and schedules; `event_sources` has
+streams and topics."""
 import re
 from typing import Any, Dict, Iterator, List, NamedTuple, Optional
 from urllib.parse import SplitResult, urlsplit
 
 from ..aws_hosts import is_of_aws
 from ..configuration import Kind, is_text, is_whole, mistakes_of, shown
+from ..event_sources import members
 from ..expressions import EXAMPLES, Cron, Rate, WrongExpression, expression_of
 from ..service import Fault
 
@@ -30,6 +32,7 @@ OF_FUNCTION = {
     "schedule": Kind(lambda value: is_schedule(value) or isinstance(value, list) and value != []
                      and len(value) <= MOST_SCHEDULES and all(map(is_schedule, value)),
                      f"a string such as {EXAMPLES}, an object with \"expression\" and \"input\", or a list of these"),
+    **members.OF_FUNCTION,
 }
 
 
@@ -88,6 +91,7 @@ def mistakes(whole: Dict[str, Any]) -> Iterator[str]:
             yield from mistakes_of_schedule(given, place)
         if "schedule" in member and whole.get("asynchronous") is False:
             yield f'{where}schedule: it sends events, which "asynchronous": false refuses: leave one of the two out'
+    yield from members.mistakes(whole)
 
 
 def mistakes_of_queue(given: Dict[str, Any], where: str) -> Iterator[str]:

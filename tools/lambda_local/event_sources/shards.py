@@ -1,0 +1,124 @@
+"""A shard: how far it is read, what has been read and not been handled, and its batches. One thread at a time has it,
+so the order of its records is kept."""
+from collections import deque
+from typing import Callable, Deque, List, NamedTuple, Optional, Tuple
+
+from ..clock.followed import Clock
+from ..other_server import code_of
+from .batches import Batch, cut
+from .failures import Invoked
+from .members import Stream
+from .servers import Record, SeenShard, Server
+
+EXPIRED, TRIMMED = "ExpiredIteratorException", "TrimmedDataAccessException"
+OLDEST, NEWEST, AFTER = "TRIM_HORIZON", "LATEST", "AFTER_SEQUENCE_NUMBER"
+Tell = Callable[[str, str], None]  # a text and its level
+
+
+class Odd(NamedTuple):
+    """What a reading has left out."""
+    wrong: int = 0  # are no records
+    repeated: int = 0  # have come before
+    large: Tuple[Record, ...] = ()  # have no room in an event
+
+
+class Task:
+    """What threads do again and again, one of them at a time."""
+
+    def __init__(self) -> None:
+        self.due = 0.0  # by the machine's clock, for what asks the server
+        self.due_by_clock: Optional[int] = None  # by the service's, for what asks the function
+        self.pause = self.rest = 0.0  # seconds, after the last fault of the server, of the function
+        self.is_busy = self.is_troubled = False
+        self.asks_since: Optional[float] = None  # when the server was asked what it has not answered
+
+
+class Shard(Task):
+    def __init__(self, seen: SeenShard, begin: str, stream: Stream, handled: Optional[str] = None) -> None:
+        super().__init__()
+        self.identifier, self.parents, self.is_closed = seen
+        self.begin, self.stream = begin, stream
+        self.read_to = self.handled = handled  # sequence numbers: what has been read, and what is done or given up
+        self.iterator: Optional[str] = None
+        self.collected: List[Record] = []
+        self.window_end: Optional[int] = None  # by the service's clock
+        self.batches: Deque[Batch] = deque()
+        self.last: Optional[Invoked] = None  # invocation with the first of its batches
+        self.is_read = self.is_idle = False  # a closed shard, to its end; the last reading had no record
+
+    @property
+    def is_over(self) -> bool:
+        """Whether all of its records are done or given up, and there will be no further ones."""
+        return self.is_read and not self.collected and not self.batches
+
+    def number(self) -> int:
+        return -1 if self.read_to is None else int(self.read_to)
+
+    # ---- reading -----------------------------------------------------------------------------------------------------
+
+    def open(self, server: Server, tell: Tell) -> None:
+        """Has an iterator: it begins after what has been read."""
+        try:
+            kind = self.begin if self.read_to is None else AFTER
+            self.iterator = server.iterator(self.identifier, kind, self.read_to)
+        except Exception as fault:
+            if code_of(fault) != TRIMMED or self.read_to is None:
+                raise
+            tell(f"{self.identifier}: its records after {self.read_to} are not kept any more: it is read from the "
+                 "oldest one on", "warning")
+            self.iterator = server.iterator(self.identifier, OLDEST, None)
+
+    def fill(self, server: Server, clock: Clock, tell: Tell) -> Odd:
+        """Reads once, and makes a batch of what is collected if it is time. Whatever a server answers, what has been
+        read stays."""
+        odd, came = Odd(), 0
+        if len(self.collected) < self.stream.batch and not self.is_read:
+            if self.iterator is None:
+                self.open(server, tell)
+            odd, came = self._read(server, tell)
+        if self.collected and self.window_end is None:
+            self.window_end = clock.now() + 1000 * self.stream.window
+        too_large = self._batch(clock)
+        self.is_idle = not came
+        return odd._replace(large=too_large)
+
+    def _read(self, server: Server, tell: Tell) -> Tuple[Odd, int]:
+        iterator, self.iterator = self.iterator, None  # (after a fault a new one is asked for)
+        assert iterator is not None
+        try:
+            read = server.read(iterator, min(server.most, self.stream.batch - len(self.collected)))
+        except Exception as fault:
+            if code_of(fault) != EXPIRED:
+                raise
+            if self.read_to is None and self.begin == NEWEST:
+                tell(f"{self.identifier}: its iterator has expired before a record came: those that came meanwhile are "
+                     "left out", "warning")
+            self.due = 0.0
+            return Odd(), 0
+        self.iterator = read.following
+        wrong = repeated = 0
+        for given in read.records:
+            record = server.record_of(given, self.identifier)
+            if record is None:
+                wrong += 1
+            elif record.number <= self.number():
+                repeated += 1
+            else:
+                self.read_to = record.sequence
+                self.collected.append(record)
+        self.is_read = read.following is None or self.is_closed and read.is_at_end
+        return Odd(wrong, repeated), len(read.records) - wrong - repeated
+
+    def _batch(self, clock: Clock) -> Tuple[Record, ...]:
+        """Makes a batch if one is full, or its window is over; what has no room in an event, which is in none."""
+        count = cut(self.collected, self.stream.batch)
+        is_full = count == self.stream.batch or count < len(self.collected)
+        large: Tuple[Record, ...] = ()
+        if self.collected and count == 0:
+            large, self.collected = tuple(self.collected[:1]), self.collected[1:]
+        elif self.collected and (is_full or self.is_read or self.stream.window == 0
+                                 or self.window_end is not None and clock.reached(self.window_end)):
+            self.batches.append(Batch(tuple(self.collected[:count])))
+            self.collected = self.collected[count:]
+            self.window_end = None
+        return large
