@@ -117,6 +117,8 @@ LIES: Dict[str, Tuple[str, str, str, str]] = {
                         "text[begin:close]"),
     "template_authorizers": ("sam_rest", OF_TOOLS + "from_template/authorizers.py",
                              'given.text("FunctionPayloadType") != "REQUEST"', "True"),
+    "template_streams": ("resources", OF_TOOLS + "from_template/topics.py",
+                         'if protocol != "lambda":', "if not protocol:"),
     "templates": ("globals", OF_TOOLS + "from_template/cloudformation.py", "return [*shared, *own]", "return [*own]"),
     "template_oracle": ("templates", OF_TOOLS + "from_template/cloudformation.py",
                         "and not is_intrinsic(own):", "and True:"),

@@ -91,5 +91,5 @@ def moto(case, port=None):
         yield clients
     finally:
         clients.close()
-        child.terminate()
-        child.wait(20)
+        child.kill()  # (it keeps nothing)
+        child.wait(60)

@@ -17,6 +17,7 @@ from tests.library.events_kit import READY, READY_SECONDS, json_lines
 from tests.library.moto_server import WITH_MOTO, environ, moto
 from tests.library.up_kit import Up, until
 
+PATIENCE = 400  # seconds: a busy machine takes its time
 APP = '''import base64, json
 def run(event, context):
     with open("seen", "a") as file: file.write(json.dumps(event) + "\\n")
@@ -100,7 +101,7 @@ class MotoStreams(Case):
                        "topic": {"url": url, "name": "news"}}
             up = self.running(function(**sources), function("n", runtime="node", handler="index.handler", **sources),
                               files={"index.mjs": NODE})
-            self.check("both are subscribed", until(lambda: up.count("topic news: it is subscribed to") == 2, 60))
+            self.check("both are subscribed", until(lambda: up.count("topic news: it is subscribed to") == 2, PATIENCE))
             server.asked(PUT, {"stream": "clicks", "records": [[str(n), f"text {n}"] for n in range(10)]})
             server.asked(ITEMS)
             server.asked(PUBLISH, [["Subject", "one", "a"], [None, "two <&> \u00e9", "b"]])
@@ -138,9 +139,9 @@ class MotoStreams(Case):
             arn = "arn:aws:sqs:us-east-1:123456789012:failed"
             up = self.running(function(stream={"url": server.endpoint, "kinesis": "clicks", "retries": 1,
                                                "bisect": True, "onFailure": arn}))
-            self.check("it is dropped", up.until("failed is sent where they are", 120))
+            self.check("it is dropped", up.until("failed is sent where they are", PATIENCE))
             self.check("all others are handled, in their order", until(
-                lambda: texts_in(self.seen(up))[-1:] == [("shardId-000000000000", "text 6")], 60))
+                lambda: texts_in(self.seen(up))[-1:] == [("shardId-000000000000", "text 6")], PATIENCE))
             texts = [text for _, text in texts_in(self.seen(up))]
             firsts = list(dict.fromkeys(texts))
             self.check("in order", firsts, [text for _, text in records])
@@ -163,7 +164,7 @@ class MotoStreams(Case):
             server.asked(MAKE, {"streams": ["clicks"], "shards": 1})
             server.asked(PUT, {"stream": "clicks", "records": [["k", "one"], ["k", "part"], ["k", "three"]]})
             up = self.running(function(stream={"url": server.endpoint, "kinesis": "clicks", "retries": 1}))
-            self.check("it is dropped in the end", up.until("RetryAttemptsExhausted after 2 invocations", 60))
+            self.check("it is dropped in the end", up.until("RetryAttemptsExhausted after 2 invocations", PATIENCE))
             self.check("in its order", [[text for _, text in texts_in([event])] for event in self.seen(up)],
                        [["one", "part", "three"], ["part", "three"]])
             self.check("it ends", up.end(), (0, []))
@@ -178,17 +179,17 @@ class MotoStreams(Case):
             server.asked(PUT, {"stream": "clicks", "records": [["k", "one"]]})
             server.asked(PUT, {"stream": "bad", "records": [["k", "poison"]]})
             self.check("the function has failed", up.until(
-                "[g] stream bad: a batch of 1 of shardId-000000000000 failed, attempt 1: again after 0.5 s", 60))
-            time.sleep(3)
+                "[g] stream bad: a batch of 1 of shardId-000000000000 failed, attempt 1: again after 0.5 s", PATIENCE))
+            time.sleep(4)
             self.check("in a pause nothing is due", (up.has("stream clicks: a batch"), up.has("attempt 2")),
                        (False, False))
             advance(up.endpoint, 1)
-            self.check("the next attempt is after its pause", up.until("attempt 2", 60))
+            self.check("the next attempt is after its pause", up.until("attempt 2", PATIENCE))
             self.check("a window is not over", up.has("stream clicks: a batch"), False)
             advance(up.endpoint, 301)
-            self.check("and then it is", up.until("stream clicks: a batch of 1 of shardId-000000000000 ok", 60))
+            self.check("and then it is", up.until("stream clicks: a batch of 1 of shardId-000000000000 ok", PATIENCE))
             advance(up.endpoint, 3600)
-            self.check("a record is too old at last", up.until("RecordAgeExceeded", 60))
+            self.check("a record is too old at last", up.until("RecordAgeExceeded", PATIENCE))
             self.check("it ends", up.end(), (0, []))
 
     def test_server_begins_anew(self):
@@ -199,21 +200,21 @@ class MotoStreams(Case):
             server.asked(PUT, {"stream": "clicks", "records": [[str(n), f"old {n}"] for n in range(5)]})
             up = self.running(function(stream={"url": server.endpoint, "kinesis": "clicks"},
                                        topic={"url": server.endpoint, "name": "news"}))
-            self.check("its records come", until(lambda: len(texts_in(self.seen(up))) == 5, 60))
-        self.check("its end is told", up.until("stream clicks: it cannot be read: EndpointConnectionError", 60)
-                   and up.until("topic news: no notifications come: ", 60))
+            self.check("its records come", until(lambda: len(texts_in(self.seen(up))) == 5, PATIENCE))
+        self.check("its end is told", up.until("stream clicks: it cannot be read: EndpointConnectionError", PATIENCE)
+                   and up.until("topic news: no notifications come: ", PATIENCE))
         with moto(self, port) as server:
             server.asked(MAKE, {"streams": ["clicks"], "topics": ["news"]})
             server.asked(PUT, {"stream": "clicks", "records": [[str(n), f"new {n}"] for n in range(7)]})
             self.check("what is new comes", until(
                 lambda: sorted(text for _, text in texts_in(self.seen(up)) if "new" in text)
-                == [f"new {n}" for n in range(7)], 90))
+                == [f"new {n}" for n in range(7)], PATIENCE))
             self.check("that is told", up.has("its server has another stream of this name now"))
             self.check("the topic is subscribed to again", until(
-                lambda: up.count("topic news: it is subscribed to") == 2, 90))
+                lambda: up.count("topic news: it is subscribed to") == 2, PATIENCE))
             server.asked(PUBLISH, [[None, "after all", "a"]])
             self.check("a notification comes", until(
-                lambda: any("Sns" in event["Records"][0] for event in self.seen(up)), 60))
+                lambda: any("Sns" in event["Records"][0] for event in self.seen(up)), PATIENCE))
             self.check("it ends", up.end(), (0, []))
 
     def test_filter(self):
@@ -221,9 +222,9 @@ class MotoStreams(Case):
             server.asked(MAKE, {"topics": ["news"]})
             up = self.running(function(topic={"url": server.endpoint, "name": "news",
                                               "filterPolicy": {"kind": ["good"]}}))
-            self.check("it is subscribed", up.until("topic news: it is subscribed to", 60))
+            self.check("it is subscribed", up.until("topic news: it is subscribed to", PATIENCE))
             server.asked(PUBLISH, [[None, "one", "bad"], [None, "two", "good"]])
-            self.check("one comes", until(lambda: len(self.seen(up)) == 1, 60))
+            self.check("one comes", until(lambda: len(self.seen(up)) == 1, PATIENCE))
             time.sleep(2)
             self.check("and no other", [event["Records"][0]["Sns"]["Message"] for event in self.seen(up)], ["two"])
             self.check("it ends", up.end(), (0, []))
@@ -238,7 +239,7 @@ class MotoStreams(Case):
             server.asked(PUT, {"stream": "clicks", "records": records[:count // 2]})
             source = {"url": server.endpoint, "kinesis": "clicks", "batchSize": 50, "checkpoint": "positions.json"}
             up = self.running(function(environments=4, stream=source))
-            self.check("a part is handled", until(lambda: len(texts_in(self.seen(up))) > count // 8, 200))
+            self.check("a part is handled", until(lambda: len(texts_in(self.seen(up))) > count // 8, PATIENCE))
             up.process.send_signal(signal.SIGKILL)
             up.process.wait(30)
             before = texts_in(self.seen(up))
@@ -248,11 +249,11 @@ class MotoStreams(Case):
             self.check("the next run is ready", again.until("[up] ready", READY_SECONDS))
             server.asked(PUT, {"stream": "clicks", "records": records[count // 2:]})
             self.check("it says where it goes on", again.until(
-                "positions.json says; a batch that was not answered comes again", 60))
+                "positions.json says; a batch that was not answered comes again", PATIENCE))
 
             def all_texts():
                 return before + texts_in(self.seen(again))
-            self.check("all come", until(lambda: len(set(all_texts())) == count, 400), shown=len(set(all_texts())))
+            self.check("all come", until(lambda: len(set(all_texts())) == count, PATIENCE), shown=len(set(all_texts())))
             self.check("it ends", again.end(), (0, []))
             after = texts_in(self.seen(again))
             twice = len(before) + len(after) - len({*before, *after})

@@ -112,7 +112,7 @@ def routes_of(whole):
 
 
 def sources_of(whole, wanted):
-    """How many queues and schedules invoke each function, those that are off left out."""
+    """How many queues, streams, topics and schedules invoke each function, those that are off left out."""
     found = {}
     aliases = {key: one["FunctionName"]["Ref"] for key, one in resources(whole, LAMBDA + "Alias").items()}
 
@@ -125,6 +125,11 @@ def sources_of(whole, wanted):
         source = json.dumps(one["EventSourceArn"])
         if one.get("Enabled") is not False and "sqs" in source.lower() or "Jobs" in source:
             note(one["FunctionName"], "queue")
+        elif one.get("Enabled") is not False and ("StreamArn" in source or "kinesis" in source.lower()):
+            note(one["FunctionName"], "stream")
+    for one in resources(whole, "AWS::SNS::Subscription").values():
+        if one["Protocol"] == "lambda":
+            note(one["Endpoint"], "topic")
     for one in resources(whole, "AWS::Events::Rule").values():
         if "ScheduleExpression" in one and one.get("State") != "DISABLED":
             note(one["Targets"][0]["Arn"], "schedule")
@@ -136,7 +141,7 @@ def sources_of(whole, wanted):
 
 def ours(whole):
     """UP.json of a template, and the names of its functions by their logical ids."""
-    os.environ["AWS_ENDPOINT_URL_SQS"] = "http://127.0.0.1:9324"  # (so that queues have addresses)
+    os.environ["AWS_ENDPOINT_URL"] = "http://127.0.0.1:9324"  # (so that queues and streams have addresses)
     with tempfile.TemporaryDirectory() as folder, contextlib.redirect_stderr(io.StringIO()):
         path = os.path.join(folder, "template.json")
         for name in ("src", "common/python", "extra/python", "layer/python", "tracer/python"):
@@ -146,7 +151,7 @@ def ours(whole):
         try:
             return up_of_source(Source(path, True))
         finally:
-            del os.environ["AWS_ENDPOINT_URL_SQS"]
+            del os.environ["AWS_ENDPOINT_URL"]
 
 
 @unittest.skipUnless(HAS_TRANSLATOR, "aws-sam-translator or PyYAML is not here: pip install aws-sam-translator pyyaml")
@@ -186,10 +191,10 @@ class TemplateOracle(Case):
         found = {}
         for one in up["functions"]:
             key = names[one["name"]]
-            schedules = one.get("schedule", [])
-            found.update({(key, "queue"): 1} if "queue" in one else {})
-            found.update({(key, "schedule"): len(schedules) if isinstance(schedules, list) else 1} if schedules else {})
-        self.check(f"{name}: queues and schedules", found, sources_of(made, functions))
+            for kind in ("queue", "schedule", "stream", "topic"):
+                given = one.get(kind, [])
+                found.update({(key, kind): len(given) if isinstance(given, list) else 1} if given else {})
+        self.check(f"{name}: queues, streams, topics and schedules", found, sources_of(made, functions))
         urls = {re.sub(r"Url$", "", key) for key in resources(made, LAMBDA + "Url")}
         self.check(f"{name}: URLs", sorted(names[one["name"]] for one in up["functions"] if "url" in one),
                    sorted("Plain" if key == "" else key for key in urls))

@@ -282,7 +282,8 @@ class Templates(Case):
                           "its event http is a proxy integration here, not lambda",
                           "ignores the authorizer jwt of get /b, which takes each caller",
                           "ignores inputPath of its schedule",
-                          "ignores events: stream", "s-dev-f: ignores tracing"):
+                          "ignores its event stream, Kinesis: arn is not the ARN of a stream",
+                          "s-dev-f: ignores tracing"):
                 self.check(f"Serverless: {words}", words in said, shown=said)
         template = {"Resources": {"F": sam(Tracing="Active", VpcConfig={}, Role="x", Tags={"a": "b"}, Events={
             "A": {"Type": "Api", "Properties": {"Path": "/a", "Method": "get", "Auth": {"Authorizer": "x"}}},
@@ -298,7 +299,8 @@ class Templates(Case):
             self.check("the log's format", variables_of(made), {"AWS_LAMBDA_LOG_FORMAT": "JSON",
                                                                 "AWS_LAMBDA_LOG_LEVEL": "DEBUG"})
             for words in ("F: ignores Tracing, VpcConfig\n", "ignores the authorizer x of GET /a of F,",
-                          "ignores KmsKeyArn of its event B", "ignores its event D (DynamoDB)\n",
+                          "ignores KmsKeyArn of its event B",
+                          "ignores its event D, DynamoDB: its stream is not known here\n",
                           "ignores its event E (S3): lambda_local invoke --sample s3 sends one like it"):
                 self.check(f"SAM: {words.strip()}", words in said, shown=said)
             self.check("what a condition leaves out is not there", "its event C" in said, False)

@@ -3,6 +3,7 @@ botocore) makes the requests, if it is installed.
 
 No request goes to AWS itself: `refuse_aws` looks at each address before a client is made, and a client that has no
 credentials of the user's reads no profile, no configuration and no proxy of theirs."""
+import functools
 import os
 import re
 import threading
@@ -16,6 +17,7 @@ CONNECT_SECONDS = 2
 ANSWER_SECONDS = 10.0  # for an answer that a server does not hold back on purpose
 ARN = re.compile(r"arn:[a-z-]{1,32}:(sqs|sns):([a-z0-9-]{1,64}):(\d{12}):([A-Za-z0-9_.-]{1,256})")
 EXAMPLE = "arn:aws:sqs:us-east-1:123456789012:failed"
+LOCK = threading.Lock()  # around what makes clients
 
 
 class NoClient(Exception):
@@ -27,20 +29,28 @@ def client_of(service: str, endpoint: str, region: str, keeps_credentials: bool,
     """A client of this server's API of a service, such as "sqs", "kinesis" or "dynamodbstreams". It sends no request
     twice. Several threads may use it."""
     try:
-        import botocore.session  # type: ignore  # (what boto3 is made of)
-        from botocore.config import Config  # type: ignore
+        from botocore.config import Config  # type: ignore  # (what boto3 is made of)
     except ImportError:
         raise NoClient from None
     settings: Dict[str, Any] = {"connect_timeout": CONNECT_SECONDS, "read_timeout": answer_seconds,
                                 "retries": {"max_attempts": 0}, "max_pool_connections": 16}
+    given: Dict[str, Any] = {"region_name": region, "endpoint_url": endpoint}
+    if not keeps_credentials:
+        settings["proxies"] = {}
+        given.update(aws_access_key_id="local", aws_secret_access_key="local")
+    with LOCK:
+        return session_of(keeps_credentials).create_client(service, config=Config(**settings), **given)
+
+
+@functools.lru_cache(maxsize=None)
+def session_of(keeps_credentials: bool) -> Any:
+    """What makes clients, one at a time: it keeps the models that it has read."""
+    import botocore.session  # type: ignore
     if keeps_credentials:
-        return botocore.session.Session().create_client(service, region_name=region, endpoint_url=endpoint,
-                                                        config=Config(**settings))
-    own: Dict[str, Any] = {"profile": (None, [], None, None), "config_file": (None, None, os.devnull, None),
-                           "credentials_file": (None, None, os.devnull, None)}
-    return botocore.session.Session(session_vars=own).create_client(
-        service, region_name=region, endpoint_url=endpoint, aws_access_key_id="local",
-        aws_secret_access_key="local", config=Config(proxies={}, **settings))
+        return botocore.session.Session()
+    return botocore.session.Session(session_vars={
+        "profile": (None, [], None, None), "config_file": (None, None, os.devnull, None),
+        "credentials_file": (None, None, os.devnull, None)})
 
 
 def one_line(fault: Exception) -> str:

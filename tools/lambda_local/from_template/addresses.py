@@ -13,8 +13,8 @@ from .routes import IMPLICIT, IMPLICIT_REST, OF_SERVERLESS, REST_OF_SERVERLESS, 
 from .values import NO_VALUE, Scope
 
 READ = {"FunctionUrlConfig", "Events", "url", "events"}
-READ_ELSEWHERE = {*schedules.OF_SAM, "SQS"}  # of SAM's types of events
-READ_OF_SERVERLESS = {"schedule", "sqs"}
+READ_ELSEWHERE = {*schedules.OF_SAM, "SQS", "Kinesis", "DynamoDB", "SNS"}  # of SAM's types of events
+READ_OF_SERVERLESS = {"schedule", "sqs", "stream", "sns"}
 SAMPLES = {"S3": "s3", "SNS": "sns", "EventBridgeRule": "eventbridge", "CloudWatchEvent": "eventbridge", "s3": "s3",
            "sns": "sns", "eventBridge": "eventbridge", "cloudwatchEvent": "eventbridge"}
 

@@ -17,7 +17,7 @@ TAKEN_LATER = re.compile(r"AWS::Lambda::(Url|Alias|Version|EventSourceMapping|Ev
                          r"AWS::ApiGatewayV2::(Api|Route|Integration|Stage|Authorizer)|"
                          r"AWS::ElasticLoadBalancingV2::(LoadBalancer|Listener|ListenerRule|TargetGroup)|"
                          r"AWS::(Serverless|Lambda)::LayerVersion|"
-                         r"AWS::Events::Rule|AWS::Scheduler::Schedule")
+                         r"AWS::Events::Rule|AWS::Scheduler::Schedule|AWS::SNS::Subscription")
 # What a deployment alone has: it is not told
 OF_DEPLOYMENT = re.compile(r"AWS::CDK::Metadata|AWS::IAM::.*|AWS::Lambda::Permission|AWS::Logs::LogGroup|"
                            r"AWS::ApiGateway::(Deployment|Account|Model|RequestValidator|GatewayResponse)|"

@@ -7,7 +7,7 @@ import shutil
 from typing import Dict, List, NamedTuple, Optional, Sequence
 
 from ..configuration import Members
-from . import addresses, asynchronous, queues, schedules
+from . import addresses, asynchronous, queues, schedules, streams, topics
 from .cloudformation import aliases_of
 from .layers import layers_of
 from .messages import VALUES, LineGroups, excerpt, tell
@@ -142,6 +142,8 @@ class Maker:
         self.put("asynchronous", asynchronous.of_function(self.properties, self.scope, self.tell))
         schedules.put(self.made, schedules.of_events(self.properties, self.scope, self.tell))
         queues.put(self.made, queues.of_events(self.properties, self.scope, self.tell), self.tell)
+        streams.put(self.made, "stream", streams.of_events(self.properties, self.scope, self.tell))
+        streams.put(self.made, "topic", topics.of_events(self.properties, self.scope, self.tell))
         if left := sorted(str(name) for name in set(self.properties) - READ - WITHOUT_MEANING):
             self.tell(f"ignores {', '.join(left)}")
         return self.made

@@ -3,7 +3,7 @@ import os
 from typing import Dict, List, Optional
 
 from ..configuration import Members
-from . import asynchronous, authorizers, balancers, openapi, own_values, queues, serverless
+from . import asynchronous, authorizers, balancers, mappings, openapi, own_values, serverless, streams, topics
 from .files import Folder
 from .find import Source
 from .functions import Listed, functions_of, tell_services
@@ -38,7 +38,8 @@ def apis_in(stacks: List[Stack], functions: List[Members], folder: str) -> Dict[
         scope = stack.scope
         add_urls(functions, scope)
         add_schedules(functions, scope)
-        queues.add_mappings(functions, scope)
+        mappings.add_mappings(functions, scope)
+        topics.add_subscriptions(functions, scope)
         asynchronous.add_configs(functions, scope)
         of_events = serverless.apis_of(scope) if isinstance(scope, serverless.ServerlessScope) else apis_of(
             stack.template, scope)
@@ -77,6 +78,7 @@ def made_of_source(source: Source, given: Given, values: Optional[str]) -> Membe
     for made in whole["functions"]:
         if isinstance(made.get("queue"), dict) and "url" not in made["queue"]:
             del made["queue"]  # (it has been told that its address is to be supplied)
+        streams.drop_incomplete(made)
     return whole
 
 

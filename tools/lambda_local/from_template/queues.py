@@ -1,17 +1,14 @@
-"""The queues whose messages invoke functions, as UP.json has them: events of SAM and Serverless, and
-AWS::Lambda::EventSourceMapping."""
+"""The queues whose messages invoke functions, as UP.json has them: events of SAM and Serverless; `mappings` has the
+resources."""
 import re
 from typing import Iterator, List, Optional
 
 from ..configuration import Members
-from .cloudformation import is_wanted
-from .messages import VALUES, excerpt, tell
-from .named import function_of
+from .messages import VALUES, excerpt
 from .objects import Object, Tell, members_by_key
 from .services import PAGE, endpoint_of
 from .values import Scope
 
-MAPPING = "AWS::Lambda::EventSourceMapping"
 ARN = re.compile(r"arn:[^:]*:sqs:[^:]*:([^:]*):(.+)")
 MOST_WITHOUT_WINDOW = 10  # messages of a batch
 
@@ -88,20 +85,3 @@ def put(made: Members, queues: List[Members], tell_: Tell) -> None:
             tell_(f"ignores a further queue{' ' * ('url' in queue)}{queue.get('url', '')}: a function has one here")
         else:
             made["queue"] = queue
-
-
-def add_mappings(functions: List[Members], scope: Scope) -> None:
-    """Those that are resources of their own."""
-    for key, resource in scope.resources.items():
-        if not isinstance(resource, dict) or resource.get("Type") != MAPPING or not is_wanted(key, resource, scope):
-            continue
-        given = Object(resource.get("Properties"), str(key), scope, tell)
-        source = scope.evaluate_or_reason(given.raw("EventSourceArn")).value
-        made = function_of(scope.evaluate_or_reason(given.raw("FunctionName")).value, functions, scope)
-        if made is None:
-            tell(f"ignores {key}, {MAPPING}: its function is not here")
-        elif not isinstance(source, str) or not ARN.fullmatch(source):
-            tell(f"ignores {key}, {MAPPING}: {excerpt(source)} is not the ARN of an SQS queue")
-        else:
-            queue = mapped(given, "EventSourceArn", f"{key} of {made['name']}", scope, tell)
-            put(made, [] if queue is None else [queue], tell)

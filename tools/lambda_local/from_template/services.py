@@ -36,6 +36,7 @@ KINDS = {
     "AWS::StepFunctions::StateMachine": MACHINE,
     "AWS::Serverless::StateMachine": MACHINE._replace(named_by="Name"),
 }
+NO_LABEL = "/stream/1970-01-01T00:00:00.000"  # the time of a table's stream, which its server alone knows
 ARNS = {"AWS::SNS::Topic": "TopicArn"}  # by which attribute a type has its ARN, if that is not Arn
 
 
@@ -85,6 +86,9 @@ def attribute(key: str, wanted: str, resource: Members, scope: "Scope") -> Optio
         return None
     if wanted == ARNS.get(str(resource["Type"]), "Arn"):
         return filled(kind.arn, str(name_of(key, resource, scope)), scope)
+    if wanted == "StreamArn" and kind is TABLE:
+        scope.placeholder(name_of(key, resource, scope), f"the stream of the table {key}")
+        return filled(kind.arn, str(name_of(key, resource, scope)), scope) + NO_LABEL
     if wanted == kind.of_name:
         return name_of(key, resource, scope)
     return ref(key, resource, scope) if wanted == "QueueUrl" else None
