@@ -7,7 +7,7 @@ import subprocess
 from typing import Dict
 
 from crate_list import uses
-from tests.library import drawings, tools_map
+from tests.library import changes, drawings, tools_map
 
 FOLDERS = ("bench", "crates", "docs", "examples", "tables", "tests", "tools")
 FENCED = re.compile(r"(?:^<!-- (\w[\w ]*) -->\n)?^```(\w*)\n(.*?)^```$", re.M | re.S)
@@ -293,7 +293,8 @@ def of_processes(root, page, text):
 
 
 def of_tools(root, page, text):
-    return tools_map.faults(root, text)
+    yield from tools_map.faults(root, text)
+    yield from changes.faults(root, text)
 
 
 def figures(root, page, text):

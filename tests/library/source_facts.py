@@ -17,6 +17,7 @@ ROUTES = "crates/http_routes/src/routes.rt"
 VIEWS = "crates/long_poll/src/views.rt"
 SAID_VERSION = re.compile(r'^pub const VERSION: &str = "([^"]*)";$', re.M)
 NO_CLAUSE = os.path.join("tests", "library", "no_clause.noted")
+DEAD = os.path.join("tests", "library", "dead_lemmas.noted")
 NOT_CLAIMED = "## What is not claimed"
 
 
@@ -81,10 +82,11 @@ def version(root: str) -> Iterator[str]:
         yield f"{VIEWS} says {', '.join(said) or 'no version'}, and the file VERSION {own}"
 
 
-def reasons(root: str) -> Dict[str, str]:
-    """The functions that need no clause, by `crate::path`, each with its reason, from lines `NAME NAME ..: REASON`."""
+def reasons(root: str, noted: str = NO_CLAUSE) -> Dict[str, str]:
+    """What a file excepts, such as functions that need no clause, by `crate::path`, each with its reason, from lines
+    `NAME NAME ..: REASON`."""
     found: Dict[str, str] = {}
-    for line in text_of(root, NO_CLAUSE).splitlines():
+    for line in text_of(root, noted).splitlines():
         names, _, reason = line.partition(": ")
         if line[:1] not in ("", "#"):
             found.update(dict.fromkeys(names.split(), reason.strip()))
@@ -128,11 +130,12 @@ LEMMA = re.compile(r"^ *(?:(?:pub|abbrev|unfoldable) )*([^\s(){}.,;:\[\]]+) : ")
 ASKED_FOR = {"Answers.antt", "Invariants.antt", "Proof.antt", "Witness.antt", "Lib.antt"}
 
 
-def dead_lemmas(root: str) -> Iterator[str]:
-    """Lemmas of the proofs that nothing names but their own lines."""
+def unused_lemmas(root: str) -> Iterator[Tuple[str, str]]:
+    """Lemmas of the proofs that nothing names but their own lines, each with its file."""
     paths = [path for kind in ("proofs/**/*.antt", "specs/**/*.antt", "src/**/*.rt")
              for path in glob.glob(f"{root}/crates/*/{kind}", recursive=True)]
-    paths += glob.glob(f"{root}/t*/**/*.edit", recursive=True) + glob.glob(f"{root}/[bt]*/**/*.proof", recursive=True)
+    paths += [path for kind in ("t*/**/*.edit", "[bt]*/**/*.proof", "[bt]*/**/*.rs")
+              for path in glob.glob(f"{root}/{kind}", recursive=True)]
     lemmas: Dict[str, str] = {}
     used: Set[str] = set()
     for path in sorted(paths):
@@ -146,7 +149,22 @@ def dead_lemmas(root: str) -> Iterator[str]:
                 lemmas.setdefault(own, os.path.relpath(path, root))
             # (a lemma's own clauses, and its calls of itself, are no use of it)
             used.update(word for word in words if word != own)
-    yield from (f"{path}: nothing uses the lemma {name}" for name, path in sorted(lemmas.items()) if name not in used)
+    yield from ((path, name) for name, path in sorted(lemmas.items()) if name not in used)
+
+
+def dead_lemmas(root: str) -> Iterator[str]:
+    """Lemmas that nothing uses, unless the file of those that may stay names them with a reason. Theorems on public calls
+    are `Answers.antt`, which the prover asks for, and so are no lemmas here."""
+    why = reasons(root, DEAD)
+    for it in sorted(f"{path}::{name}" for path, name in unused_lemmas(root)):
+        if not why.get(it):
+            yield f"{it}: nothing uses this lemma: take it out, or name it in {DEAD} with the reason"
+
+
+def lemmas_that_are_gone(root: str) -> Iterator[str]:
+    """Names in that file of lemmas that are used again, or not there any more."""
+    dead = {f"{path}::{name}" for path, name in unused_lemmas(root)}
+    yield from (f"{DEAD}: {it} is used, or not there: take its line out" for it in reasons(root, DEAD) if it not in dead)
 
 
 def public_calls(root: str, crate: str) -> List[str]:

@@ -5,12 +5,12 @@ import hashlib
 import os
 import tempfile
 import unittest
-from typing import Iterator
+from typing import Iterator, List
 from unittest import mock
 
-from tests.library import evidence, lint, source_facts, speeds
+from tests.library import changes, evidence, lint, source_facts, speeds
 from tests.library.cases import Case
-from tests.library.trees import write
+from tests.library.trees import commit, write
 
 SOURCE = """impl<B: Bell> Rings<B> {
     /// Rings.
@@ -96,8 +96,35 @@ class PageChecks(Case):
     def test_dead_lemmas(self) -> None:
         self.put("crates/a/proofs/It.antt", PROOF)
         self.put("crates/a/proofs/f/Answers.antt", "pub returns : goal.returns\nreturns c = caller\n")
-        self.check("what only its own lines name", [*source_facts.dead_lemmas(self.root)],
-                   ["crates/a/proofs/It.antt: nothing uses the lemma unused"])
+        told = ("crates/a/proofs/It.antt::unused: nothing uses this lemma: take it out, or name it in "
+                "tests/library/dead_lemmas.noted with the reason")
+        self.check("what only its own lines name", [*source_facts.dead_lemmas(self.root)], [told])
+        self.put(source_facts.DEAD, "crates/a/proofs/It.antt::unused:\n")
+        self.check("an exception needs a reason", [*source_facts.dead_lemmas(self.root)], [told])
+        self.put(source_facts.DEAD, "crates/a/proofs/It.antt::unused crates/a/proofs/It.antt::used: it is shown\n")
+        self.check("an exception", [*source_facts.dead_lemmas(self.root)], [])
+        self.check("one that is none", [*source_facts.lemmas_that_are_gone(self.root)], [
+            "tests/library/dead_lemmas.noted: crates/a/proofs/It.antt::used is used, or not there: take its line out"])
+        self.put("tables/a/src/it.rs", "ghost use a::It::{unused};\n")
+        self.check("a table uses it", [*source_facts.unused_lemmas(self.root)], [])
+
+    def test_search_words(self) -> None:
+        """Each row of the table of changes names the files that its word finds."""
+        self.put("a/one.py", "the_word\n")
+        self.put("a/two.py", "other\n")
+        self.put("b/three.py", "The_Word\n")
+        commit(self.root)
+
+        def faults(row: str) -> List[str]:
+            return [*changes.faults(self.root, f"## To change something\n| To change | Touch | Word |\n{row}\n")]
+        self.check("as it is", faults("| x | `a/one.py`, `b/three.py` | `the_word` in `a`, `b` |"), [])
+        self.check("a folder", faults("| x | `a/one.py`, `b/more`, `c/d.py` | `the_word` in `a` |"), [])
+        self.check("not named", faults("| x | `a/one.py` | `the_word` in `a`, `b` |"),
+                   ["x: b/three.py has the_word, and the row does not name it"])
+        self.check("named, and without the word", faults("| x | `a/one.py`, `a/two.py` | `the_word` in `a` |"),
+                   ["x: a/two.py has no the_word"])
+        self.check("no word", faults("| x | `a/one.py` |"), ["x has no search word with its folders"])
+        self.check("no table", [*changes.faults(self.root, "# Tools\n")], ["has no rows of ## To change something"])
 
     def test_a_gate_of_another_program(self) -> None:
         packed, sum_is = gzip.compress(b"it"), hashlib.sha256(b"it").hexdigest()

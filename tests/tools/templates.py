@@ -2,6 +2,7 @@
 variables of Serverless, and templates that would read other files."""
 import os
 import subprocess
+from unittest.mock import patch
 
 from lambda_local.from_template import find
 from lambda_local.from_template.given import Given
@@ -10,6 +11,8 @@ from tests import ROOT
 from tests.library.cases import Case
 from tests.library.project_kit import folder_of, made_by, sam, variables_of, write
 from tests.library.template_kit import FROM_TEMPLATE, HAS_YAML, python
+
+SQS = "arn:aws:sqs:us-east-1:123456789012:"
 
 
 class Templates(Case):
@@ -313,7 +316,8 @@ class Templates(Case):
             "F": sam(AutoPublishAlias="live", EventInvokeConfig=config), "G": sam(
                 Environment={"Variables": {"ALIAS": {"Ref": "F.Alias"}, "VERSION": {"Ref": "F.Version"},
                                            "OWN": {"Ref": "Blue"}}},
-                DeadLetterQueue={"Type": "SQS", "TargetArn": "arn:aws:sqs:us-east-1:1:dead"}),
+                DeadLetterQueue={"Type": "SQS", "TargetArn": {"Fn::GetAtt": ["Dead", "Arn"]}}),
+            "Dead": {"Type": "AWS::SQS::Queue", "Properties": {"QueueName": "dead"}},
             "Blue": {"Type": "AWS::Lambda::Alias", "Properties": {"Name": "blue", "FunctionName": {"Ref": "G"},
                                                                   "FunctionVersion": "1"}},
             "Config": {"Type": "AWS::Lambda::EventInvokeConfig", "Properties": {
@@ -325,22 +329,40 @@ class Templates(Case):
                        (["live"], ["blue"], {"ALIAS": f"{arn}F:live", "VERSION": f"{arn}F", "OWN": f"{arn}G:blue"}))
             self.check("asynchronous invocations", (made["F"]["asynchronous"], made["G"]["asynchronous"]),
                        ({"retries": 0, "maximumAge": 60, "onFailure": "G"}, {"retries": 1}))
-            wanted = ('G: ignores DeadLetterQueue, arn:aws:sqs:us-east-1:1:dead, which would get each event that '
-                      'failed: set "asynchronous": {"onFailure": "FUNCTION"} of it in lambda_local.json')
-            self.check("a queue for dead letters", wanted in said, shown=said)
-            write(folder, {"lambda_local.json": {"functions": {"G": {"asynchronous": {"onFailure": "F"}}}}})
+            dead = "arn:aws:sqs:us-east-1:123456789012:dead"
+            wanted = (f'G: ignores DeadLetterQueue, {dead}, which would get each event that failed: set '
+                      'AWS_ENDPOINT_URL_SQS (docs/services.md), or "asynchronous": {"deadLetter": {"arn": .., "url": '
+                      "..}} of it in lambda_local.json")
+            self.check("a queue for dead letters, of no server", wanted in said, shown=said)
+            with patch.dict(os.environ, {"AWS_ENDPOINT_URL_SQS": "http://127.0.0.1:5000/"}):
+                made, _, said = made_by(os.path.join(folder, "template.json"))
+            self.check("a queue for dead letters, of a server", (made["G"]["asynchronous"], "DeadLetter" in said), (
+                {"retries": 1, "deadLetter": {"arn": dead, "url": "http://127.0.0.1:5000"}}, False), shown=said)
+            write(folder, {"lambda_local.json": {"functions": {"G": {"asynchronous": {"deadLetter": {
+                "arn": dead, "url": "http://127.0.0.1:1"}}}}}})
             self.check("what that line says to write", made_by(os.path.join(folder, "template.json"))[0]["G"][
-                "asynchronous"], {"retries": 1, "onFailure": "F"})
+                "asynchronous"], {"retries": 1, "deadLetter": {"arn": dead, "url": "http://127.0.0.1:1"}})
         whole = {"service": "s", "provider": {"runtime": "provided"}, "functions": {
-            "f": {"handler": "x", "maximumRetryAttempts": 2, "destinations": {"onFailure": {"Ref": "GLambdaFunction"}},
-                  "onError": "arn:aws:sns:us-east-1:1:dead"},
+            "f": {"handler": "x", "maximumRetryAttempts": 2, "destinations": {
+                "onFailure": {"Ref": "GLambdaFunction"}, "onSuccess": {"type": "sqs", "arn": f"{SQS}good"}},
+                  "onError": "arn:aws:sns:us-east-1:123456789012:dead"},
             "g": {"handler": "x", "package": {"artifact": "g.zip"}}}}
         with folder_of(serverless_0_json=whole, g_0_zip="") as folder:
-            made, _, said = made_by(os.path.join(folder, "serverless.json"))
+            with patch.dict(os.environ, {"AWS_ENDPOINT_URL": "http://127.0.0.1:5000"}):
+                made, _, said = made_by(os.path.join(folder, "serverless.json"))
             self.check("Serverless", (made["s-dev-f"].get("asynchronous"), made["s-dev-g"]["directory"]),
-                       ({"retries": 2, "onFailure": "s-dev-g"}, "g.zip"), shown=said)
-            self.check("onError of Serverless", "ignores onError, arn:aws:sns:us-east-1:1:dead, which would" in said,
-                       shown=said)
+                       ({"retries": 2, "onFailure": "s-dev-g",
+                         "onSuccess": {"arn": f"{SQS}good", "url": "http://127.0.0.1:5000"},
+                         "deadLetter": {"arn": "arn:aws:sns:us-east-1:123456789012:dead",
+                                        "url": "http://127.0.0.1:5000"}}, "g.zip"), shown=said)
+        for what, given, wanted in (
+                ("OnSuccess", f"{SQS}q.fifo", "it is not a function here, a queue or a topic"),
+                ("OnFailure", "arn:aws:events:us-east-1:123456789012:event-bus/b", "it is not a function here, a queue"),
+                ("OnSuccess", "nobody", "it is not a function here")):
+            with folder_of(template_0_json={"Resources": {"F": sam(EventInvokeConfig={"DestinationConfig": {
+                    what: {"Destination": given}}})}}) as folder:
+                made, _, said = made_by(os.path.join(folder, "template.json"))
+                self.check(f"{what}, {given}", (made["F"].get("asynchronous"), wanted in said), (None, True), shown=said)
 
     def test_hostile(self):
         """A template has no file read outside of its folder, and does not stop the tool."""

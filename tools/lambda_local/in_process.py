@@ -19,7 +19,7 @@ import urllib.request
 from typing import TYPE_CHECKING, Any, Callable, Dict, List, Mapping, Optional, Tuple, Union
 
 from .clock.own import OwnClock
-from .configuration import OF_FUNCTION, Kind, Members, is_whole, mistakes_of, shown
+from .configuration import OF_FUNCTION, Kind, Members, is_whole, mistakes_of
 from .paths import bundled_module
 from .sandbox import Changes, Sandbox
 from .service import Service
@@ -158,22 +158,26 @@ class Runtime(threading.Thread):
             return failure
 
 
-def front_of(asynchronous: Union[None, bool, Members], members: Mapping[str, Members]) -> "Optional[Front]":
+def front_of(asynchronous: Union[None, bool, Members], members: Mapping[str, Members],
+             keeps_credentials: bool) -> "Optional[Front]":
     """What takes invocations of the type Event, by the members of UP.json's "asynchronous"; None if none is wanted."""
     if asynchronous is None or asynchronous is False:
         return None
     from .front.front import Front  # (asyncio takes a while to import, and few tests need it)
-    from .front.settings import OF_ASYNCHRONOUS, Settings, asynchronous_of
+    from .front.asynchronous import asynchronous_of, mistakes, refused
+    from .front.outbox import Outbox
+    from .front.settings import Settings
     if asynchronous is not True and not isinstance(asynchronous, dict):
         raise ValueError(f"asynchronous must be True, or a dict such as {{\"retries\": 0}}, not {asynchronous!r}")
     given = {} if asynchronous is True else asynchronous
-    for mistake in mistakes_of(given, OF_ASYNCHRONOUS, "asynchronous: "):
+    for mistake in mistakes(given, members, "asynchronous: "):
         raise ValueError(mistake)
-    if given.get("onFailure", next(iter(members))) not in members:
-        raise ValueError(f"asynchronous: onFailure: there is no function {shown(given['onFailure'])}")
+    settings = asynchronous_of(given)
+    for mistake in refused(settings, {}, keeps_credentials):
+        raise ValueError(mistake)
     functions = tuple({"name": name, **own} for name, own in members.items())
-    made = Settings(0, asynchronous_of(given), urls={}, apis={}, functions=functions, folder=os.getcwd())
-    return Front(made, "start()", DRAIN_SECONDS, tell_of_events)
+    made = Settings(0, settings, urls={}, apis={}, functions=functions, folder=os.getcwd())
+    return Front(made, "start()", DRAIN_SECONDS, tell_of_events, Outbox(keeps_credentials))
 
 
 def tell_of_events(who: str, text: str, level: str = "info", kind: str = "up", always: bool = False,
@@ -214,7 +218,7 @@ class LambdaLocal(Troubled):
         if not members:
             raise ValueError("start() needs a function: start(NAME=handler)")
         parts = [function_of(name, member, handlers.get(name)) for name, member in members.items()]
-        variables, front = variables_of(members), front_of(asynchronous, members)
+        variables, front = variables_of(members), front_of(asynchronous, members, keep_credentials)
         configuration: Members = {"account": "123456789012", "region": "us-east-1",
                                   "functions": [part for part, _ in parts]}
         if self.salt is not None:

@@ -7,7 +7,7 @@ import functools
 import os
 import re
 import threading
-from typing import Any, Dict, Optional
+from typing import Any, Dict, Mapping, Optional, Tuple
 from urllib.parse import urlsplit
 
 from .aws_hosts import is_of_aws
@@ -16,6 +16,7 @@ from .reports import shorten
 CONNECT_SECONDS = 2
 ANSWER_SECONDS = 10.0  # for an answer that a server does not hold back on purpose
 ARN = re.compile(r"arn:[a-z-]{1,32}:(sqs|sns):([a-z0-9-]{1,64}):(\d{12}):([A-Za-z0-9_.-]{1,256})")
+Attributes = Mapping[str, Tuple[str, str]]  # of a message: the type of each, and its value
 EXAMPLE = "arn:aws:sqs:us-east-1:123456789012:failed"
 LOCK = threading.Lock()  # around what makes clients
 
@@ -24,10 +25,10 @@ class NoClient(Exception):
     """boto3 is not here."""
 
 
-def client_of(service: str, endpoint: str, region: str, keeps_credentials: bool,
+def client_of(service: str, endpoint: Optional[str], region: str, keeps_credentials: bool,
               answer_seconds: float = ANSWER_SECONDS) -> Any:
-    """A client of this server's API of a service, such as "sqs", "kinesis" or "dynamodbstreams". It sends no request
-    twice. Several threads may use it."""
+    """A client of this server's API of a service, such as "sqs", "kinesis" or "dynamodbstreams"; without a server, of
+    AWS's own. It sends no request twice. Several threads may use it."""
     try:
         from botocore.config import Config  # type: ignore  # (what boto3 is made of)
     except ImportError:
@@ -82,6 +83,13 @@ def is_endpoint(url: str) -> bool:
         return False
 
 
+def endpoint_of(service: str) -> Optional[str]:
+    """The local address that a client of this service would take from the environment; none if it would call AWS."""
+    url = os.environ.get(f"AWS_ENDPOINT_URL_{service.upper()}") or os.environ.get("AWS_ENDPOINT_URL") or ""
+    host = host_of(url)
+    return url.rstrip("/") if host and not is_of_aws(host) else None
+
+
 def is_refused(url: str, keeps_credentials: bool) -> bool:
     """Whether a request to this address would go to AWS itself, which nobody has asked for."""
     return not keeps_credentials and is_of_aws(host_of(url))
@@ -91,7 +99,8 @@ class Destination:
     """A queue or a topic of a server, by its ARN, to which texts are sent (a function's `onFailure`). Any thread may
     send; a client is made with the first text."""
 
-    def __init__(self, arn: str, endpoint: str, keeps_credentials: bool) -> None:
+    def __init__(self, arn: str, endpoint: Optional[str], keeps_credentials: bool) -> None:
+        """Without an endpoint it is at AWS itself."""
         found = ARN.fullmatch(arn)
         if found is None:
             raise ValueError(f"{arn} is not the ARN of an SQS queue or an SNS topic")
@@ -108,16 +117,19 @@ class Destination:
                 self._client = client_of(self.service, self.endpoint, self.region, self.keeps_credentials)
             return self._client
 
-    def send(self, text: str) -> None:
+    def send(self, text: str, attributes: Attributes = {}) -> None:
         """Sends it once. Raises NoClient, or whatever the client raises: `one_line` has the words."""
+        given = {name: {"DataType": kind, "StringValue": value} for name, (kind, value) in attributes.items()}
         if self.service == "sns":
-            self.client.publish(TopicArn=self.arn, Message=text)
+            self.client.publish(TopicArn=self.arn, Message=text, MessageAttributes=given)
         else:
-            self.client.send_message(QueueUrl=self.url(), MessageBody=text)
+            self.client.send_message(QueueUrl=self.url(), MessageBody=text, MessageAttributes=given)
 
     def url(self) -> str:
-        """The queue's address, by its server."""
+        """The queue's address, by its server, which may not send texts to AWS itself."""
         if self._url is None:
-            self._url = str(self.client.get_queue_url(QueueName=self.name,
-                                                      QueueOwnerAWSAccountId=self.account)["QueueUrl"])
+            url = str(self.client.get_queue_url(QueueName=self.name, QueueOwnerAWSAccountId=self.account)["QueueUrl"])
+            if is_refused(url, self.keeps_credentials):
+                raise ValueError(f"its server says that it is at {host_of(url)}, which is AWS itself")
+            self._url = url
         return self._url

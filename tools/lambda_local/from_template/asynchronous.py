@@ -1,19 +1,25 @@
-"""What a template says of a function's asynchronous invocations, as UP.json has it: retries, age and destination
+"""What a template says of a function's asynchronous invocations, as UP.json has it: retries, age and destinations
 (SAM's EventInvokeConfig, AWS::Lambda::EventInvokeConfig, and the members that Serverless has)."""
 from typing import List, Optional
 
 from ..configuration import Members
+from ..front.asynchronous import OF_RECORDS
 from ..front.events import NAMED
+from ..other_server import ARN, endpoint_of, is_endpoint
 from .cloudformation import is_wanted
 from .messages import VALUES, excerpt, tell
 from .objects import Object, Tell
+from .services import PAGE
 from .values import Scope, is_scalar, members_of, text_of
 
 READ = {"EventInvokeConfig", "DeadLetterQueue", "DeadLetterConfig", "maximumRetryAttempts", "maximumEventAge",
         "destinations", "onError"}
 CONFIG = "AWS::Lambda::EventInvokeConfig"
-INSTEAD = (f'set "asynchronous": {{"onFailure": "FUNCTION"}} of it in {VALUES} to have a function invoked with the '
-           "record of each")
+# The members of UP.json, by those of a template.
+MEMBERS = {"OnFailure": "onFailure", "OnSuccess": "onSuccess", "onFailure": "onFailure", "onSuccess": "onSuccess",
+           "DeadLetterQueue": "deadLetter", "DeadLetterConfig": "deadLetter", "onError": "deadLetter"}
+WHAT = {"onFailure": "the record of each event that failed", "onSuccess": "the record of each event that succeeded",
+        "deadLetter": "each event that failed"}
 
 
 def function_in(given: object, scope: Scope) -> Optional[str]:
@@ -29,26 +35,49 @@ def function_in(given: object, scope: Scope) -> Optional[str]:
     return scope.functions.get(str(name), name) if name in {*scope.functions, *scope.functions.values()} else None
 
 
-def destination(given: object, what: str, scope: Scope, tell_: Tell) -> Optional[str]:
-    name = function_in(given, scope)
-    if name is None and given is not None:
-        tell_(f"ignores {what}, {excerpt(scope.evaluate_or_reason(given).value)}, which is not a function here: "
-              f"{INSTEAD}")
-    return name
+def remote_in(given: object, scope: Scope) -> Optional[str]:
+    """The ARN of the queue or the topic that a destination is; none if it is none that Lambda sends to."""
+    value = scope.evaluate_or_reason(given).value
+    is_one = isinstance(value, str) and ARN.fullmatch(value) is not None and not value.endswith(".fifo")
+    return str(value) if is_one else None
+
+
+def destination(given: object, what: str, scope: Scope, tell_: Tell) -> Members:
+    """The member for a destination. One that is a queue or a topic is at the server that AWS_ENDPOINT_URL_SQS or its like
+    names; without one it is a value to supply, which is said."""
+    member = MEMBERS[what]
+    name = function_in(given, scope) if member in OF_RECORDS else None
+    if given is None or name is not None:
+        return {} if name is None else {member: name}
+    arn, said = remote_in(given, scope), excerpt(scope.evaluate_or_reason(given).value)
+    if arn is None:
+        kinds = "a function here, a queue or a topic" if member in OF_RECORDS else "a queue or a topic"
+        tell_(f"ignores {what}, {said}, which would get {WHAT[member]}: it is not {kinds}: set \"asynchronous\": "
+              f"{{\"{member}\": ..}} of it in {VALUES}")
+        return {}
+    service = arn.split(":")[2]
+    endpoint = endpoint_of(service)
+    if endpoint is None or not is_endpoint(endpoint):
+        tell_(f"ignores {what}, {said}, which would get {WHAT[member]}: set AWS_ENDPOINT_URL_{service.upper()} ({PAGE}), "
+              f"or \"asynchronous\": {{\"{member}\": {{\"arn\": .., \"url\": ..}}}} of it in {VALUES}")
+        return {}
+    return {member: {"arn": arn, "url": endpoint}}
 
 
 def configured(given: Object, scope: Scope, tell_: Tell) -> Members:
     """By the members that SAM and CloudFormation have in common."""
     destinations = Object(given.raw("DestinationConfig"), "DestinationConfig", scope, tell_)
-    failure = Object(destinations.raw("OnFailure"), "OnFailure", scope, tell_)
-    failure.without_meaning(["Type"])
-    target = failure.raw("Destination")
     made = {"retries": given.whole("MaximumRetryAttempts", 0, 2),
-            "maximumAge": given.whole("MaximumEventAgeInSeconds", 60, 21600),
-            "onFailure": destination(target, "OnFailure", scope, tell_)}
-    for one in (failure, destinations, given):
+            "maximumAge": given.whole("MaximumEventAgeInSeconds", 60, 21600)}
+    found = {name: value for name, value in made.items() if value is not None}
+    for name in ("OnFailure", "OnSuccess"):
+        one = Object(destinations.raw(name), name, scope, tell_)
+        one.without_meaning(["Type"])
+        found.update(destination(one.raw("Destination"), name, scope, tell_))
         one.close()
-    return {name: value for name, value in made.items() if value is not None}
+    for rest in (destinations, given):
+        rest.close()
+    return found
 
 
 def of_function(properties: Members, scope: Scope, tell_: Tell) -> Optional[Members]:
@@ -56,27 +85,19 @@ def of_function(properties: Members, scope: Scope, tell_: Tell) -> Optional[Memb
     made = configured(Object(properties.get("EventInvokeConfig"), "EventInvokeConfig", scope, tell_), scope, tell_)
     own = Object({name: properties[name] for name in READ if name in properties}, "the function", scope, tell_)
     retries, age = own.whole("maximumRetryAttempts", 0, 2), own.whole("maximumEventAge", 60, 21600)
-    destinations = Object(own.raw("destinations"), "destinations", scope, tell_)
-    failure = destinations.raw("onFailure")
-    if isinstance(failure, dict) and "arn" in failure:
-        failure = failure["arn"]
     made.update({} if retries is None else {"retries": retries})
     made.update({} if age is None else {"maximumAge": age})
-    if failure is not None and (name := destination(failure, "onFailure", scope, tell_)) is not None:
-        made["onFailure"] = name
+    destinations = Object(own.raw("destinations"), "destinations", scope, tell_)
+    for name in ("onFailure", "onSuccess"):
+        target = destinations.raw(name)
+        made.update(destination(target["arn"] if isinstance(target, dict) and "arn" in target else target, name, scope,
+                                tell_))
     destinations.close()
-    tell_dead_letters(properties, scope, tell_)
-    return made or None
-
-
-def tell_dead_letters(properties: Members, scope: Scope, tell_: Tell) -> None:
-    """A queue or a topic for events that failed, which have no destination here but a function."""
     for name in ("DeadLetterQueue", "DeadLetterConfig", "onError"):
         given = scope.chosen(properties.get(name))
         target = given if name == "onError" else members_of({name: given}, name).get("TargetArn")
-        if target is not None:
-            tell_(f"ignores {name}, {excerpt(scope.evaluate_or_reason(target).value)}, which would get each event "
-                  f"that failed: {INSTEAD}")
+        made.update(destination(target, name, scope, tell_))
+    return made or None
 
 
 def add_configs(functions: List[Members], scope: Scope) -> None:

@@ -4,9 +4,10 @@ import re
 from typing import Iterator, List, Optional
 
 from ..configuration import Members
+from ..other_server import endpoint_of
 from .messages import VALUES, excerpt
 from .objects import Object, Tell, members_by_key
-from .services import PAGE, endpoint_of
+from .services import PAGE
 from .values import Scope
 
 ARN = re.compile(r"arn:[^:]*:sqs:[^:]*:([^:]*):(.+)")

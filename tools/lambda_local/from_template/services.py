@@ -1,12 +1,10 @@
 """The names, ARNs and addresses of resources that another service serves: a table, a queue, a topic, a bucket, a state
 machine (the return values of each type, CloudFormation Template Reference)."""
-import os
 import re
 from typing import TYPE_CHECKING, Iterator, NamedTuple, Optional
-from urllib.parse import urlsplit
 
-from ..aws_hosts import is_of_aws
 from ..configuration import Members
+from ..other_server import endpoint_of as endpoint_of  # (which others import from here)
 
 if TYPE_CHECKING:
     from .values import Scope
@@ -38,16 +36,6 @@ KINDS = {
 }
 NO_LABEL = "/stream/1970-01-01T00:00:00.000"  # the time of a table's stream, which its server alone knows
 ARNS = {"AWS::SNS::Topic": "TopicArn"}  # by which attribute a type has its ARN, if that is not Arn
-
-
-def endpoint_of(service: str) -> Optional[str]:
-    """The local address that a client of this service would take from the environment; none if it would call AWS."""
-    url = os.environ.get(f"AWS_ENDPOINT_URL_{service.upper()}") or os.environ.get("AWS_ENDPOINT_URL") or ""
-    try:
-        host = urlsplit(url).hostname or ""
-    except ValueError:
-        return None
-    return url.rstrip("/") if host and not is_of_aws(host) else None
 
 
 def name_of(key: str, resource: Members, scope: "Scope") -> Optional[str]:

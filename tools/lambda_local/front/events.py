@@ -1,14 +1,15 @@
-"""One asynchronous invocation, and the record of one that failed (Developer Guide, "Retaining records of asynchronous
-invocations")."""
+"""One asynchronous invocation, and what is sent of one that has ended: its record, and of one that failed its payload
+with attributes (Developer Guide, "Capturing records of Lambda asynchronous invocations")."""
 import json
 import re
-from typing import Dict, Optional
+from typing import Dict, Mapping, Optional
 from urllib.parse import unquote
 
 from ..clock.asked import time_of
 from ..configuration import Members
 from ..history.entries import request_identifier
 from ..http1 import Headers
+from ..json_reader import NotJson, read_json
 
 NAMED = re.compile(r"(?:.*:)?function:([^:]+)(?::[^:]+)?|([^:]+)(?::[^:]+)?")
 PATH = re.compile(r"/2015-03-31/functions/([^/?]+)/invocations(?:\?.*)?")
@@ -41,15 +42,22 @@ class Identifiers:
         return f"{made[:19]}9{made[20:]}"
 
 
+MOST_MESSAGE = 1024  # bytes of an error's message that a dead letter has
+THROTTLED = (429, "Rate Exceeded.")
+
+
 class Event:
     def __init__(self, identifier: str, function: str, target: str, headers: Headers, payload: bytes,
-                 since: int) -> None:
-        """`since` is the moment at which it is taken."""
+                 since: int, depth: int = 0) -> None:
+        """`since` is the moment at which it is taken; `depth` the records that led to it, each the event of the next."""
         self.identifier, self.function, self.target, self.headers = identifier, function, target, headers
         self.payload, self.since, self.attempts, self.throttles = payload, since, 0, 0
-        # What the function reported at the last attempt, if its record needs it and it is kept
+        self.depth = depth
+        # What the function returned or reported at the last attempt, if its record needs it and it is kept
         self.result: Optional[bytes] = None
-        self.is_running = self.has_failed = False
+        self.is_running = self.has_failed = self.has_returned = False
+        self.error = THROTTLED  # of a dead letter
+        self.is_sent = False  # to where it goes in the end
         self.waits = False  # for its next attempt to be due
 
     @property
@@ -64,12 +72,18 @@ class Event:
                                                  "condition": condition,
                                                  "approximateInvokeCount": self.attempts}).encode(),
                    "requestPayload": in_json(self.payload)}
-        if self.has_failed:
+        if self.has_failed or self.has_returned:
+            unhandled = {"functionError": "Unhandled"} if self.has_failed else {}
             members["responseContext"] = json.dumps({"statusCode": 200, "executedVersion": "$LATEST",
-                                                     "functionError": "Unhandled"}).encode()
+                                                     **unhandled}).encode()
         if self.result is not None:
             members["responsePayload"] = in_json(self.result)
         return b"{" + b", ".join(b'"%b": %b' % (name.encode(), value) for name, value in members.items()) + b"}"
+
+    def attributes(self) -> Mapping[str, object]:
+        """Those of its dead letter."""
+        code, message = self.error
+        return {"RequestID": self.identifier, "ErrorCode": code, "ErrorMessage": message}
 
 
 def in_json(body: bytes) -> bytes:
@@ -80,6 +94,17 @@ def in_json(body: bytes) -> bytes:
         return json.dumps(value, ensure_ascii=False).encode(errors="replace") if HALF.search(body) else body
     except (ValueError, RecursionError):
         return json.dumps(body.decode(errors="replace"), ensure_ascii=False).encode()
+
+
+def message_in(report: bytes) -> str:
+    """The beginning of the message that a function reported of its failure, else of the whole report."""
+    try:
+        value = read_json(report)
+    except NotJson:
+        value = None
+    said = value.get("errorMessage") if isinstance(value, dict) else None
+    text = said if isinstance(said, str) else report.decode(errors="replace")
+    return text.encode(errors="replace")[:MOST_MESSAGE].decode(errors="ignore")
 
 
 def refuse(constant: str) -> object:

@@ -15,6 +15,7 @@ from .client import Client
 from .events import Identifiers
 from .invoke import InvokePort
 from .management import Management
+from .outbox import NO_CLIENT, Outbox, has_client
 from .places import Places, places_for
 from .queue import Queue
 from .server import Server
@@ -77,9 +78,11 @@ class Other(Component, Protocol):
 class Front(threading.Thread):
     """Its ports are open from the start; requests are answered once it has the service and is started."""
 
-    def __init__(self, settings: Settings, path: str, drain_seconds: float, log: Log) -> None:
+    def __init__(self, settings: Settings, path: str, drain_seconds: float, log: Log,
+                 outbox: Optional[Outbox] = None) -> None:
+        """Without an outbox nothing is sent to queues and topics."""
         super().__init__(name="front", daemon=True)
-        self.settings, self.drain_seconds, self.log = settings, drain_seconds, log
+        self.settings, self.drain_seconds, self.log, self.outbox = settings, drain_seconds, log, outbox
         self.queue: Optional[Queue] = None
         self.invoke_listener = listener_at(settings.invoke_port, "invokePort", path)
         self.urls = {function: listener_at(address.port, f"url of function {function}", path)
@@ -120,7 +123,7 @@ class Front(threading.Thread):
         self.places = Places(places_for(sum(len(one["ports"]) for one in configuration["functions"]),
                                         sum(other.descriptors for other in others)))
         port = InvokePort(self.client, self.settings, configuration, self.drain_seconds, self.log, self.places,
-                          self.clock, tails)
+                          self.clock, tails, self.outbox)
         self.port, self.queue, identifiers = port, port.queue, port.identifiers
         urls = {function: url_of(listener) for function, listener in self.urls.items()}
         streams = streams or Streams()
@@ -130,7 +133,16 @@ class Front(threading.Thread):
         if self.urls or self.api_listeners:
             self.serve_gateways(identifiers, streams)
         self.servers += others
+        self.tell_of_client()
         self.start()
+
+    def tell_of_client(self) -> None:
+        """Says so at the start if what has ended cannot be sent on."""
+        for name, settings in (("up", self.settings.asynchronous), *self.settings.of_functions.items()):
+            for member, remote in settings.remotes() if settings and self.outbox else ():
+                if not has_client():
+                    self.log(name, f"{member}: nothing can be sent to {remote.name}: {NO_CLIENT}", level="warning",
+                             kind="event")
 
     def serve_gateways(self, identifiers: Identifiers, streams: Streams) -> None:
         """Function URLs, and APIs."""

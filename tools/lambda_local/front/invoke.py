@@ -15,6 +15,7 @@ from .errors import of_json, of_service, of_user, stop_reply, throttle_reply
 from .events import Event, Identifiers, function_of, refuse
 from .followers import Followers, is_following
 from .http import Malformed, Reply, Request, TooLong, first
+from .outbox import Outbox
 from .origins import BROKEN_BODY, FOREIGN_CODING, Refusal, further_hosts, refusal_of
 from .places import Places
 from .queue import Full, Queue
@@ -35,7 +36,7 @@ class InvokePort:
     """Without settings of asynchronous invocations, the service refuses those."""
 
     def __init__(self, client: Client, settings: Settings, configuration: Members, drain_seconds: float, log: Log,
-                 places: Places, clock: Clock, tails: Optional[Tails] = None) -> None:
+                 places: Places, clock: Clock, tails: Optional[Tails] = None, outbox: Optional[Outbox] = None) -> None:
         self.tails, self.followers, self.clock = tails, Followers(places), clock
         self.client, self.drain_seconds, self.log = client, drain_seconds, log
         self.identifiers, self.hosts = Identifiers(configuration), further_hosts()
@@ -44,7 +45,7 @@ class InvokePort:
         # A bundled runtime makes a root of the request identifier if there is none, and others do not.
         self.rootless = {member["name"] for member in settings.functions if "runtime" not in member}
         self.queue = Queue(client, settings.asynchronous, configuration, self.identifiers, log, clock,
-                           settings.of_functions) if settings.asynchronous else None
+                           settings.of_functions, outbox) if settings.asynchronous else None
         self.budget = Budget()
 
     async def handle(self, request: Request) -> Reply:

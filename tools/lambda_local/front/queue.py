@@ -3,20 +3,24 @@ retries with asynchronous invocation")."""
 import asyncio
 import contextlib
 from collections import deque
-from typing import Callable, Deque, Dict, Mapping, Optional, Set, Union
+from typing import Callable, Deque, Dict, List, Mapping, Optional, Set, Union
 
 from ..clock.followed import Clock, Timer
 from ..configuration import Members
 from ..outgoing import Log
+from .asynchronous import Asynchronous, Receiver, Remote
 from .client import Client, Unreachable
 from .errors import is_stop
-from .events import Event, Identifiers, target_of
+from .events import Event, Identifiers, message_in, target_of
 from .http import Headers, Malformed, first
-from .settings import Asynchronous
+from .outbox import Outbox, attributes_of
 from .wire import Gone
 
 MOST_EVENTS, MOST_BYTES = 1000, 64 << 20  # that wait or run: payloads, and the results that records will have
 FIRST_PAUSE, LONGEST_PAUSE = 0.05, 5.0  # seconds, after a throttle; each further one in a row doubles it
+MOST_DEPTH = 16  # records that lead to one another, as a loop of functions does
+MOST_OF_TOPIC = 256 << 10  # bytes of a record that a topic gets
+SUCCESS = "Success"  # the condition of the record of an event that succeeded
 LAST_SECONDS = 1  # for the answers of a service that has ended
 GROWS_AFTER = 8  # successes in a row, until one more event of a function is tried at once
 
@@ -50,8 +54,11 @@ class Lane:
 
 class Queue:
     def __init__(self, client: Client, settings: Asynchronous, configuration: Members, identifiers: Identifiers,
-                 log: Log, clock: Clock, of_functions: Mapping[str, Asynchronous] = {}) -> None:
+                 log: Log, clock: Clock, of_functions: Mapping[str, Asynchronous] = {},
+                 outbox: Optional[Outbox] = None) -> None:
+        """Without an outbox nothing is sent to queues and topics."""
         self.client, self.settings, self.identifiers, self.log = client, settings, identifiers, log
+        self.outbox = outbox
         self.clock = clock  # by which retries, pauses after throttles and the age of events are counted
         self.of_functions = of_functions  # those with settings of their own
         self.arn = f"arn:aws:lambda:{configuration['region']}:{configuration['account']}:function:"
@@ -100,11 +107,11 @@ class Queue:
         self.size += event.size
         self.enqueue(event)
 
-    def keep_result(self, event: Event, result: bytes) -> None:
-        """Keeps what a failed function reported for the record, if there will be one, and room for it."""
+    def keep_result(self, event: Event, result: bytes, has_failed: bool) -> None:
+        """Keeps what a function returned or reported for the record, if there will be one, and room for it."""
         self.drop_result(event)
-        event.has_failed = True
-        if not self.goes_on(event):
+        event.has_failed, event.has_returned = has_failed, not has_failed
+        if not self.takers(event, "" if has_failed else SUCCESS):
             return
         if self.size + len(result) > MOST_BYTES:
             return self.say(event, f"has a result of {len(result)} bytes, which its record will not have: "
@@ -114,12 +121,18 @@ class Queue:
 
     def drop_result(self, event: Event) -> None:
         self.size -= len(event.result or b"")
-        event.result, event.has_failed = None, False
+        event.result, event.has_failed, event.has_returned = None, False, False
 
-    def goes_on(self, event: Event) -> bool:
-        """Whether its record has a destination. (A destination that fails has none.)"""
-        destination = self.settings_of(event).on_failure
-        return bool(destination) and event.function != destination
+    def takers(self, event: Event, condition: str) -> List[Receiver]:
+        """Who gets its record. (A function that is a destination gets none of its own.)"""
+        settings = self.settings_of(event)
+        found = settings.on_success if condition == SUCCESS else settings.on_failure
+        is_elsewhere = isinstance(found, Remote)
+        is_there = self.outbox is not None if is_elsewhere else found and found != event.function
+        return [found] if found and is_there else []
+
+    def dead_letter_of(self, event: Event, condition: str) -> Optional[Remote]:
+        return self.settings_of(event).dead_letter if self.outbox and condition != SUCCESS else None
 
     def enqueue(self, event: Event, at_the_front: bool = False) -> None:
         lane = self.lanes[event.function]
@@ -192,17 +205,21 @@ class Queue:
         invocation = first(headers, "x-amzn-requestid")
         if status is None:
             self.drop_result(event)
+            event.error = 500, "The connection to the service broke off."
             self.retry(event, "has no outcome, since the service broke its connection off")
         elif status != 200:
             self.say(event, f"is refused: {status} {body.decode(errors='replace')[:200]}", "error", "refused",
                      invocation)
             self.forget(event)
         elif first(headers, "x-amz-function-error") is None:
+            self.keep_result(event, body, has_failed=False)
             self.say(event, f"ok after {1000 * self.age(event):.0f} ms"
-                     + (f", attempt {event.attempts}" if event.attempts > 1 else ""), "ok", "ok", invocation)
-            self.forget(event)
+                     + (f", attempt {event.attempts}" if event.attempts > 1 else "") + self.leads_to(event, SUCCESS),
+                     "ok", "ok", invocation)
+            self.pass_on(event, SUCCESS)
         else:
-            self.keep_result(event, body)
+            self.keep_result(event, body, has_failed=True)
+            event.error = 200, message_in(body)
             self.retry(event, "failed", invocation)
 
     def retry(self, event: Event, what: str, invocation: Optional[str] = None) -> None:
@@ -221,29 +238,74 @@ class Queue:
         self.enqueue(event)
 
     def give_up(self, event: Event, condition: str, why: str, invocation: Optional[str] = None) -> None:
-        """The destination gets its record, which takes the place of the event; a destination's own failure ends
-        here."""
-        goes_on = self.goes_on(event)
-        self.say(event, f"{why}: " + (f"its record goes to {self.settings_of(event).on_failure}" if goes_on
-                                      else "it is dropped"), "error", condition, invocation)
-        self.forget(event)
-        if goes_on:
-            self.put_record(event, condition)
+        self.say(event, why + (self.leads_to(event, condition) or ": it is dropped"), "error", condition, invocation)
+        self.pass_on(event, condition)
 
-    def put_record(self, event: Event, condition: str) -> None:
-        arn, destination = f"{self.arn}{event.function}:$LATEST", self.settings_of(event).on_failure
-        assert destination is not None
+    def leads_to(self, event: Event, condition: str) -> str:
+        """Where it goes now that it has ended, in words."""
+        dead = self.dead_letter_of(event, condition)
+        found = [f"its record goes to {one.name if isinstance(one, Remote) else one}"
+                 for one in self.takers(event, condition)] + ([f"its payload goes to {dead.name}"] if dead else [])
+        return ": " + " and ".join(found) if found else ""
+
+    def pass_on(self, event: Event, condition: str) -> None:
+        """What has ended goes to its destinations: to a function as an event that takes its place, to a queue or a topic
+        from the place that it holds until it has been sent."""
+        takers, dead = self.takers(event, condition), self.dead_letter_of(event, condition)
+        remotes = [one for one in takers if isinstance(one, Remote)]
+        if not dead and not remotes:
+            self.forget(event)
+        for function in takers:
+            if isinstance(function, str):
+                self.put_record(event, condition, function)
+        if dead or remotes:
+            task = asyncio.get_running_loop().create_task(self.send(event, condition, remotes, dead))
+            self.tasks.add(task)
+            task.add_done_callback(self.tasks.discard)
+
+    def put_record(self, event: Event, condition: str, destination: str) -> None:
+        if event.depth >= MOST_DEPTH:
+            return self.say(event, f"has no record for {destination}: {MOST_DEPTH} records led to it, each the event of "
+                                   "the next", "error", "lost")
         try:
-            for result in (event.result, None):
-                event.result = result
-                record = event.record(condition, arn, self.clock.now())
-                if self.size + len(record) <= MOST_BYTES:
-                    break
-            made = Event(self.identifiers.next(destination), destination, target_of(destination), [], record,
-                         self.clock.now())
-            self.put(made)
+            record = self.record_of(event, condition)
+            self.put(Event(self.identifiers.next(destination), destination, target_of(destination), [], record,
+                           self.clock.now(), event.depth + 1))
         except Full:
             self.say(event, f"has no record, for which there is no room: {self.size} bytes are held", "error", "lost")
+
+    def record_of(self, event: Event, condition: str, most: Optional[int] = None) -> bytes:
+        """Its record; without the result, if there is no room for both."""
+        arn = f"{self.arn}{event.function}:$LATEST"
+        record = event.record(condition, arn, self.clock.now())
+        if event.result is not None and (self.size + len(record) > MOST_BYTES or len(record) > (most or len(record))):
+            self.size -= len(event.result) if event.identifier in self.events else 0
+            event.result = None
+            record = event.record(condition, arn, self.clock.now())
+        return record
+
+    async def send(self, event: Event, condition: str, remotes: List[Remote], dead: Optional[Remote]) -> None:
+        """Sends its record, and its payload as a dead letter."""
+        assert self.outbox is not None
+        event.is_sent = True
+        records = [self.record_of(event, condition, MOST_OF_TOPIC if remote.service == "sns" else None)
+                   for remote in remotes]
+        held = sum(map(len, records))
+        self.size += held
+        try:
+            for remote, record in zip(remotes, records):
+                self.tell_of(event, "record", remote, await self.outbox.send(remote, record.decode(errors="replace"), {}))
+            if dead:
+                payload, attributes = event.payload.decode(errors="replace"), attributes_of(event.attributes())
+                self.tell_of(event, "payload", dead, await self.outbox.send(dead, payload, attributes))
+        finally:
+            self.size -= held
+        self.forget(event)
+
+    def tell_of(self, event: Event, what: str, remote: Remote, why: Optional[str]) -> None:
+        """What could not be sent."""
+        if why is not None:
+            self.say(event, f"could not send its {what} to {remote.name}: {why}: it is lost", "error", "lost")
 
     def forget(self, event: Event) -> None:
         if self.events.pop(event.identifier, None):
@@ -274,5 +336,6 @@ class Queue:
             task.cancel()
         await asyncio.gather(*self.tasks, return_exceptions=True)
         for event in self.events.values():
-            running = f", while attempt {event.attempts + 1} runs" if event.is_running else ""
+            running = f", while attempt {event.attempts + 1} runs" if event.is_running else (
+                ", before it was sent on" if event.is_sent else "")
             self.say(event, f"is lost by the stop, after {event.attempts} attempts{running}", "error", "lost")

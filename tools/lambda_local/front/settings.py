@@ -4,29 +4,14 @@ from typing import Any, Dict, Iterator, List, Mapping, NamedTuple, Optional, Tup
 
 from ..configuration import PORT, Kind, Members, is_list_of, is_text, is_whole, mistakes_of, shown
 from ..http1 import is_token
-from . import authorizers
+from . import asynchronous, authorizers
+from .asynchronous import Asynchronous, asynchronous_of
 from .authorizers import Authorizer, authorizer_of
 from .http import NO_STAGE
 from .routes import Route, WrongRoute
 
-DELAYS = (1.0, 2.0)  # seconds; Lambda's are 60 and 120
-MOST_RETRIES, LONGEST_DELAY, OLDEST = 2, 900, 21600
-
-
-def is_seconds(value: object) -> bool:
-    return isinstance(value, (int, float)) and not isinstance(value, bool) and 0 <= value <= LONGEST_DELAY
-
-
 YES = Kind(lambda value: isinstance(value, bool), "true or false")
 TEXTS = Kind(is_list_of(is_text), "a list of strings")
-OF_ASYNCHRONOUS = {
-    "retries": Kind(lambda value: is_whole(value, MOST_RETRIES + 1), "a whole number from 0 to 2"),
-    "delays": Kind(lambda value: is_list_of(is_seconds)(value) and value != [],
-                   "a list of seconds, each from 0 to 900"),
-    "maximumAge": Kind(lambda value: is_whole(value, OLDEST + 1) and value != 0,
-                       "a whole number of seconds, from 1 to 21600"),
-    "onFailure": Kind(is_text, "a string: the name of a function"),
-}
 NAMES = Kind(is_list_of(lambda value: isinstance(value, str) and is_token(value)),
              "a list of names, such as x-name or *")
 ORIGINS = Kind(is_list_of(lambda value: isinstance(value, str) and re.fullmatch("[!-+.-~-]+", value) is not None),
@@ -73,17 +58,6 @@ OF_FUNCTION = {
                     "a list of names, each of 1 to 128 letters, digits, - and _, such as \"live\""),
     "asynchronous": OBJECT,
 }
-
-
-class Asynchronous(NamedTuple):
-    retries: int = MOST_RETRIES
-    delays: Tuple[float, ...] = DELAYS
-    oldest: float = OLDEST  # seconds
-    on_failure: Optional[str] = None
-
-    def delay(self, attempts: int) -> float:
-        """Seconds between this many failed attempts and the next one."""
-        return self.delays[min(attempts, len(self.delays)) - 1]
 
 
 class Cors(NamedTuple):
@@ -156,17 +130,12 @@ def mistakes(whole: Members) -> Iterator[str]:
     names = [member["name"] for member in whole["functions"]]
     given = whole.get("asynchronous")
     if isinstance(given, dict):
-        yield from mistakes_of(given, OF_ASYNCHRONOUS, "asynchronous: ")
-        if is_text(given.get("onFailure")) and given["onFailure"] not in names:
-            yield f"asynchronous: onFailure: there is no function {shown(given['onFailure'])}"
+        yield from asynchronous.mistakes(given, names, "asynchronous: ")
     for member in whole["functions"]:
         where = f"function {member['name']}: "
         if isinstance(member.get("url"), dict):
             yield from mistakes_of_address(member["url"], f"{where}url: ", OF_URL)
-        own = member.get("asynchronous", {})
-        yield from mistakes_of(own, OF_ASYNCHRONOUS, f"{where}asynchronous: ")
-        if is_text(own.get("onFailure")) and own["onFailure"] not in names:
-            yield f"{where}asynchronous: onFailure: there is no function {shown(own['onFailure'])}"
+        yield from asynchronous.mistakes(member.get("asynchronous", {}), names, f"{where}asynchronous: ")
         if "asynchronous" in member and whole.get("asynchronous") is False:
             yield f'{where}asynchronous: "asynchronous": false refuses all: leave one of the two out'
     yield from mistakes_of_api(whole, names)
@@ -277,14 +246,6 @@ def target_of(given: object, api: Members) -> Target:
     binary = tuple(kind.lower() for kind in whole.get("binaryMediaTypes", ()))
     return Target(given["function"], Integration("1.0", True, whole.get("stage", "local"), variables, binary,
                                                  authorizer))
-
-
-def asynchronous_of(given: object) -> Optional[Asynchronous]:
-    if not given and given != {}:
-        return None
-    given = given if isinstance(given, dict) else {}
-    return Asynchronous(given.get("retries", MOST_RETRIES), tuple(given.get("delays", DELAYS)),
-                        given.get("maximumAge", OLDEST), given.get("onFailure"))
 
 
 def settings_of(whole: Members, folder: str = "") -> Settings:

@@ -28,6 +28,7 @@ class Silent(Log):
 
 class Functions(Session):
     """Prints nothing itself, unless it is verbose, and saves no history."""
+    sends_on = False  # (to queues and topics, which got it when it was recorded)
 
     def __init__(self, path: str, recording: Recording, program: Optional[str], ready: float, verbose: bool) -> None:
         options = argparse.Namespace(up=path, debug=None, salt=recording.salt, program=program, reload=False,

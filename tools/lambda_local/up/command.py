@@ -24,7 +24,7 @@ over it. UP.json is a service's configuration (docs/formats.md) in which each fu
   directory      where they run (default: the folder of UP.json), or a .zip file with their code
   inline         in its place, the code itself, as the module index of "python" or "node"
   aliases        names by which it can be invoked too, such as "live"
-  asynchronous   an object: retries, maximumAge, onFailure of its own events
+  asynchronous   an object: retries, maximumAge, onFailure, onSuccess, deadLetter of its own events
   memory         what AWS_LAMBDA_FUNCTION_MEMORY_SIZE says, in MB (default: 128)
   enforceMemory  true: what has used more than that is killed, as on Lambda (default: a warning)
   extensions     an object: the name by which an extension registers, and its command; or null: you start it yourself

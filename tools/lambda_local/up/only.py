@@ -3,6 +3,7 @@ import difflib
 from typing import Sequence
 
 from ..configuration import Members
+from ..front.asynchronous import OF_RECORDS, is_elsewhere
 from ..service import Fault
 
 
@@ -13,16 +14,23 @@ def limited(whole: Members, names: Sequence[str], path: str) -> Members:
             near = difflib.get_close_matches(name, there, 1, 0.6)
             raise Fault(2, f"--only {name}: {path} has no such function" + (
                 f", did you mean {near[0]}?" if near else f"; there are {', '.join(there)}"))
-    found: Members = {**whole, "functions": [member for member in whole["functions"] if member["name"] in names]}
+    found: Members = {**whole, "functions": [{**member} for member in whole["functions"]
+                                            if member["name"] in names]}
     if "routes" in whole:
         found["routes"] = routes_to(names, whole["routes"], whole.get("api", {}))
     if "apis" in whole:
         found["apis"] = {name: {**api, "routes": routes_to(names, api["routes"], api)}
                          for name, api in whole["apis"].items()}
-    given = whole.get("asynchronous")
-    if isinstance(given, dict) and given.get("onFailure") not in (None, *names):
-        found["asynchronous"] = {name: value for name, value in given.items() if name != "onFailure"}
+    for member in (found, *found["functions"]):
+        if isinstance(member.get("asynchronous"), dict):
+            member["asynchronous"] = among(names, member["asynchronous"])
     return found
+
+
+def among(names: Sequence[str], given: Members) -> Members:
+    """Such an object without the functions that are left out."""
+    return {name: value for name, value in given.items()
+            if name not in OF_RECORDS or is_elsewhere(value) or value in names}
 
 
 def routes_to(names: Sequence[str], routes: Members, api: Members) -> Members:

@@ -9,7 +9,9 @@ import time
 from typing import Callable, Dict, Iterator, List, Optional, Sequence, Tuple, TypeVar
 
 from ..event_sources.sources import Sources, prepare
+from ..front import asynchronous
 from ..front.front import Front
+from ..front.outbox import Outbox
 from ..guard import GUARD
 from ..guard_process import end_all_below
 from ..outgoing import written
@@ -53,6 +55,8 @@ LAST_SECONDS = 20.0  # for all threads at the end
 
 
 class Session:
+    sends_on = True  # what has ended goes to the queues and topics that are named for it
+
     def __init__(self, options: argparse.Namespace, log: Log) -> None:
         self.options, self.log = options, log
         self.command: Optional[Run] = None
@@ -72,11 +76,14 @@ class Session:
         queues = queues_of(front.functions)
         refuse_aws(options.up, queues, options.keep_credentials)
         positions = prepare(options.up, front.functions, options.keep_credentials)
+        for fault in asynchronous.refused(front.asynchronous, front.of_functions, options.keep_credentials):
+            raise Fault(2, f"{options.up}: {fault}")
         ready = options.patient * READY_SECONDS
         self.patience = options.ready or max([ready, *(function.init + ready / 2 for function in self.functions
                                                        if function.init)])
         drain = options.patient * DRAIN_SECONDS if options.drain is None else options.drain
-        self.front = Front(front, options.up, drain, log)
+        outbox = Outbox(options.keep_credentials) if self.sends_on else None
+        self.front = Front(front, options.up, drain, log, outbox)
         streaming = {name for name, address in front.urls.items() if address.streams}
         self.sidecars = Sidecars(self.functions, streaming, options.up, log, options.report, self.relay_lost)
         if salt is None and "salt" not in configuration:
