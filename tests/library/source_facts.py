@@ -153,8 +153,8 @@ def unused_lemmas(root: str) -> Iterator[Tuple[str, str]]:
 
 
 def dead_lemmas(root: str) -> Iterator[str]:
-    """Lemmas that nothing uses, unless the file of those that may stay names them with a reason. Theorems on public calls
-    are `Answers.antt`, which the prover asks for, and so are no lemmas here."""
+    """Lemmas that nothing uses, unless the file of those that may stay names them with a reason. Theorems on public
+    calls are `Answers.antt`, which the prover asks for, and so are no lemmas here."""
     why = reasons(root, DEAD)
     for it in sorted(f"{path}::{name}" for path, name in unused_lemmas(root)):
         if not why.get(it):
@@ -164,7 +164,9 @@ def dead_lemmas(root: str) -> Iterator[str]:
 def lemmas_that_are_gone(root: str) -> Iterator[str]:
     """Names in that file of lemmas that are used again, or not there any more."""
     dead = {f"{path}::{name}" for path, name in unused_lemmas(root)}
-    yield from (f"{DEAD}: {it} is used, or not there: take its line out" for it in reasons(root, DEAD) if it not in dead)
+    for it in reasons(root, DEAD):
+        if it not in dead:
+            yield f"{DEAD}: {it} is used, or not there: take its line out"
 
 
 def public_calls(root: str, crate: str) -> List[str]:

@@ -357,12 +357,13 @@ class Templates(Case):
                                         "url": "http://127.0.0.1:5000"}}, "g.zip"), shown=said)
         for what, given, wanted in (
                 ("OnSuccess", f"{SQS}q.fifo", "it is not a function here, a queue or a topic"),
-                ("OnFailure", "arn:aws:events:us-east-1:123456789012:event-bus/b", "it is not a function here, a queue"),
+                ("OnFailure", "arn:aws:events:us-east-1:123456789012:event-bus/b", "not a function here, a queue"),
                 ("OnSuccess", "nobody", "it is not a function here")):
             with folder_of(template_0_json={"Resources": {"F": sam(EventInvokeConfig={"DestinationConfig": {
                     what: {"Destination": given}}})}}) as folder:
                 made, _, said = made_by(os.path.join(folder, "template.json"))
-                self.check(f"{what}, {given}", (made["F"].get("asynchronous"), wanted in said), (None, True), shown=said)
+                seen = made["F"].get("asynchronous"), wanted in said
+                self.check(f"{what}, {given}", seen, (None, True), shown=said)
 
     def test_hostile(self):
         """A template has no file read outside of its folder, and does not stop the tool."""
