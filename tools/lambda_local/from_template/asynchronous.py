@@ -43,8 +43,8 @@ def remote_in(given: object, scope: Scope) -> Optional[str]:
 
 
 def destination(given: object, what: str, scope: Scope, tell_: Tell) -> Members:
-    """The member for a destination. One that is a queue or a topic is at the server that AWS_ENDPOINT_URL_SQS or its like
-    names; without one it is a value to supply, which is said."""
+    """The member for a destination. A queue or a topic is at the server that AWS_ENDPOINT_URL_SQS or its like names;
+    without one it is a value to supply, which is said."""
     member = MEMBERS[what]
     name = function_in(given, scope) if member in OF_RECORDS else None
     if given is None or name is not None:
@@ -58,8 +58,8 @@ def destination(given: object, what: str, scope: Scope, tell_: Tell) -> Members:
     service = arn.split(":")[2]
     endpoint = endpoint_of(service)
     if endpoint is None or not is_endpoint(endpoint):
-        tell_(f"ignores {what}, {said}, which would get {WHAT[member]}: set AWS_ENDPOINT_URL_{service.upper()} ({PAGE}), "
-              f"or \"asynchronous\": {{\"{member}\": {{\"arn\": .., \"url\": ..}}}} of it in {VALUES}")
+        tell_(f"ignores {what}, {said}, which would get {WHAT[member]}: set AWS_ENDPOINT_URL_{service.upper()} "
+              f"({PAGE}), or \"asynchronous\": {{\"{member}\": {{\"arn\": .., \"url\": ..}}}} of it in {VALUES}")
         return {}
     return {member: {"arn": arn, "url": endpoint}}
 

@@ -1,5 +1,5 @@
-"""What UP.json says of asynchronous invocations: retries and ages, and where those go that have ended: the record of one
-to a destination, the payload of one that failed to a dead-letter queue (Developer Guide, "Capturing records of Lambda
+"""What UP.json says of asynchronous invocations: retries and ages, and where those go that have ended: the record to a
+destination, the payload of one that failed to a dead-letter queue (Developer Guide, "Capturing records of Lambda
 asynchronous invocations")."""
 from typing import Collection, Dict, Iterator, List, Mapping, NamedTuple, Optional, Tuple, Union
 

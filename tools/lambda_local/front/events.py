@@ -49,7 +49,8 @@ THROTTLED = (429, "Rate Exceeded.")
 class Event:
     def __init__(self, identifier: str, function: str, target: str, headers: Headers, payload: bytes,
                  since: int, depth: int = 0) -> None:
-        """`since` is the moment at which it is taken; `depth` the records that led to it, each the event of the next."""
+        """`since` is the moment at which it is taken; `depth` how many records led to it, each the event of the
+        next."""
         self.identifier, self.function, self.target, self.headers = identifier, function, target, headers
         self.payload, self.since, self.attempts, self.throttles = payload, since, 0, 0
         self.depth = depth

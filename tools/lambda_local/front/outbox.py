@@ -85,8 +85,8 @@ class Outbox:
 
 
 def attributes_of(values: Mapping[str, object]) -> Attributes:
-    """Attributes of a message: a number, or a text, which a queue takes only if it is not empty and has no character that
-    XML has not."""
+    """Attributes of a message: a number, or a text, which a queue takes only if it is not empty and has no character
+    that XML has not."""
     made = {}
     for name, value in values.items():
         if isinstance(value, int):

@@ -249,8 +249,8 @@ class Queue:
         return ": " + " and ".join(found) if found else ""
 
     def pass_on(self, event: Event, condition: str) -> None:
-        """What has ended goes to its destinations: to a function as an event that takes its place, to a queue or a topic
-        from the place that it holds until it has been sent."""
+        """What has ended goes to its destinations: to a function as an event that takes its place, to a queue or a
+        topic from the place that it holds until it has been sent."""
         takers, dead = self.takers(event, condition), self.dead_letter_of(event, condition)
         remotes = [one for one in takers if isinstance(one, Remote)]
         if not dead and not remotes:
@@ -265,8 +265,8 @@ class Queue:
 
     def put_record(self, event: Event, condition: str, destination: str) -> None:
         if event.depth >= MOST_DEPTH:
-            return self.say(event, f"has no record for {destination}: {MOST_DEPTH} records led to it, each the event of "
-                                   "the next", "error", "lost")
+            return self.say(event, f"has no record for {destination}: {MOST_DEPTH} records led to it, each the event "
+                                   "of the next", "error", "lost")
         try:
             record = self.record_of(event, condition)
             self.put(Event(self.identifiers.next(destination), destination, target_of(destination), [], record,
@@ -294,7 +294,8 @@ class Queue:
         self.size += held
         try:
             for remote, record in zip(remotes, records):
-                self.tell_of(event, "record", remote, await self.outbox.send(remote, record.decode(errors="replace"), {}))
+                why = await self.outbox.send(remote, record.decode(errors="replace"), {})
+                self.tell_of(event, "record", remote, why)
             if dead:
                 payload, attributes = event.payload.decode(errors="replace"), attributes_of(event.attributes())
                 self.tell_of(event, "payload", dead, await self.outbox.send(dead, payload, attributes))
