@@ -100,6 +100,7 @@ LIES: Dict[str, Tuple[str, str, str, str]] = {
     "runtimes_http": ("names", "examples/runtime.mjs", 'errorType : "Unhandled";', "errorType : errorType;"),
     "runtimes_node": ("errors", "examples/runtime.mjs", "cut(() => fault.name)", "typeof fault"),
     "runtimes_python": ("errors", "examples/runtime.py", '"errorType": error_type[', '"errorKind": error_type['),
+    "samples": ("set", OF_TOOLS + "samples.py", "step < len(value)", "step <= len(value)"),
     "shop": ("shop", OF_TOOLS + "from_template/services.py", "{sqs}/{account}/{name}", "{sqs}/{name}"),
     "six_projects": ("each", OF_TOOLS + "from_template/stacks.py",
                      "return dict(assets_in(", "return dict(() and assets_in("),

@@ -70,6 +70,13 @@ class Invoke(Case):
                     status, output, _ = invoke("same", "--sample", os.path.basename(kind)[:-5], **here)
                     self.check(f"the sample {os.path.basename(kind)}", (status, json.loads(output)),
                                (0, json.load(file)))
+            status, output, _ = invoke("same", "--sample", "sqs", "--set", 'Records[0].body="one"', "--set",
+                                       "Records[0].attributes={}", **here)
+            record, = json.loads(output)["Records"]
+            self.check("a sample with other values", (status, record["body"], record["attributes"]), (0, "one", {}))
+            status, output, said = invoke("same", '{"a": 1}', "--set", "b=2", **here)
+            self.check("a path that is not there", (status, output, said), (
+                2, "", "invoke: --set b: the event has no b: there are a\n"))
             event = json.loads(invoke("same", "--now", **here)[1])
             self.check("a schedule that is due now", (event["source"], event["detail-type"],
                                                       bool(re.fullmatch(r"\d{4}-\d\d-\d\dT\d\d:\d\d:\d\dZ",
@@ -111,9 +118,8 @@ class Invoke(Case):
                      "long.json: it has more than 6291456 bytes, which Lambda takes at most"),
                     (["-"], "{", "-: this is not JSON: Expecting property name"),
                     (["--sample", "s33"], "",
-                     "--sample s33: did you mean s3? there are apigateway_1.0, apigateway_2.0, "
-                                              "eventbridge, s3, schedule, sns, sqs"),
-                    (["--sample", "../up"], "", "--sample ../up: there are apigateway_1.0, "),
+                     "--sample s33: did you mean s3? there are activemq, alb, alb_multi_value, alexa_skill, "),
+                    (["--sample", "../up"], "", "--sample ../up: there are activemq, "),
                     (["1", "--now"], "", "write one of PAYLOAD, FILE, -, --sample and --now"),
                     (["1", "--endpoint", "https://lambda.us-east-1.amazonaws.com"], "",
                      "--endpoint=https://lambda.us-east-1.amazonaws.com: write it as http://127.0.0.1:PORT"),

@@ -358,7 +358,7 @@ class StreamParts(Case):
                     file.write(text)
                 try:
                     Checkpoints(path, "w")
-                    self.check(f"positions: {text}", "is refused")
+                    self.check(f"positions: {text} are refused", False)
                 except Fault as fault:
                     self.check(f"positions: {text}", (fault.status, "remove it to begin anew" in str(fault)), (2, True))
 

@@ -3,6 +3,8 @@
   lambda_local invoke greet '{"name": "Ada"}'   JSON on the command line
   lambda_local invoke greet event.json          a file with the payload; `-` is standard input
   lambda_local invoke greet --sample s3         an event as a service of AWS sends it
+  lambda_local invoke greet --sample sqs --set 'Records[0].body="text"'
+                                                the same with another value, in JSON, at a path that it has
   lambda_local invoke greet                     {}
 
 The service is that of AWS_ENDPOINT_URL_LAMBDA, which `lambda_local up` prints and sets, else http://127.0.0.1:9000.
@@ -15,8 +17,6 @@ import argparse
 import base64
 import binascii
 import datetime
-import difflib
-import glob
 import json
 import os
 import sys
@@ -27,33 +27,15 @@ from urllib.parse import quote
 from . import outgoing
 from .endpoint import Answer, add_option, asked
 from .outgoing import printable_lines
-from .paths import bundled
+from .samples import MOST_BYTES, sample, samples, with_values
 from .service import Fault
 from .usage import parser_of
 
 USAGE = "[OPTION..] NAME [PAYLOAD | FILE | - | --sample KIND]"
-MOST_BYTES = 6 << 20  # of a payload
 LONGEST_SECONDS = 1000  # of an invocation: 900, and what it waits for
 
 
 # ---- the payload -----------------------------------------------------------------------------------------------------
-
-def samples() -> Dict[str, str]:
-    """The path of each sample event by its kind."""
-    folder = os.path.dirname(bundled("events/s3.json") or "")
-    paths = sorted(glob.glob(os.path.join(glob.escape(folder), "*.json")))
-    return {os.path.basename(path)[:-5]: path for path in paths}
-
-
-def sample(kind: str) -> bytes:
-    files = samples()
-    if kind not in files:
-        near = difflib.get_close_matches(kind, files, 1, 0.5)
-        raise Fault(2, f"--sample {kind}: " + (f"did you mean {near[0]}? " if near else "") + "there are "
-                    + ", ".join(files))
-    with open(files[kind], "rb") as file:
-        return file.read()
-
 
 def schedule_event(now: datetime.datetime) -> bytes:
     """The event of a schedule that is due at this moment."""
@@ -87,6 +69,10 @@ def whole(path: str) -> bytes:
 
 
 def payload_of(options: argparse.Namespace) -> bytes:
+    return with_values(given_payload(options), options.set)
+
+
+def given_payload(options: argparse.Namespace) -> bytes:
     if (options.payload is not None) + (options.sample is not None) + options.now > 1:
         raise Fault(2, "write one of PAYLOAD, FILE, -, --sample and --now")
     if options.sample is not None:
@@ -191,6 +177,8 @@ def parser() -> argparse.ArgumentParser:
     made.add_argument("name", metavar="NAME")
     made.add_argument("payload", metavar="PAYLOAD", nargs="?")
     made.add_argument("--sample", metavar="KIND", help=f"the payload is a sample event: {', '.join(samples())}")
+    made.add_argument("--set", metavar="PATH=VALUE", action="append", default=[],
+                      help="set a value of the payload, in JSON, at a path that is there: Records[0].body='\"text\"'")
     made.add_argument("--now", action="store_true", help="the payload is the event of a schedule that is due now")
     made.add_argument("--event", action="store_true", help="invoke asynchronously, and do not wait for the result")
     made.add_argument("--tail", action="store_true", help="print the end of what the invocation printed")

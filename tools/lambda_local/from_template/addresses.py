@@ -15,8 +15,14 @@ from .values import NO_VALUE, Scope
 READ = {"FunctionUrlConfig", "Events", "url", "events"}
 READ_ELSEWHERE = {*schedules.OF_SAM, "SQS", "Kinesis", "DynamoDB", "SNS"}  # of SAM's types of events
 READ_OF_SERVERLESS = {"schedule", "sqs", "stream", "sns"}
-SAMPLES = {"S3": "s3", "SNS": "sns", "EventBridgeRule": "eventbridge", "CloudWatchEvent": "eventbridge", "s3": "s3",
-           "sns": "sns", "eventBridge": "eventbridge", "cloudwatchEvent": "eventbridge"}
+# Which sample event is like that of a type of SAM's events, or of Serverless', which is not taken
+SAMPLES = {"S3": "s3", "EventBridgeRule": "eventbridge", "CloudWatchEvent": "eventbridge", "IoTRule": "iot",
+           "CloudWatchLogs": "cloudwatch_logs", "AlexaSkill": "alexa_skill", "Cognito": "cognito_pre_sign_up",
+           "MSK": "msk", "MQ": "activemq", "SelfManagedKafka": "self_managed_kafka", "DocumentDB": "documentdb",
+           "s3": "s3", "eventBridge": "eventbridge", "cloudwatchEvent": "eventbridge", "iot": "iot",
+           "cloudwatchLog": "cloudwatch_logs", "alexaSkill": "alexa_skill", "alexaSmartHome": "alexa_smart_home",
+           "cognitoUserPool": "cognito_pre_sign_up", "msk": "msk", "activemq": "activemq", "rabbitmq": "rabbitmq",
+           "kafka": "self_managed_kafka", "websocket": "websocket_message", "cloudFront": "cloudfront"}
 
 
 def url_with(cors: Optional[Members], streams: bool = False) -> Union[bool, Members]:
