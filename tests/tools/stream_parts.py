@@ -1,12 +1,15 @@
 """Checks the parts of streams and topics as event sources, without processes: what UP.json may say, the events by
 botocore's model of each service, what follows a batch, shards that split, merge, close and expire, servers that lie,
 the positions that are kept, and what is sent about records that are dropped."""
+import http.server
 import importlib.util
 import json
 import os
 import random
+import socket
 import tempfile
 import threading
+import time
 import unittest
 from datetime import datetime, timezone
 from typing import Any, Dict, List, Optional
@@ -17,8 +20,10 @@ from lambda_local.event_sources.batches import Batch, after, failing_in
 from lambda_local.event_sources.checkpoints import Checkpoints, Position
 from lambda_local.event_sources.servers import DynamoDb, Kinesis, Read, Record, Seen, SeenShard
 from lambda_local.event_sources.shards import Shard
+from lambda_local.event_sources.sources import Sources
 from lambda_local.event_sources.streams import Reader
-from lambda_local.other_server import is_endpoint
+from lambda_local.event_sources.topics import Subscriber
+from lambda_local.other_server import client_of, is_endpoint
 from lambda_local.program import Fault
 from lambda_local.up import sources
 from tests.library.cases import Case
@@ -471,6 +476,84 @@ class StreamParts(Case):
             self.check(f"no notification: {change}", notifications.read(json.dumps({**given, **change}), "a"), None)
         self.check("nor is this", [notifications.read(one, "a") for one in (None, 5, "", "[]", "[" * 200, "x")],
                    [None] * 6)
+
+    @WITH_BOTOCORE
+    def test_a_server_that_holds(self) -> None:
+        """A server that answers nothing holds up neither the start nor the end."""
+        with socket.socket() as silent:
+            silent.bind(("127.0.0.1", 0))
+            silent.listen(64)
+            url = f"http://127.0.0.1:{silent.getsockname()[1]}"
+            stopping, lines = threading.Event(), []
+            made: Members = {"name": "f", "stream": [{"url": url, "kinesis": "a"}, {"url": url, "dynamodb": "Table"}],
+                             "topic": {"url": url, "name": "news"}}
+
+            class OfOne(Service):
+                configuration = {**Service.configuration, "functions": [{"name": "f", "ports": [1, 2]}]}
+            all_sources = Sources([None, None], [made], OfOne(), Clock(), False, stopping,  # type: ignore[arg-type]
+                                  lambda who, text, *rest, **more: lines.append(text))
+            for thread in all_sources.threads:
+                thread.start()
+            connection, _ = silent.accept()
+            time.sleep(2)
+            begun = time.monotonic()
+            stopping.set()
+            for thread in all_sources.threads:
+                thread.join(max(0.0, begun + 20 - time.monotonic()))
+            seconds = time.monotonic() - begun
+            self.check("the end waits for no answer", seconds < 8, shown=seconds)
+            self.check("those that are left are held by the server", [
+                thread.name for thread in all_sources.threads if thread.is_alive()
+                and not thread.is_held], [])  # type: ignore[attr-defined]
+            connection.close()
+
+    @WITH_BOTOCORE
+    def test_servers_that_lie(self) -> None:
+        """Whatever a server answers costs a line and pauses."""
+        answers = [b"", b"{}", b"[]", b"null", b"<a/>", b"\0\xff", b'{"Shards": 5}', b'{"Topics": 7}', b"{" * 5000,
+                   b'{"StreamDescriptionSummary": []}']
+
+        class Lying(http.server.BaseHTTPRequestHandler):
+            asked = 0
+
+            def do_POST(self) -> None:
+                self.rfile.read(int(self.headers.get("Content-Length", 0)))
+                body = answers[Lying.asked % len(answers)]
+                Lying.asked += 1
+                self.send_response(200 if Lying.asked % 3 else 500)
+                self.send_header("Content-Length", str(len(body)))
+                self.end_headers()
+                self.wfile.write(body)
+
+            def log_message(self, *words: Any) -> None:
+                pass
+        server = http.server.ThreadingHTTPServer(("127.0.0.1", 0), Lying)
+        threading.Thread(target=server.serve_forever, daemon=True).start()
+        url, stopping, lines = f"http://127.0.0.1:{server.server_port}", threading.Event(), []
+        reader = Reader(stream(url=url), Service(), Clock(), False, stopping,  # type: ignore[arg-type]
+                        lambda who, text, *rest, **more: lines.append(text))
+        self.check("it has a client", reader.connect())
+        for _ in range(3 * len(answers)):
+            reader.look.due = 0.0
+            task = reader.take()
+            if task is not None:
+                reader.step(task)
+        self.check("one line", len([line for line in lines if "it cannot be read" in line]), 1, shown=lines)
+        self.check("pauses that grow", reader.look.pause, 30.0)
+        topic = Subscriber(members.topics_of([{"name": "f", "topic": {"url": url, "name": "news"}}])[0], Service(),
+                           Clock(), False, stopping,  # type: ignore[arg-type]
+                           lambda who, text, *rest, **more: lines.append(text))
+        stopping.set()
+        topic.run()
+        topic.sns, topic.sqs = (client_of(name, url, "us-east-1", False) for name in ("sns", "sqs"))
+        stopping.clear()
+        stopping.wait = lambda seconds=None: False  # type: ignore[method-assign, assignment]
+        for _ in range(3 * len(answers)):
+            topic.step()
+        self.check("one line of the topic", len([line for line in lines if "no notifications come" in line]), 1,
+                   shown=lines)
+        server.shutdown()
+        server.server_close()
 
     def test_state_of_a_shard(self) -> None:
         shard = Shard(SeenShard("a", (), True), "TRIM_HORIZON", stream())

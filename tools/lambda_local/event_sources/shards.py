@@ -44,7 +44,8 @@ class Shard(Task):
         self.window_end: Optional[int] = None  # by the service's clock
         self.batches: Deque[Batch] = deque()
         self.last: Optional[Invoked] = None  # invocation with the first of its batches
-        self.is_read = self.is_idle = False  # a closed shard, to its end; the last reading had no record
+        self.is_read = False  # a closed shard, to its end
+        self.empty = 0  # readings in a row without a record
 
     @property
     def is_over(self) -> bool:
@@ -79,7 +80,7 @@ class Shard(Task):
         if self.collected and self.window_end is None:
             self.window_end = clock.now() + 1000 * self.stream.window
         too_large = self._batch(clock)
-        self.is_idle = not came
+        self.empty = 0 if came else self.empty + 1
         return odd._replace(large=too_large)
 
     def _read(self, server: Server, tell: Tell) -> Tuple[Odd, int]:

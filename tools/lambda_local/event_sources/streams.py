@@ -19,6 +19,7 @@ from .servers import MOST_SHARDS, NotThere, Seen, SeenShard, Server, WrongAnswer
 from .shards import NEWEST, OLDEST, Shard, Task
 
 MOST_THREADS = 10  # of a stream
+MANY_EMPTY, LONG_WAIT = 20, 1.0  # readings of a shard without a record, and seconds between two after as many
 BETWEEN_LOOKS = 5.0  # seconds, after which the list of shards is asked for again
 STEP = 0.1  # seconds between two looks at the service's clock
 LONGEST_WAIT = 0.25  # seconds, after which an end is noticed
@@ -229,10 +230,11 @@ class Reader(Handling):
             for record in odd.large:
                 self.give_up(shard, [record], TOO_LARGE, 0)
                 self.note(shard)
-        is_idle = shard.is_idle and not shard.batches
+        is_idle = bool(shard.empty) and not shard.batches
         if shard.batches and not self.stopping.is_set():
             self.handle(shard)
-        shard.due = time.monotonic() + (self.server.wait if is_idle else 0.0)
+        wait = self.server.wait if shard.empty < MANY_EMPTY else LONG_WAIT
+        shard.due = time.monotonic() + (wait if is_idle else 0.0)
         if shard.is_over:
             self.note(shard)
             self.look.due = 0.0  # (what it has become is read next)
@@ -244,7 +246,7 @@ class Reader(Handling):
                     f"{shard.identifier}: its server gives {several(repeated, 'record')} again, which "
                     f"{'is' if repeated == 1 else 'are'} left out")
             self.say(what, "error")
-        self.has_odd = bool(wrong or repeated) or self.has_odd and shard.is_idle
+        self.has_odd = bool(wrong or repeated) or self.has_odd and bool(shard.empty)
 
     # ---- how far it is -----------------------------------------------------------------------------------------------
 

@@ -12,7 +12,7 @@ import uuid
 from typing import Any, Dict, List, Optional
 
 from ..clock.followed import Clock
-from ..other_server import ANSWER_SECONDS, NoClient, client_of, code_of, one_line
+from ..other_server import ANSWER_SECONDS, NoClient, client_of, code_of, is_refused, one_line
 from ..outgoing import Log
 from ..service import ask
 from .members import Topic
@@ -122,7 +122,9 @@ class Subscriber(threading.Thread):
         if not self.queue:
             queue = self.asked(self.sqs.create_queue, QueueName=name,
                                Attributes={"VisibilityTimeout": str(VISIBILITY)}).get("QueueUrl")
-            self.queue = str(queue or "")
+            if not isinstance(queue, str) or is_refused(queue, self.keeps_credentials):
+                raise NoTopic("its server gives no address of a queue of its own")
+            self.queue = queue
         found = self.asked(self.sqs.get_queue_attributes, QueueUrl=self.queue, AttributeNames=["QueueArn"])
         self.queue_arn = str((found.get("Attributes") or {}).get("QueueArn", ""))
         self.asked(self.sqs.set_queue_attributes, QueueUrl=self.queue, Attributes={"Policy": json.dumps({
