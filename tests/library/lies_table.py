@@ -108,6 +108,8 @@ LIES: Dict[str, Tuple[str, str, str, str]] = {
                 "return Invoked(None, \"failed\")", "return Invoked([], \"\")"),
     "stopping": ("stops", OF_TOOLS + "service.py", "/_local/stop", "/_local/stops"),
     "stream_parts": ("what_follows", OF_TOOLS + "event_sources/batches.py", "batch.records[failing:]", "batch.records"),
+    "stream_readers": ("newest", OF_TOOLS + "event_sources/streams.py",
+                       "NEWEST if is_newest else OLDEST", "NEWEST"),
     "streaming": ("framing", OF_TOOLS + "streaming/frames.py", '"PayloadChunk", ', '"PayloadPart", '),
     "streaming_pairs": ("orders", OF_TOOLS + "streaming/streams.py",
                         "if expected and expected.identifier is None:", "if expected:"),

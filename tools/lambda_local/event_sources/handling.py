@@ -100,6 +100,7 @@ class Handling:
         if then.done:
             shard.handled = then.done[-1].sequence
             self.handled += len(then.done)
+            shard.rest = 0.0
         if then.left and not then.is_split:
             self.rest(shard, FIRST_REST, LONGEST_REST)
         else:

@@ -46,6 +46,7 @@ class Shard(Task):
         self.last: Optional[Invoked] = None  # invocation with the first of its batches
         self.is_read = False  # a closed shard, to its end
         self.empty = 0  # readings in a row without a record
+        self.size = 0  # bytes of what it holds
 
     @property
     def is_over(self) -> bool:
@@ -54,6 +55,16 @@ class Shard(Task):
 
     def number(self) -> int:
         return -1 if self.read_to is None else int(self.read_to)
+
+    @property
+    def is_full(self) -> bool:
+        """Whether what is collected is a batch, or more than an event has room for."""
+        count = cut(self.collected, self.stream.batch)
+        return count == self.stream.batch or count < len(self.collected)
+
+    def weigh(self) -> None:
+        """Notes the bytes of what it holds."""
+        self.size = sum(record.size for record in self.collected) + sum(batch.size for batch in self.batches)
 
     # ---- reading -----------------------------------------------------------------------------------------------------
 
@@ -73,7 +84,7 @@ class Shard(Task):
         """Reads once, and makes a batch of what is collected if it is time. Whatever a server answers, what has been
         read stays."""
         odd, came = Odd(), 0
-        if len(self.collected) < self.stream.batch and not self.is_read:
+        if not self.is_full and not self.is_read:
             if self.iterator is None:
                 self.open(server, tell)
             odd, came = self._read(server, tell)
@@ -112,8 +123,7 @@ class Shard(Task):
 
     def _batch(self, clock: Clock) -> Tuple[Record, ...]:
         """Makes a batch if one is full, or its window is over; what has no room in an event, which is in none."""
-        count = cut(self.collected, self.stream.batch)
-        is_full = count == self.stream.batch or count < len(self.collected)
+        count, is_full = cut(self.collected, self.stream.batch), self.is_full
         large: Tuple[Record, ...] = ()
         if self.collected and count == 0:
             large, self.collected = tuple(self.collected[:1]), self.collected[1:]

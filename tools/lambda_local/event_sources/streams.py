@@ -20,6 +20,7 @@ from .shards import NEWEST, OLDEST, Shard, Task
 
 MOST_THREADS = 10  # of a stream
 MANY_EMPTY, LONG_WAIT = 20, 1.0  # readings of a shard without a record, and seconds between two after as many
+MOST_HELD = 64 << 20  # bytes of records that wait in shards; with as many, no further shard is read
 BETWEEN_LOOKS = 5.0  # seconds, after which the list of shards is asked for again
 STEP = 0.1  # seconds between two looks at the service's clock
 LONGEST_WAIT = 0.25  # seconds, after which an end is noticed
@@ -222,6 +223,9 @@ class Reader(Handling):
 
     def step_of_shard(self, shard: Shard) -> None:
         assert self.server is not None
+        if not shard.batches and not shard.collected and self.is_heavy():
+            shard.due = time.monotonic() + LONG_WAIT
+            return
         if not shard.batches:
             shard.asks_since = time.monotonic()
             odd = shard.fill(self.server, self.clock, self.say)
@@ -233,11 +237,17 @@ class Reader(Handling):
         is_idle = bool(shard.empty) and not shard.batches
         if shard.batches and not self.stopping.is_set():
             self.handle(shard)
+        shard.weigh()
         wait = self.server.wait if shard.empty < MANY_EMPTY else LONG_WAIT
         shard.due = time.monotonic() + (wait if is_idle else 0.0)
         if shard.is_over:
             self.note(shard)
             self.look.due = 0.0  # (what it has become is read next)
+
+    def is_heavy(self) -> bool:
+        """Whether as much is held in shards as may be."""
+        with self.changed:
+            return sum(shard.size for shard in self.shards.values()) >= MOST_HELD
 
     def tell_odd(self, shard: Shard, wrong: int, repeated: int) -> None:
         if (wrong or repeated) and not self.has_odd:

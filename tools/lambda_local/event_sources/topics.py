@@ -3,6 +3,7 @@
 Between the topic and the function is a queue of the same server, which is made for this run and subscribed to the
 topic: so nothing has to reach this machine from there, what comes while the function is busy waits, and the server's
 own filter policies hold. At the end the subscription and the queue are removed."""
+import contextlib
 import http.client
 import json
 import sys
@@ -15,7 +16,7 @@ from ..clock.followed import Clock
 from ..other_server import ANSWER_SECONDS, NoClient, client_of, code_of, is_refused, one_line
 from ..outgoing import Log
 from ..service import ask
-from .members import Topic
+from .members import OF_TOPIC_NAME, Topic
 from .notifications import Confirmation, Notification, read
 
 POLL_SECONDS = 1  # for which the queue holds a poll
@@ -25,6 +26,7 @@ FIRST_PAUSE, LONGEST_PAUSE = 0.5, 30.0  # seconds, after a fault of the server; 
 LONGEST_UNTIL_THERE = 1.0  # seconds, if the server has no such topic (yet): what is published meanwhile is missed
 FIRST_RETRY, LONGEST_RETRY = 0.05, 2.0  # seconds, if the function's queue of events is full
 MOST_PAGES = 100  # of a list of topics
+BETWEEN_LOOKS = 5.0  # seconds, after which it is asked whether the subscription is still there
 ABSENT = ("NotFound", "NotFoundException", "AWS.SimpleQueueService.NonExistentQueue", "QueueDoesNotExist",
           "ResourceNotFoundException")
 
@@ -45,7 +47,7 @@ class Subscriber(threading.Thread):
         self.region: str = topic.region or self.configuration["region"]
         self.arn = self.queue = self.queue_arn = self.subscription = ""
         self.begun = threading.Event()  # it is subscribed, or cannot be now
-        self.pause, self.is_over = 0.0, False
+        self.pause, self.looked_at = 0.0, 0.0
         self.asks_since: Optional[float] = None
 
     def say(self, text: str, level: str = "info", **members: object) -> None:
@@ -82,6 +84,9 @@ class Subscriber(threading.Thread):
         try:
             if not self.subscription:
                 self.subscribe()
+            elif time.monotonic() - self.looked_at > BETWEEN_LOOKS:
+                self.looked_at = time.monotonic()
+                self.asked(self.sns.get_subscription_attributes, SubscriptionArn=self.subscription)
             messages = self.received()
             if self.pause:
                 self.say("it works again")
@@ -109,8 +114,10 @@ class Subscriber(threading.Thread):
         if not self.pause and not self.stopping.is_set():
             why = str(fault) if isinstance(fault, NoTopic) else one_line(fault)
             self.say(f"no notifications come: {why}: it is asked again after pauses of up to {most:g} s", "error")
-        if is_absent:  # (also a server that has begun anew: its queue and subscription are gone with it)
+        if is_absent:
             self.subscription = ""
+        if is_absent and not isinstance(fault, NoTopic):
+            self.forget_queue()
         self.pause = min(most, 2 * self.pause or FIRST_PAUSE)
         self.stopping.wait(self.pause)
 
@@ -135,8 +142,14 @@ class Subscriber(threading.Thread):
         attributes.update({} if self.topic.scope is None else {"FilterPolicyScope": self.topic.scope})
         made = self.asked(self.sns.subscribe, TopicArn=self.arn, Protocol="sqs", Endpoint=self.queue_arn,
                           Attributes=attributes, ReturnSubscriptionArn=True)
-        self.subscription = str(made.get("SubscriptionArn", ""))
+        self.subscription, self.looked_at = str(made.get("SubscriptionArn", "")), time.monotonic()
         self.say("it is subscribed to", subscription=self.subscription)
+
+    def forget_queue(self) -> None:
+        """The server has begun anew, or the topic was made anew: a new queue is subscribed to it."""
+        queue, self.queue = self.queue, ""
+        with contextlib.suppress(Exception):  # (it is mostly not there any more)
+            self.asked(self.sqs.delete_queue, QueueUrl=queue)
 
     def known_arn(self) -> str:
         """The topic's ARN: the one that is given, the one with this account's number, or the one that its server lists
@@ -154,7 +167,7 @@ class Subscriber(threading.Thread):
                 break
             more = {"NextToken": token}
         wanted = [self.topic.named] if self.topic.named.startswith("arn:") else [by_name, *(
-            arn for arn in listed if arn.endswith(f":{self.topic.name}"))]
+            arn for arn in listed if (found := OF_TOPIC_NAME.fullmatch(arn)) and found[2] == self.topic.name)]
         for arn in wanted:
             if arn in listed:
                 return arn
