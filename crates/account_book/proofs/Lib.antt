@@ -1,4 +1,5 @@
 mod AnsweredInWay
+mod Arrived
 mod BeforeCalls
 mod Concerned
 mod EntryAnswers

@@ -7,6 +7,7 @@ ghost use Rattle.http_connection.specs.Wires.{IsFresh, name_of};
 ghost use Rattle.http_connection.specs.Written.{Gave, Written, outcome_of};
 
 use crate::ending::{Ending, Watched};
+use crate::input::KEPT;
 use crate::noting::{Noting, Pace};
 use crate::park::Park;
 use crate::turns::Turns;
@@ -27,9 +28,6 @@ use std::net::Net;
 use std::random::RandomSource;
 use std::sync::{Arc, Wait};
 use std::time::Clock;
-
-/// How much of the output of a connection is kept before no more of a body is asked for: as much as the longest head has.
-const KEPT: usize = 65_536;
 
 /// The event loop of a thread, and the settings of connections. A thread opens it once and serves
 /// all its connections with it, since opening it takes more system calls than a short connection.

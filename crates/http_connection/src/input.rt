@@ -4,6 +4,10 @@ ghost use Rattle.std.specs.Prelude.{◌≤◌, ◌<◌, ◌+◌, length, IsTrue,
 
 use memchr::{memchr, memchr_iter};
 
+/// How much of the output of a connection is kept before no more of a body is asked for: as much as the
+/// longest head has. It is also the most room that the connection makes for a read.
+pub(crate) const KEPT: usize = 65_536;
+
 /// The name of the field that declares a body's length, with its colon.
 const NAME: &[u8] = b"content-length:";
 
@@ -60,6 +64,25 @@ fn near_end(bytes: &[u8]) -> Option<usize>
         Some(end) => Some(end),
         None => None,
     }
+}
+
+/// Returns how many of `count` bytes are handed on at once, which lie in a buffer with room for `room`
+/// bytes, if `rest` bytes of their request are still to come behind them: all if none is, or if they do
+/// not fit in what is left of the buffer; otherwise so few that twice as much room is left, or `KEPT`.
+/// With less, the connection would allocate and clear a further buffer, since the request's head has a
+/// share in this one.
+fn handed_on(count: usize, room: usize, rest: u64) -> usize
+    ensures bound { result ≤ count }
+    ensures some { 0 < count → 0 < result }
+{
+    if rest == 0 || rest > room.saturating_sub(count) as u64 {
+        return count;
+    }
+    let most = (room / 3).max(room.saturating_sub(KEPT));
+    if most == 0 || count <= most {
+        return count;
+    }
+    most
 }
 
 /// How much of the present line is a field that declares a body's length.
@@ -291,15 +314,16 @@ impl Input {
         self.rest = self.rest.saturating_sub(count);
     }
 
-    /// Returns whether the position is within a request: not at the beginning of a head. (That of a
-    /// chunked body, which is not recognized, counts as one.)
-    pub(crate) fn is_within_request(&self) -> bool {
-        self.rest > 0 || self.is_empty || !matches!(self.line, Line::Name(0))
+    /// Returns whether the position is within a request: not at the beginning of a head, and not where
+    /// `ahead` further bytes end its body. (The beginning of a chunked body, which is not recognized,
+    /// counts as that of a head.)
+    pub(crate) fn is_within_request(&self, ahead: usize) -> bool {
+        self.rest > ahead as u64 || self.is_empty || !matches!(self.line, Line::Name(0))
     }
 
     /// Returns how many of these bytes are handed on at once: those up to the end of a request, or
     /// all.
-    pub(crate) fn take(&mut self, bytes: &[u8]) -> usize
+    fn take(&mut self, bytes: &[u8]) -> usize
         ensures bound { result ≤ length bytes.now }
         ensures some { 0 < length bytes.now → 0 < result }
     {
@@ -308,5 +332,21 @@ impl Input {
         }
         let head = self.head_part(bytes);
         head + self.body_part(&bytes[head..])
+    }
+
+    /// Returns how many of these bytes are handed on at once, which lie in a buffer with room for `room` bytes:
+    /// those up to the end of a request, or fewer if the rest of the request then fits in the buffer.
+    pub(crate) fn take_fitting(&mut self, bytes: &[u8], room: usize) -> usize
+        ensures bound { result ≤ length bytes.now }
+        ensures some { 0 < length bytes.now → 0 < result }
+    {
+        let before = *self;
+        let count = self.take(bytes);
+        let fitting = handed_on(count, room, self.rest);
+        if fitting == count {
+            return count;
+        }
+        *self = before;
+        self.take(&bytes[..fitting])
     }
 }

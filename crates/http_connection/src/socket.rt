@@ -59,26 +59,29 @@ impl<T: Drop> Socket<T> {
         ensures same { self.new.stream ≡ self.old.stream }
     {
         let most = self.ahead.len().min(buf.len());
-        let count = self.input.take(&self.ahead.as_slice()[..most]);
+        let count = self
+            .input
+            .take_fitting(&self.ahead.as_slice()[..most], buf.len());
         buf[..count].copy_from_slice(&self.ahead.as_slice()[..count]);
         self.ahead.advance(count);
         count
     }
 
-    /// Returns whether the stream is at a place within a request.
+    /// Returns whether the stream is at a place within a request, by what was read from it.
     pub(crate) fn is_within_request(&self) -> bool {
-        self.input.is_within_request()
+        self.input.is_within_request(self.ahead.len())
     }
 
-    /// Keeps the bytes that were read past the end of a request. Returns how many bytes are left to
-    /// hand on: all of them if an allocation fails, since a stream gives them only once.
-    fn keep_behind(&mut self, bytes: &[u8]) -> usize
+    /// Keeps the bytes that were read past the end of a request, or that are handed on later, of those that
+    /// were read into a buffer with this room. Returns how many bytes are left to hand on: all of them if an
+    /// allocation fails, since a stream gives them only once.
+    fn keep_behind(&mut self, bytes: &[u8], room: usize) -> usize
         ensures bound { result ≤ length bytes.now }
         ensures kept { self.new.ahead.items ≡ self.old.ahead.items ++ drop result bytes.now }
         ensures some { 0 < length bytes.now → 0 < result }
         ensures same { self.new.stream ≡ self.old.stream }
     {
-        let count = self.input.take(bytes);
+        let count = self.input.take_fitting(bytes, room);
         match self.ahead.extend_from_slice(&bytes[count..]) {
             Ok(()) => count,
             Err(_) => bytes.len(),
@@ -154,6 +157,7 @@ impl<T: AsyncRead> AsyncRead for Socket<T> {
             self.stand.note_read(small(count));
             return Poll::Ready(Ok(count));
         }
+        let room = buf.len();
         match self.stream.poll_read(cx, buf) {
             Poll::Pending => {
                 self.stand.note_short();
@@ -161,7 +165,7 @@ impl<T: AsyncRead> AsyncRead for Socket<T> {
             }
             Poll::Ready(Err(fault)) => Poll::Ready(Err(fault)),
             Poll::Ready(Ok(read)) => {
-                let count = self.keep_behind(&buf[..read]);
+                let count = self.keep_behind(&buf[..read], room);
                 self.stand.note_read(small(count));
                 Poll::Ready(Ok(count))
             }

@@ -13,6 +13,8 @@ use std::alloc::{AllocError, Global};
 /// multiple of three bytes.
 #[derive(Clone, Copy)]
 pub enum Coding {
+    /// As it is.
+    Plain,
     /// The bytes below 0x21, `%` and the bytes above 0x7E are percent-encoded.
     Percent,
     /// As the content of a JSON string (RFC 8259, section 7).
@@ -28,6 +30,7 @@ impl Coding {
         ensures { result ≡ slice_of self }
     {
         match self {
+            Coding::Plain => 65_520,
             Coding::Percent => 21_840,
             Coding::Json => 10_920,
             Coding::Base64 => 49_140,
@@ -37,6 +40,7 @@ impl Coding {
     /// Returns the most bytes that the text of so many bytes has.
     pub(crate) fn most(self, length: usize) -> usize {
         match self {
+            Coding::Plain => length,
             Coding::Percent => length.saturating_mul(3),
             Coding::Json => length.saturating_mul(6),
             Coding::Base64 => length.saturating_add(length / 3).saturating_add(4),
@@ -114,6 +118,7 @@ pub(crate) fn push_coded(
     ensures { OnOk result (out.new.items ≡ out.old.items ++ coded coding bytes.now) }
 {
     match coding {
+        Coding::Plain => out.extend_from_slice(bytes),
         Coding::Percent => push_escaped(out, bytes),
         Coding::Json => push_json(out, bytes),
         Coding::Base64 => push_base64(alloc, out, bytes),

@@ -1,8 +1,9 @@
 //! A text before its bodies are written, which is taken in pieces.
 
-ghost use Rattle.std.specs.Prelude.{◌≡◌, ◌<◌, ◌↔◌, ◌++◌, [], length, IsTrue, OnOk, OnErr, IfOk};
+ghost use Rattle.std.specs.Prelude.{◌≡◌, ◌≢◌, ◌<◌, ◌≤◌, ◌↔◌, ◌++◌, [], length, take, drop, IsTrue, OnOk, OnErr, IfOk};
+ghost use Rattle.std.specs.Prelude.{IfSome, IfNone};
 ghost use Rattle.std.specs.List.{flat_map};
-ghost use Rattle.script.specs.Drafts.{coded, part_text, slice_of};
+ghost use Rattle.script.specs.Drafts.{coded, longest_piece, part_text, slice_of};
 
 use crate::coding::{Coding, push_coded};
 use crate::sink::Sink;
@@ -13,7 +14,7 @@ use std::collections::VecDeque;
 use std::marker::Model;
 use std::mem;
 
-/// Up to so many bytes are one piece, if they are all that is left.
+/// The most bytes of a piece.
 const PIECE: usize = 65_536;
 
 /// A text, and the body that follows it.
@@ -85,6 +86,13 @@ impl Part {
             .saturating_add(self.text.len())
     }
 
+    /// Returns whether it has neither a plain text nor a body.
+    fn is_spent(&self) -> bool
+        ensures { IsTrue result ↔ (part_text self.now ≡ []) }
+    {
+        self.text.is_empty() && self.body.is_empty()
+    }
+
     /// Returns whether its body is too long to be written at once.
     fn is_long(&self) -> bool
         ensures { IsTrue result ↔ (slice_of self.now.coding < length self.now.body) }
@@ -95,12 +103,38 @@ impl Part {
     /// Takes a slice of its body, and writes it.
     fn take_slice(&mut self, alloc: Global) -> Result<Vec<u8>, AllocError>
         requires { slice_of self.old.coding < length self.old.body }
-        ensures { IfOk result (λ piece. (self.new.text ≡ self.old.text)
+        ensures left { IfOk result (λ piece. (self.new.text ≡ self.old.text)
             × (coded self.old.coding self.old.body ≡ piece.items ++ coded self.new.coding self.new.body)) }
+        ensures some { IfOk result (λ piece. piece.items ≢ []) }
     {
         let front = self.body.split_to(self.coding.slice())?;
         written(alloc, self.coding, &front)
     }
+}
+
+/// Takes the first part that is not empty, with those before it.
+fn first_part(parts: &mut VecDeque<Part>) -> Option<Part>
+    ensures some { IfSome result (λ part. part_text part ≢ []) }
+    ensures joined { IfSome result
+        (λ part. flat_map part_text parts.old.items ≡ part_text part ++ flat_map part_text parts.new.items) }
+    ensures none { IfNone result ((parts.new.items ≡ []) × (flat_map part_text parts.old.items ≡ [])) }
+{
+    while let Some(part) = parts.pop_front() {
+        if !part.is_spent() {
+            return Some(part);
+        }
+    }
+    None
+}
+
+/// Splits a text behind its first bytes, as many as `at` says.
+fn split_text(text: Vec<u8>, at: usize) -> Result<(Bytes, Bytes), AllocError>
+    requires { at ≤ length text.items }
+    ensures { IfOk result (λ both. (both.0 ≡ take at text.items) × (both.1 ≡ drop at text.items)) }
+{
+    let mut rest = Bytes::from_vec(text).map_err(AllocError::from)?;
+    let front = rest.split_to(at)?;
+    Ok((front, rest))
 }
 
 impl Draft {
@@ -180,13 +214,12 @@ impl Draft {
         Ok(text)
     }
 
-    /// Takes the plain text in front of the first body, or behind the last one; or a slice of the first body.
-    fn take_part(&mut self) -> Result<Vec<u8>, AllocError>
-        ensures { IfOk result (λ piece. self.old ≡ piece.items ++ self.new) }
+    /// Takes the plain text of a part, or a slice of its body if it has none. What is left of the part stays in front.
+    fn take_of(&mut self, mut part: Part) -> Result<Vec<u8>, AllocError>
+        requires { part_text part ≢ [] }
+        ensures joined { IfOk result (λ piece. part_text part ++ self.old ≡ piece.items ++ self.new) }
+        ensures some { IfOk result (λ piece. piece.items ≢ []) }
     {
-        let Some(mut part) = self.parts.pop_front() else {
-            return Ok(mem::replace(&mut self.last, Vec::new(self.alloc)));
-        };
         if !part.text.is_empty() {
             let piece = mem::replace(&mut part.text, Vec::new(self.alloc));
             self.parts.push_front(part).map_err(AllocError::from)?;
@@ -200,23 +233,60 @@ impl Draft {
         Ok(piece)
     }
 
-    /// Takes the first piece of the text that is left: all of it, if that has at most 64 KiB; otherwise a plain text
-    /// between two bodies, or up to 65,520 bytes of a body. It is empty only if nothing is left.
+    /// Takes the plain text in front of the first body, or behind the last one; or a slice of the first body.
+    fn take_part(&mut self) -> Result<Vec<u8>, AllocError>
+        ensures joined { IfOk result (λ piece. self.old ≡ piece.items ++ self.new) }
+        ensures some { IfOk result (λ piece. piece.items ≡ [] → self.old ≡ []) }
+    {
+        match first_part(&mut self.parts) {
+            Some(part) => self.take_of(part),
+            None => Ok(mem::replace(&mut self.last, Vec::new(self.alloc))),
+        }
+    }
+
+    /// Puts a plain text back in front.
+    fn put_back(&mut self, body: Bytes) -> Result<(), AllocError>
+        ensures { OnOk result (self.new ≡ body ++ self.old) }
+    {
+        let part = Part {
+            text: Vec::new(self.alloc),
+            coding: Coding::Plain,
+            body,
+        };
+        self.parts.push_front(part).map_err(AllocError::from)
+    }
+
+    /// Puts back what a text that was taken has beyond so many bytes, and returns those.
+    fn cut(&mut self, text: Vec<u8>, most: usize) -> Result<Vec<u8>, AllocError>
+        requires { 0 < most }
+        ensures joined { IfOk result (λ piece. text.items ++ self.old ≡ piece.items ++ self.new) }
+        ensures some { IfOk result (λ piece. piece.items ≡ [] → text.items ≡ []) }
+        ensures short { IfOk result (λ piece. length piece.items ≤ most) }
+    {
+        if text.len() <= most {
+            return Ok(text);
+        }
+        let (front, rest) = split_text(text, most)?;
+        self.put_back(rest)?;
+        written(self.alloc, Coding::Plain, &front)
+    }
+
+    /// Takes the first piece of the text that is left, of at most 64 KiB: all of it, if it cannot have more;
+    /// otherwise a plain text between two bodies, or a slice of a body. A piece is empty only if nothing is left.
     ///
     /// # Errors
     /// Only if memory is refused. What is then left is not stated.
     pub fn take(&mut self) -> Result<Vec<u8>, AllocError>
         ensures joined { IfOk result (λ piece. self.old ≡ piece.items ++ self.new) }
         ensures some { IfOk result (λ piece. piece.items ≡ [] → self.old ≡ []) }
+        ensures short { IfOk result (λ piece. length piece.items ≤ longest_piece) }
     {
-        if self.most() <= PIECE {
-            return self.take_whole();
-        }
-        let piece = self.take_part()?;
-        if piece.is_empty() {
-            return self.take_whole();
-        }
-        Ok(piece)
+        let text = if self.most() <= PIECE {
+            self.take_whole()?
+        } else {
+            self.take_part()?
+        };
+        self.cut(text, PIECE)
     }
 }
 

@@ -1,0 +1,39 @@
+//! What holds of requests that are handed over, whatever happens. Each function does nothing; its clauses are the laws.
+
+ghost use Rattle.std.specs.Prelude.{◌≡◌, ◌+◌, ◌≤◌, ℕ, List, length};
+ghost use Rattle.std.specs.List.{Contains};
+ghost use Rattle.std.specs.Map.{keys_of};
+ghost use Rattle.handover.specs.declared.counter.Limits.{Limits as Bounds};
+ghost use Rattle.handover.specs.Counters.{opened, bytes_held};
+ghost use Rattle.handover.specs.Runs.{Event, Answered, run, all_ends, all_hands, times, times_here, times_given};
+
+/// Every request is in one place.
+pub fn one_place()
+    // Each identifier that was given is that of one request, which waits, is at a handler or has ended, and so has
+    // ended once at most; one that was not given is that of none.
+    ensures one { (limits : Bounds) (events : List Event) (id : ℕ) → times_here id (run (opened limits) events)
+        + times id (keys_of (all_ends (opened limits) events))
+        ≡ times_given id (run (opened limits) events).next_id }
+    // Identifiers rise: what was given stays given.
+    ensures rises { (limits : Bounds) (events more : List Event) → (run (opened limits) events).next_id
+        ≤ (run (run (opened limits) events) more).next_id }
+{}
+
+/// A request is answered by the handler that took it.
+pub fn one_handler()
+    // Each request is handed to one handler at most.
+    ensures handed_once { (limits : Bounds) (events : List Event) (id : ℕ)
+        → times id (keys_of (all_hands (opened limits) events)) ≤ 1 }
+    // Which answers it, if one does.
+    ensures by_its_own { (limits : Bounds) (events : List Event) (id handler : ℕ)
+        → Contains (all_ends (opened limits) events) (id, Answered handler)
+        → Contains (all_hands (opened limits) events) (id, handler) }
+{}
+
+/// No more waits than may.
+pub fn bounded()
+    ensures requests { (limits : Bounds) (events : List Event)
+        → length (run (opened limits) events).waiting ≤ limits.most }
+    ensures bytes { (limits : Bounds) (events : List Event)
+        → bytes_held (run (opened limits) events).waiting ≤ limits.most_bytes }
+{}
