@@ -12,7 +12,7 @@ use Rattle.decisions.specs.declared.decide.Decision.TheVariants.{Submit, Reply, 
 abbrev pub IsThere : Config → Shown → Type 0
 IsThere config Stats = Unit {0}
 IsThere config (History from) = Unit {0}
-IsThere config (Trace from follow bodies) = Unit {0}
+IsThere config (Trace query) = Unit {0}
 IsThere config Environments = Unit {0}
 IsThere config (Reservation f) = IsFunction config f
 IsThere config Version = Unit {0}

@@ -13,6 +13,17 @@ use http::request::Parts;
 use lambda_wire::{PayloadScratch, Reply};
 use std::alloc::{AllocError, Global};
 
+/// Which trace is asked for.
+#[derive(Clone, Copy, Debug, PartialEq, Eq)]
+pub struct TraceQuery {
+    /// The ticket of the entry that the trace begins with.
+    pub from: Ticket,
+    /// Whether it goes on with each entry that is made while it is sent.
+    pub follow: bool,
+    /// Whether it shows the bodies of requests and answers.
+    pub bodies: bool,
+}
+
 /// What is shown of an account without a call.
 #[derive(Clone, Copy, Debug, PartialEq, Eq)]
 pub enum Shown {
@@ -24,14 +35,7 @@ pub enum Shown {
         from: Option<Ticket>,
     },
     /// The trace of the account's history: a line for each entry.
-    Trace {
-        /// The ticket of the entry that the trace begins with.
-        from: Ticket,
-        /// Whether it goes on with each entry that is made while it is sent.
-        follow: bool,
-        /// Whether it shows the bodies of requests and answers.
-        bodies: bool,
-    },
+    Trace(TraceQuery),
     /// The account's environments.
     Environments,
     /// A function's reservation in force (Lambda API, GetFunctionConcurrency).

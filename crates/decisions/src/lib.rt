@@ -4,5 +4,5 @@
 mod decide;
 mod received;
 
-pub use decide::{ClockRequest, Decide, Decision, Shown};
+pub use decide::{ClockRequest, Decide, Decision, Shown, TraceQuery};
 pub use received::Received;

@@ -28,7 +28,7 @@ use Rattle.http_front.specs.declared.front.Front.{Front}
 use Rattle.http_routes.specs.Decisions.{Served, decision}
 use Rattle.lambda_wire.specs.declared.reply.Reply.{Reply}
 use Rattle.long_poll.specs.Clocks.{IsAdvance, IsClockReply}
-use Rattle.long_poll.specs.Exchanges.{IsOfBody, ComesOf, IsReply, IsTickedAt, IsTickRefusal}
+use Rattle.long_poll.specs.Exchanges.{IsOfBody, ComesOf, IsReply, IsTickedAt, IsTickRefusal, clock_of, service_of}
 use Rattle.long_poll.specs.Lengths.{declares_too_long}
 use Rattle.long_poll.specs.Outcomes.{IsStreamOf}
 use Rattle.long_poll.specs.Reads.{Counts, Lists, Reserves}
@@ -94,19 +94,19 @@ module _ {R S D N K L B P E T : Type 0} {service : Service.Ghosts S K L T} {deci
     → IsReply (arc_value front.connection) clock (decided.Submit call) reply token
     → IsReplyAt served.config most served.salt call reply token)
     (takes : (had : List Entry) (before : Held) (now ticket : ℕ) (seen then : List Entry) (after : Held)
-    → service.submits (arc_value (arc_value front.connection).service) had before now Tick None (Ok (ticket, seen)) then after
+    → service.submits (service_of (arc_value front.connection)) had before now Tick None (Ok (ticket, seen)) then after
     → IsTaken served.config most had now Tick ticket seen)
     (refuses : (had : List Entry) (before : Held) (now : ℕ) (refused : Refused OneShotBell) (then : List Entry) (after : Held)
-    → service.submits (arc_value (arc_value front.connection).service) had before now Tick None (Err refused) then after
+    → service.submits (service_of (arc_value front.connection)) had before now Tick None (Err refused) then after
     → IsTurnedAway served.config most had Tick refused.refusal then)
     (counts : (seen : List Entry) (stats : Counted) (then : List Entry)
-    → service.counts (arc_value (arc_value front.connection).service) seen stats then
+    → service.counts (service_of (arc_value front.connection)) seen stats then
     → Counts served.config most seen stats then)
     (lists : (seen : List Entry) (text : List ℕ) (then : List Entry)
-    → service.lists (arc_value (arc_value front.connection).service) seen text then
+    → service.lists (service_of (arc_value front.connection)) seen text then
     → Lists served.config most served.salt seen text then)
     (reserves : (seen : List Entry) (f : ℕ) (count : Option ℕ) (then : List Entry)
-    → service.reserves (arc_value (arc_value front.connection).service) seen f count then
+    → service.reserves (service_of (arc_value front.connection)) seen f count then
     → Reserves served.config most seen f count then)
     (decides : (head : Parts) (body : List ℕ) (made : Decision)
     → decider.decides (arc_value (arc_value front.connection).decider) head body made
@@ -118,7 +118,7 @@ module _ {R S D N K L B P E T : Type 0} {service : Service.Ghosts S K L T} {deci
   H = StreamedBody R S T K L
 
   abbrev read : ℕ → Type 0
-  read = clock.reads (arc_value connection.clock)
+  read = clock.reads (clock_of connection)
 
   ticked : (token : List Entry) (now : ℕ) → IsTickedAt connection token now → IsTicked read served.config most served.salt token now
   ticked token now (ticket, t) =
@@ -145,7 +145,7 @@ module _ {R S D N K L B P E T : Type 0} {service : Service.Ghosts S K L T} {deci
       let counted = counts x.1.0 x.0 token x.1.1 in
       (counted.0.reached, x.2 ∙ ap stats_reply counted.1)
   reply_to (decided.Show (show.History from)) reply token x = x
-  reply_to (decided.Show (show.Trace from follow bodies)) reply token x = x
+  reply_to (decided.Show (show.Trace query)) reply token x = x
   reply_to (decided.Show show.Environments) reply token x =
       let listed = lists x.1.0 x.0 token x.1.1 in
       (listed.0.reached, x.2 ∙ ap environments_reply listed.1)
@@ -166,11 +166,11 @@ module _ {R S D N K L B P E T : Type 0} {service : Service.Ghosts S K L T} {deci
   outcome_of shows head body (outcome.History shown) x =
       (x.0, sym (decides head body (decided.Show (show.History x.0)) x.1), x.2)
   outcome_of shows head body (outcome.Trace shown) x =
-      (x.0, x.1, x.2, sym (decides head body (decided.Show (show.Trace x.0 x.1 x.2)) x.3), x.4)
+      (x.0, sym (decides head body (decided.Show (show.Trace x.0)) x.1), x.2)
 
   module _ (hosts : List ℕ) (head : Parts) (response : Response (Either (Full (List ℕ)) H)) where
     abbrev shows : Shown → H → Type 0
-    shows = IsStreamOf service (arc_value connection.service)
+    shows = IsStreamOf service (service_of connection)
 
     abbrev Exchanged : Port → Type 0
     Exchanged at =
@@ -212,8 +212,8 @@ module _ {R S D N K L B P E T : Type 0} {service : Service.Ghosts S K L T} {deci
     guarded None (inl x) = inr (inl x)
     guarded None (inr x) = exchanged x.0 x.1 x.2
 
-    pub at_port : (account : S) → arc_value connection.service ≡ account
-        → (it : N) → arc_value connection.clock ≡ it → front.port ≡ served.port
+    pub at_port : (account : S) → service_of connection ≡ account
+        → (it : N) → clock_of connection ≡ it → front.port ≡ served.port
         → arc_value front.hosts ≡ hosts → IsAnswer clock yields has front head response
         → IsAnswerAt L (IsStreamOf service account) (clock.reads it) served most yields has hosts head response
     at_port account same it is at listed x =

@@ -1,6 +1,6 @@
 -- The answer to a request at a port of the service: at a port, in a configuration, with the salt of its identifiers.
 -- `most` is the limit of the account, the greatest number of entries of its history.
-use Rattle.std.specs.Prelude.{◌≡◌, ◌⊎◌, ℕ, Bool, true, List, [], Option, Result, MatchOption}
+use Rattle.std.specs.Prelude.{◌≡◌, ◌⊎◌, ℕ, true, List, [], Option, Result, MatchOption}
 use Rattle.account_book.specs.Reached.{IsReached}
 use Rattle.account_lock.specs.Shown.{IsTaken}
 use Rattle.arn_ids.specs.declared.config.Config.{Config}
@@ -10,6 +10,7 @@ use Rattle.call_types.specs.declared.call.Call.TheVariants.{Tick}
 use Rattle.call_types.specs.declared.call.Entry.{Entry}
 use Rattle.decisions.specs.declared.decide.Decision.{Decision}
 use Rattle.decisions.specs.declared.decide.Decision.TheVariants as decided
+use Rattle.decisions.specs.declared.decide.TraceQuery.{TraceQuery}
 use Rattle.decisions.specs.declared.decide.Shown.{Shown}
 use Rattle.decisions.specs.declared.decide.Shown.TheVariants as shown
 use Rattle.futures.specs.Runs.{Runs}
@@ -51,7 +52,7 @@ module _ (reads : ℕ → Type 0) (config : Config) (most salt : ℕ) where
   IsReplyTo (decided.Reply own) reply h = reply ≡ own
   IsReplyTo (decided.Show shown.Stats) reply h = IsReached config most h × (reply ≡ stats_reply (stats config h))
   IsReplyTo (decided.Show (shown.History from)) reply h = ⊥
-  IsReplyTo (decided.Show (shown.Trace from follow bodies)) reply h = (follow ≡ true) × (reply ≡ followers_reply)
+  IsReplyTo (decided.Show (shown.Trace query)) reply h = (query.follow ≡ true) × (reply ≡ followers_reply)
   IsReplyTo (decided.Show shown.Environments) reply h =
       IsReached config most h × (reply ≡ environments_reply (environments_text config salt h))
   IsReplyTo (decided.Show (shown.Reservation f)) reply h =
@@ -67,8 +68,7 @@ module _ {H : Type 0} (L : Type 0) (shows : Shown → H → Type 0) (reads : ℕ
   IsOutcomeOf made (outcome.History body) =
       (from : Option ℕ) × (made ≡ decided.Show (shown.History from)) × shows (shown.History from) body
   IsOutcomeOf made (outcome.Trace body) =
-      (from : ℕ) × (follow : Bool) × (bodies : Bool) × (made ≡ decided.Show (shown.Trace from follow bodies))
-      × shows (shown.Trace from follow bodies) body
+      (query : TraceQuery) × (made ≡ decided.Show (shown.Trace query)) × shows (shown.Trace query) body
 
   -- Of the bodies of requests: which frames each yields, and which bytes the data of a frame has.
   module _ {B P E : Type 0} (yields : B → Runs (Result (Frame P) E)) (has : P → List ℕ → Type 0)

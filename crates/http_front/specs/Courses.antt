@@ -20,7 +20,7 @@ module _ {R S D N B K L T : Type 0} {service : Service.Ghosts S K L T} {decider 
   IsExchangeOf exchange =
       (arc_value exchange.connection ≡ arc_value front.connection)
       × (exchange.stage ≡ Collecting head
-      (record { alloc = (arc_value front.connection).alloc; body = body; held = [] })
+      (record { alloc = (arc_value (arc_value front.connection).shared).alloc; body = body; held = [] })
       (declares_too_long head))
 
   -- What becomes of a request. If its head is refused, it has that refusal and no exchange, so it never becomes a call.

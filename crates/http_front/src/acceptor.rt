@@ -23,24 +23,23 @@ use std::time::Duration;
 use std::{io, time};
 use usage_ledger::{Keep, Tally};
 
-/// For how many milliseconds a listener waits for a descriptor before it tries again.
-const PAUSE: u64 = 1;
+/// For how long a listener waits for a descriptor before it tries again.
+const PAUSE_MS: u64 = 1;
 
 /// The most connections that a listener accepts before it is another port's turn.
 const MOST_IN_A_TURN: u32 = 8;
 
-/// For how many milliseconds a newcomer waits for a connection that makes room. (Its thread may have to
-/// wait for a processor.)
-const FOR_ROOM: u64 = 250;
+/// How long a newcomer waits for a connection that makes room. (Its thread may have to wait for a processor.)
+const FOR_ROOM_MS: u64 = 250;
 
-/// How many seconds pass between two checks of the connections' time limits.
-const BETWEEN_ROUNDS: u64 = 1;
+/// The time between two checks of the connections' time limits.
+const BETWEEN_ROUNDS_S: u64 = 1;
 
-/// How many milliseconds pass between two looks at the connections that end with the service.
-const BETWEEN_LOOKS: u64 = 250;
+/// The time between two looks at the connections that end with the service.
+const BETWEEN_LOOKS_MS: u64 = 250;
 
 /// How many looks are taken at them: after two seconds all are ended at once.
-const LOOKS: u32 = 8;
+const LOOKS_FOR_END: u32 = 8;
 
 /// Returns whether accepting failed because of the connection itself, which has left again or was
 /// closed for want of memory, or because the call was interrupted: others may still wait.
@@ -64,8 +63,6 @@ pub(crate) struct Acceptor<R, S: Identity, N, K: Keep> {
     slots: Slots<Tally<K, S>, Job<S>>,
     // A descriptor that is given up if no other is left, so that a connection can be turned away.
     spare: Option<Poll>,
-    // The most milliseconds for which a premature call is held back.
-    patience: u32,
     // When the time limits were last checked, by the monotonic clock.
     looked: Duration,
 }
@@ -79,13 +76,13 @@ impl<R: Machine, S: Identity + Drop, N: Drop, K: Keep> Acceptor<R, S, N, K> {
         clock: N,
         hosts: KnownHosts,
         most: u32,
-        patience: u32,
+        patience_ms: u32,
     ) -> Result<Acceptor<R, S, N, K>, AllocError>
         ensures { IfOk result (λ acceptor. acceptor.root ≡ opened.1) }
     {
         let (account, root) = opened;
-        match Common::new(rt.alloc(), account, clock, hosts) {
-            Ok(common) => Acceptor::new(rt, common, root, most, patience),
+        match Common::new(rt.alloc(), account, clock, hosts, patience_ms) {
+            Ok(common) => Acceptor::new(rt, common, root, most),
             Err(refused) => Err(refused),
         }
     }
@@ -96,7 +93,6 @@ impl<R: Machine, S: Identity + Drop, N: Drop, K: Keep> Acceptor<R, S, N, K> {
         common: Common<S, N>,
         root: Tally<K, S>,
         most: u32,
-        patience: u32,
     ) -> Result<Acceptor<R, S, N, K>, AllocError>
         ensures { IfOk result (λ acceptor. acceptor.root ≡ root) }
     {
@@ -110,7 +106,6 @@ impl<R: Machine, S: Identity + Drop, N: Drop, K: Keep> Acceptor<R, S, N, K> {
             root,
             slots,
             spare,
-            patience,
             looked: Duration::ZERO,
         })
     }
@@ -120,7 +115,8 @@ impl<R: Machine, S: Identity + Drop, N: Drop, K: Keep> Acceptor<R, S, N, K> {
         self.spare = None;
         listener.turn_away();
         self.spare = Poll::new(&self.rt).ok();
-        self.slots.await_end(&self.rt, Duration::from_millis(PAUSE));
+        self.slots
+            .await_end(&self.rt, Duration::from_millis(PAUSE_MS));
         self.slots.reap(&self.rt);
     }
 }
@@ -203,7 +199,7 @@ impl<R: Wait + Threads + time::Clock + Copy + Drop, S: Identity + Drop, N: Drop,
             if let Some(at) = self.open_place(port) {
                 return Some(at);
             }
-            let left = self.left_of(FOR_ROOM, asked);
+            let left = self.left_of(FOR_ROOM_MS, asked);
             if left.is_zero() {
                 return None;
             }
@@ -227,7 +223,6 @@ impl<R: Wait + Threads + time::Clock + Copy + Drop, S: Identity + Drop, N: Drop,
                 rt: self.rt,
                 common,
                 post,
-                patience: self.patience,
             }),
             _ => Err(AllocError),
         }
@@ -237,7 +232,7 @@ impl<R: Wait + Threads + time::Clock + Copy + Drop, S: Identity + Drop, N: Drop,
     /// that have ended because no connection came.
     fn look_round(&mut self) {
         if let Ok(now) = self.rt.monotonic()
-            && now.saturating_sub(self.looked) >= Duration::from_secs(BETWEEN_ROUNDS)
+            && now.saturating_sub(self.looked) >= Duration::from_secs(BETWEEN_ROUNDS_S)
         {
             self.looked = now;
             self.slots.end_the_idle();
@@ -251,7 +246,7 @@ impl<R: Wait + Threads + time::Clock + Copy + Drop, S: Identity + Drop, N: Drop,
         if self.slots.is_vacant() {
             return None;
         }
-        let between = Duration::from_secs(BETWEEN_ROUNDS);
+        let between = Duration::from_secs(BETWEEN_ROUNDS_S);
         match self.rt.monotonic() {
             Ok(now) => Some(between.saturating_sub(now.saturating_sub(self.looked))),
             Err(_fault) => Some(between),
@@ -267,7 +262,7 @@ impl<R: Wait + Threads + time::Clock + Copy + Drop, S: Identity + Drop, N: Drop,
             if self.slots.is_idle() {
                 return true;
             }
-            let left = self.left_of(BETWEEN_LOOKS, looked);
+            let left = self.left_of(BETWEEN_LOOKS_MS, looked);
             if left.is_zero() {
                 return false;
             }
@@ -281,7 +276,7 @@ impl<R: Wait + Threads + time::Clock + Copy + Drop, S: Identity + Drop, N: Drop,
     /// two seconds all. Returns whether they have ended before that.
     fn end_softly(&mut self) -> bool {
         self.slots.tell(false);
-        for look in 0..LOOKS {
+        for look in 0..LOOKS_FOR_END {
             if self.have_ended() {
                 return true;
             }
@@ -307,13 +302,13 @@ impl<R: Wait + Threads + time::Clock + Copy + Drop, S: Identity + Drop, N: Drop,
                 return;
             }
             self.slots
-                .await_end(&rt, Duration::from_millis(BETWEEN_LOOKS));
+                .await_end(&rt, Duration::from_millis(BETWEEN_LOOKS_MS));
         }
     }
 
     /// Notes that the service is over, ends every connection, and joins all threads.
     pub(crate) fn finish(&mut self) {
-        self.common.beat.end(&self.rt);
+        self.common.shared.beat.end(&self.rt);
         self.slots.dismiss(&self.rt);
         self.end_connections();
         self.slots.join_all(&self.rt);
@@ -336,7 +331,10 @@ impl<R: Wait + Threads + time::Clock + Copy + Drop, S: Identity + Drop, N: Drop,
             Ok(tallies) => tallies,
             Err(_shared) => return Err(HostFault::StillShared),
         };
-        match Arc::into_inner(common.account) {
+        let Some(shared) = Arc::into_inner(common.shared) else {
+            return Err(HostFault::StillShared);
+        };
+        match shared.into_service() {
             Some(account) => Ok(Hosted { account, tallies }),
             None => Err(HostFault::StillShared),
         }
@@ -426,7 +424,7 @@ impl<
         let rt = self.rt;
         let mut more = false;
         for _ in rt.forever() {
-            if self.common.beat.is_over() {
+            if self.common.shared.beat.is_over() {
                 return Ok(());
             }
             let round = if more {

@@ -4,29 +4,21 @@ ghost use Rattle.std.specs.Prelude.{◌≡◌, IfOk};
 ghost use Rattle.std.specs.Arc.{arc_value};
 
 use account_lock::{Account, Identity};
-use lambda_wire::{HeaderMaps, LongScratches};
-use long_poll::{Alarm, Beat, Line, OneShotBell};
+use long_poll::{OneShotBell, Shared};
 use request_guard::KnownHosts;
 use std::alloc::{AllocError, Global};
 use std::sync::Arc;
 
-/// What the threads of a host have in common: the account that is served, the clock, the hosts that
-/// are listed in addition to the local ones, the maps of the headers that most replies have, the memory
-/// in which long payloads are read, and what they and the ticker tell each other; and the line of the
-/// callers whose Invokes are held back.
+/// What the threads of a host have in common: what the connections of the service share, its account and clock among
+/// it, and the hosts that are listed in addition to the local ones.
 #[derive(Drop)]
 pub(crate) struct Common<S: Identity, N> {
-    pub(crate) account: Arc<Account<S, OneShotBell>>,
-    pub(crate) clock: Arc<N>,
+    pub(crate) shared: Arc<Shared<Account<S, OneShotBell>, N>>,
     pub(crate) hosts: Arc<KnownHosts>,
-    pub(crate) maps: Arc<HeaderMaps>,
-    pub(crate) long: Arc<LongScratches>,
-    pub(crate) beat: Arc<Beat>,
-    pub(crate) line: Arc<Line>,
 }
 
 /// Shares a value. It fails only if an allocation fails; the value is then dropped.
-fn shared<T: Drop>(alloc: Global, value: T) -> Result<Arc<T>, AllocError>
+fn arc_of<T: Drop>(alloc: Global, value: T) -> Result<Arc<T>, AllocError>
     ensures { IfOk result (λ it. arc_value it ≡ value) }
 {
     match Arc::new(alloc, value) {
@@ -36,55 +28,32 @@ fn shared<T: Drop>(alloc: Global, value: T) -> Result<Arc<T>, AllocError>
 }
 
 impl<S: Identity + Drop, N: Drop> Common<S, N> {
-    /// Makes it for this account, this clock and these hosts; the service is not over. It fails
-    /// only if an allocation fails; the arguments are then dropped.
+    /// Makes it for this account, this clock and these hosts, and for premature calls that are held back for up to
+    /// `patience_ms` milliseconds; the service is not over. It fails only if an allocation fails; the arguments are
+    /// then dropped.
     pub(crate) fn new(
         alloc: Global,
         account: Account<S, OneShotBell>,
         clock: N,
         hosts: KnownHosts,
+        patience_ms: u32,
     ) -> Result<Common<S, N>, AllocError>
-        ensures { IfOk result (λ common. (arc_value common.account ≡ account) × (arc_value common.hosts ≡ hosts)) }
+        ensures account { IfOk result (λ common. arc_value (arc_value common.shared).service ≡ account) }
+        ensures hosts { IfOk result (λ common. arc_value common.hosts ≡ hosts) }
     {
-        let account = shared(alloc, account)?;
-        let clock = shared(alloc, clock)?;
-        let hosts = shared(alloc, hosts)?;
-        let maps = shared(alloc, HeaderMaps::open(alloc)?)?;
-        let long = shared(alloc, LongScratches::new(alloc))?;
-        let beat = shared(alloc, Beat::new(alloc, shared(alloc, Alarm::new())?))?;
-        let line = shared(alloc, Line::new(alloc))?;
-        Ok(Common {
-            account,
-            clock,
-            hosts,
-            maps,
-            long,
-            beat,
-            line,
-        })
+        let account = arc_of(alloc, account)?;
+        let shared = arc_of(alloc, Shared::new(alloc, account, clock, patience_ms)?)?;
+        let hosts = arc_of(alloc, hosts)?;
+        Ok(Common { shared, hosts })
     }
 
     /// Returns the same, for another thread.
     pub(crate) fn share(&self) -> Result<Common<S, N>, AllocError>
-        ensures account { IfOk result (λ common. arc_value common.account ≡ arc_value self.now.account) }
-        ensures clock { IfOk result (λ common. arc_value common.clock ≡ arc_value self.now.clock) }
+        ensures shared { IfOk result (λ common. arc_value common.shared ≡ arc_value self.now.shared) }
         ensures hosts { IfOk result (λ common. arc_value common.hosts ≡ arc_value self.now.hosts) }
     {
-        let account = Arc::try_clone(&self.account)?;
-        let clock = Arc::try_clone(&self.clock)?;
+        let shared = Arc::try_clone(&self.shared)?;
         let hosts = Arc::try_clone(&self.hosts)?;
-        let maps = Arc::try_clone(&self.maps)?;
-        let long = Arc::try_clone(&self.long)?;
-        let beat = Arc::try_clone(&self.beat)?;
-        let line = Arc::try_clone(&self.line)?;
-        Ok(Common {
-            account,
-            clock,
-            hosts,
-            maps,
-            long,
-            beat,
-            line,
-        })
+        Ok(Common { shared, hosts })
     }
 }

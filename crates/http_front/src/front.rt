@@ -5,7 +5,7 @@ ghost use Rattle.http_front.specs.Courses.{IsExchangeOf, Takes};
 ghost use Rattle.long_poll.specs.Lengths as lengths;
 
 use crate::responding::Responding;
-use crate::{Port, ResponseFault, Rousing};
+use crate::{Port, ResponseFault};
 use bytes::Bytes;
 use decisions::Decide;
 use http::request::Parts;
@@ -30,7 +30,6 @@ pub struct Front<R, A: Service<K, L>, D: Decide, N, K: Keep, L: Ledgers> {
     alloc: Global,
     port: Port,
     hosts: Arc<KnownHosts>,
-    rousing: Rousing<R, N>,
     pub(crate) connection: Arc<Connection<R, A, D, N, K, L>>,
 }
 
@@ -48,7 +47,6 @@ impl<
         alloc: Global,
         port: Port,
         hosts: Arc<KnownHosts>,
-        rousing: Rousing<R, N>,
         connection: Arc<Connection<R, A, D, N, K, L>>,
     ) -> Front<R, A, D, N, K, L>
         ensures connection { result.connection ≡ connection }
@@ -58,7 +56,6 @@ impl<
             alloc,
             port,
             hosts,
-            rousing,
             connection,
         }
     }
@@ -102,7 +99,7 @@ impl<
         if let Some(refusal) = self.hosts.refusal(&parts) {
             return Responding::refused(self.alloc, self.port, is_unread, refusal);
         }
-        self.rousing.prepare();
+        self.connection.await_time_of_day();
         match self.exchange(parts, body, is_unread) {
             Some(exchange) => Responding::exchanging(self.alloc, self.port, is_unread, exchange),
             None => Responding::refused(self.alloc, self.port, is_unread, Refusal::OutOfMemory),

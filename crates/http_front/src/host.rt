@@ -11,7 +11,7 @@ ghost use Rattle.http_front.specs.declared.host_fault.HostFault.TheVariants.{Con
 use crate::acceptor::Acceptor;
 use crate::ports::Ports;
 use crate::ticker::Ticker;
-use crate::worker::STACK;
+use crate::worker::STACK_BYTES;
 use crate::{Alarm, HostFault, Notices, Plan};
 use account_lock::{Account, Identity};
 use arn_ids::Checked;
@@ -29,8 +29,8 @@ use usage_ledger::{Blanks, Keep, Tally};
 /// connection.
 const LEAST_THREADS: usize = 3;
 
-/// For how many seconds a thread at most waits for the others that are tried with it.
-const FOR_OTHERS: u64 = 10;
+/// How long a thread waits at most for the others that are tried with it.
+const FOR_OTHERS_S: u64 = 10;
 
 /// Returns whether enough descriptors are left for one connection: a socket, and the event loop of
 /// its thread.
@@ -47,8 +47,8 @@ fn start_at<R: Machine>(rt: R, gate: &Arc<Alarm>, started: &mut Vec<JoinHandle<(
         let Ok(gate) = Arc::try_clone(gate) else {
             return;
         };
-        let builder = thread::Builder::new().stack_size(STACK);
-        let wait = move || gate.sleep(&rt, 0, Duration::from_secs(FOR_OTHERS));
+        let builder = thread::Builder::new().stack_size(STACK_BYTES);
+        let wait = move || gate.sleep(&rt, 0, Duration::from_secs(FOR_OTHERS_S));
         let Ok(thread) = builder.spawn(&rt, wait) else {
             return;
         };

@@ -5,14 +5,13 @@ ghost use Rattle.http_front.specs.Beats.{has_ended, refused_after, HasBeenRefuse
 ghost use Rattle.http_front.specs.Readings.{IsRead, IsReadAhead};
 
 use crate::common::Common;
-use crate::rousing::MOST_LAG;
 use crate::{Alarm, Notices};
 use account_book::{Life, Refusal};
 use account_lock::{Account, Identity};
 use arn_ids::GREATEST_MOMENT;
 use call_model::Call;
 use http_connection::Machine;
-use long_poll::{Beat, Clock, ClockFace, OneShotBell, moment};
+use long_poll::{Beat, Clock, ClockFace, MOST_LAG_MS, OneShotBell, moment};
 use mio::Waker;
 use std::alloc::AllocError;
 use std::sync::{Arc, Wait};
@@ -21,14 +20,14 @@ use std::time::Duration;
 use std::{thread, time};
 use usage_ledger::{Keep, Tally, Token};
 
-/// How many milliseconds pass between two checks for something due.
-const BEAT: u64 = 50;
+/// The time between two checks for something due.
+const BEAT_MS: u64 = 50;
 
-/// How often a rest may be twice as long as a beat: up to an hour and 49 minutes.
-const DOUBLINGS: u32 = 17;
+/// How many times a rest may double, from a beat on: up to an hour and 49 minutes.
+const MOST_DOUBLINGS: u32 = 17;
 
-/// The longest rest, in milliseconds.
-const LONGEST_REST: u64 = BEAT << DOUBLINGS;
+/// The longest rest.
+const LONGEST_REST_MS: u64 = BEAT_MS << MOST_DOUBLINGS;
 
 /// For how many beats in a row a tick may be refused after a Stop because an allocation fails,
 /// before the service ends without it: ten seconds.
@@ -51,7 +50,7 @@ fn catch_up<S: Identity, N: Clock, K: Keep>(
         tally.old.held token.new tally.new.held }
 {
     let lag = clock.lag();
-    if lag <= MOST_LAG {
+    if lag <= MOST_LAG_MS {
         return;
     }
     let now = clock.now().saturating_add(lag).min(GREATEST_MOMENT);
@@ -135,10 +134,10 @@ fn quiet_time<S: Identity>(
     face: ClockFace,
 ) -> u64 {
     if !face.is_running {
-        return LONGEST_REST;
+        return LONGEST_REST_MS;
     }
-    let mut quiet = BEAT;
-    for _ in 0..DOUBLINGS {
+    let mut quiet = BEAT_MS;
+    for _ in 0..MOST_DOUBLINGS {
         let longer = quiet.saturating_mul(2);
         if account.due(
             rt,
@@ -168,7 +167,7 @@ fn rest<S: Identity, N: Clock>(
     let quiet = if account.stats(rt, token).entries == entries {
         quiet_time(rt, account, token, clock.face())
     } else {
-        BEAT
+        BEAT_MS
     };
     beat.sleep(rt, woken, Duration::from_millis(quiet));
 }
@@ -208,7 +207,7 @@ fn tick_on<R: Wait + time::Clock, S: Identity, N: Clock, K: Keep>(
         if entries == before && refused == 0 {
             rest(rt, account, clock, &mut token, beat, woken, entries);
         } else {
-            beat.sleep(rt, woken, Duration::from_millis(BEAT));
+            beat.sleep(rt, woken, Duration::from_millis(BEAT_MS));
         }
         before = entries;
     }
@@ -239,11 +238,11 @@ impl<R: Machine, S: Identity + Drop, N: Clock + Drop, K: Keep> Ticker<R, S, N, K
         } = self;
         let tally = tick_on(
             &rt,
-            &*common.account,
-            &*common.clock,
+            &*common.shared.service,
+            &common.shared.clock,
             &notices,
             tally,
-            &common.beat,
+            &common.shared.beat,
         );
         // (If the descriptor fails, the next new connection or the next round ends the wait.)
         let _ = waker.wake();
@@ -252,7 +251,7 @@ impl<R: Machine, S: Identity + Drop, N: Clock + Drop, K: Keep> Ticker<R, S, N, K
 
     /// Returns what wakes the ticker.
     pub(crate) fn alarm(&self) -> Result<Arc<Alarm>, AllocError> {
-        Arc::try_clone(&self.common.beat.alarm)
+        Arc::try_clone(&self.common.shared.beat.alarm)
     }
 }
 

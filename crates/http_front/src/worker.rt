@@ -16,7 +16,7 @@ use crate::common::Common;
 use crate::deciders::Deciders;
 use crate::front::Front;
 use crate::served_port::ServedPort;
-use crate::{Port, Rousing, Side};
+use crate::{Port, Side};
 use account_book::Refusal;
 use account_lock::{Account, Identity, Trail};
 use arn_ids::FnNo;
@@ -36,8 +36,8 @@ use std::sync::{Arc, Mutex, Wait};
 use std::{io, thread, time};
 use usage_ledger::{Keep, Ledgers, Tally, Token};
 
-/// The stack of a thread, in bytes. The deepest chain of calls takes some 80 KB.
-pub(crate) const STACK: usize = 512 * 1024;
+/// The stack of a thread. The deepest chain of calls takes some 80 KB.
+pub(crate) const STACK_BYTES: usize = 512 * 1024;
 
 /// The note of a connection's open Next, or that the trace that it sends waits for an entry, by which its
 /// socket's end is watched.
@@ -101,15 +101,13 @@ impl<S: Identity> Tools<S> {
     }
 }
 
-/// Serves the connections of a place. It has what the threads have in common, the place with the
-/// tally in which the calls count, and the most milliseconds for which a premature call is held
-/// back.
+/// Serves the connections of a place. It has what the threads have in common, and the place with the
+/// tally in which the calls count.
 #[derive(Drop)]
 pub(crate) struct Worker<R, S: Identity, N, K: Keep> {
     pub(crate) rt: R,
     pub(crate) common: Common<S, N>,
     pub(crate) post: Post<Tally<K, S>, Job<S>>,
-    pub(crate) patience: u32,
 }
 
 /// Serves a connection at this port with a front. Returns its socket, and how it ended, if
@@ -157,7 +155,7 @@ impl<
         let Ok(mailbox) = Arc::try_clone(&self.post.mailbox) else {
             return None;
         };
-        let builder = thread::Builder::new().stack_size(STACK);
+        let builder = thread::Builder::new().stack_size(STACK_BYTES);
         match builder.spawn(&rt, move || self.work(first)) {
             Ok(thread) => Some(WorkerThread { thread, mailbox }),
             Err(_) => None,
@@ -177,7 +175,7 @@ impl<R: Machine, S: Identity + Drop, N: Clock + Drop, K: Keep> Worker<R, S, N, K
     /// Serves this connection and those that follow, with tools of this thread. Returns whether it
     /// ended because none followed.
     fn serve_all(&self, first: Job<S>) -> bool {
-        match Tools::open(&self.rt, &*self.common.account) {
+        match Tools::open(&self.rt, &*self.common.shared.service) {
             Ok(mut tools) => self.serve_in_turn(&mut tools, first),
             Err(_) => false,
         }
@@ -219,7 +217,7 @@ impl<R: Machine, S: Identity + Drop, N: Clock + Drop, K: Keep> Worker<R, S, N, K
         if let Some(ticket) = open.ticket() {
             let _ = self.withdraw(&mut tools.token, ticket);
         }
-        self.common.beat.note_step(&self.rt);
+        self.common.shared.beat.note_step(&self.rt);
         ended
     }
 
@@ -248,7 +246,7 @@ impl<R: Machine, S: Identity + Drop, N: Clock + Drop, K: Keep> Worker<R, S, N, K
         let Ok(parked) = self.parked(open) else {
             return Err(socket.close(AllocError.into()));
         };
-        let token = self.common.account.again(&mut tools.token);
+        let token = self.common.shared.service.again(&mut tools.token);
         let front = match self.front(&mut tools.deciders, token, served, open) {
             Ok(front) => front,
             Err(refused) => return Err(socket.close(refused.into())),
@@ -288,10 +286,8 @@ impl<
     ) -> Result<Front<R, Account<S, OneShotBell>, Side, N, K, S>, AllocError>
         ensures guarded { IfOk result (λ front. (front.port ≡ served.port)
             × (arc_value front.hosts ≡ arc_value self.now.common.hosts)) }
-        ensures account { IfOk result (λ front.
-            arc_value (arc_value front.connection).service ≡ arc_value self.now.common.account) }
-        ensures clock { IfOk result (λ front.
-            arc_value (arc_value front.connection).clock ≡ arc_value self.now.common.clock) }
+        ensures shared { IfOk result (λ front.
+            arc_value (arc_value front.connection).shared ≡ arc_value self.now.common.shared) }
         ensures decided { IfOk result (λ front. arc_value (arc_value front.connection).decider ≡ served) }
         ensures named { IfOk result (λ front. (served.config ≡ S.config) × (served.salt ≡ S.salt)) }
     {
@@ -299,12 +295,11 @@ impl<
         let port = served.port();
         let function = served.function();
         let hosts = Arc::try_clone(&self.common.hosts)?;
-        let rousing = self.rousing()?;
         let Ok(decider) = deciders.of(alloc, served) else {
             return Err(AllocError);
         };
         match self.connection(decider, token, function, open) {
-            Ok(connection) => Ok(Front::new(alloc, port, hosts, rousing, connection)),
+            Ok(connection) => Ok(Front::new(alloc, port, hosts, connection)),
             Err(refused) => Err(refused),
         }
     }
@@ -314,13 +309,6 @@ impl<
         Ok(OpenNext {
             open: Arc::try_clone(open)?,
         })
-    }
-
-    /// Returns what the front of a connection does before each request.
-    fn rousing(&self) -> Result<Rousing<R, N>, AllocError> {
-        let clock = Arc::try_clone(&self.common.clock)?;
-        let beat = Arc::try_clone(&self.common.beat)?;
-        Ok(Rousing::new(self.rt, clock, beat))
     }
 
     /// Returns what the exchanges of a connection share, with a token of its own. The function is that of
@@ -333,41 +321,16 @@ impl<
         open: &Arc<OpenPoll>,
     ) -> Result<Arc<Connection<R, Account<S, OneShotBell>, Side, N, K, S>>, AllocError>
         requires { (arc_value decider).config ≡ S.config }
-        ensures account { IfOk result (λ connection.
-            arc_value (arc_value connection).service ≡ arc_value self.now.common.account) }
-        ensures clock { IfOk result (λ connection.
-            arc_value (arc_value connection).clock ≡ arc_value self.now.common.clock) }
+        ensures shared { IfOk result (λ connection.
+            arc_value (arc_value connection).shared ≡ arc_value self.now.common.shared) }
         ensures decider { IfOk result (λ connection. (arc_value connection).decider ≡ decider) }
     {
-        let Common {
-            account,
-            clock,
-            maps,
-            long,
-            beat,
-            line,
-            ..
-        } = self.common.share()?;
+        let shared = Arc::try_clone(&self.common.shared)?;
         let tally = Arc::try_clone(&self.post.tally)?;
         let open = Arc::try_clone(open)?;
-        let alloc = self.rt.alloc();
-        let connection = Connection::new(
-            self.rt,
-            alloc,
-            account,
-            decider,
-            clock,
-            tally,
-            token,
-            open,
-            beat,
-            line,
-            function,
-            maps,
-            long,
-            self.patience,
-        );
-        Arc::new(alloc, connection).map_err(AllocError::from)
+        let connection = Connection::new(self.rt, shared, decider, tally, token, open)?;
+        let connection = connection.of_function(function);
+        Arc::new(self.rt.alloc(), connection).map_err(AllocError::from)
     }
 
     /// Withdraws the Next with this ticket.
@@ -376,14 +339,14 @@ impl<
     /// If that is refused. The Next then stays pending.
     fn withdraw(&self, token: &mut Token<S>, ticket: Ticket) -> Result<(), Refusal>
         ensures taken { OnOk result (IsWithdrawn S.config S.most
-            (IsRead N.Clock (arc_value self.now.common.clock)) token.old ticket token.new) }
+            (IsRead N.Clock (arc_value self.now.common.shared).clock) token.old ticket token.new) }
         ensures refused { IfErr result (λ refusal.
             IsTurnedAway S.config S.most token.old (Withdraw ticket) refusal token.new) }
     {
-        let now = moment(&*self.common.clock);
+        let now = moment(&self.common.shared.clock);
         let mut tally = self.post.tally.lock(&self.rt);
         let withdraw = Call::Withdraw { ticket };
-        let account = &*self.common.account;
+        let account = &*self.common.shared.service;
         match account.submit(&self.rt, &mut tally, token, now, withdraw, None) {
             Ok(_) => Ok(()),
             Err(refused) => Err(refused.refusal),

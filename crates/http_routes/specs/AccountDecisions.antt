@@ -105,7 +105,8 @@ abbrev pub show_trace_with : Option ℕ → Option Bool → Option Bool → Deci
 show_trace_with None follow bare = refused cause.WrongTicket
 show_trace_with (Some from) None bare = refused cause.WrongFollow
 show_trace_with (Some from) (Some follow) None = refused cause.WrongBodies
-show_trace_with (Some from) (Some follow) (Some bare) = Show (shown.Trace from follow (not bare))
+show_trace_with (Some from) (Some follow) (Some bare) =
+    Show (shown.Trace (record { from = from; follow = follow; bodies = not bare }))
 
 -- The trace, from `from` on, which goes on if `follow` is `1`, without bodies if `bodies` is `none`.
 abbrev pub show_trace : Parts → Decision

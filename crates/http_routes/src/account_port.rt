@@ -15,7 +15,7 @@ use crate::refusals::{Cause, refused, wrong_method};
 use crate::routes::{AccountRoute, account_route};
 use arn_ids::{Checked, EnvNo, FnNo, GREATEST_MOMENT, read_environment, read_number};
 use call_types::Call;
-use decisions::{ClockRequest, Decision, Received, Shown};
+use decisions::{ClockRequest, Decision, Received, Shown, TraceQuery};
 use http::request::Parts;
 use lambda_wire::{PayloadScratch, WireFault, read_invoke_body, read_reservation};
 use matchit::Router;
@@ -217,11 +217,11 @@ fn show_trace(alloc: Global, parts: &Parts) -> Result<Decision, AllocError>
     let Some(bare) = is_said(alloc, parts, "bodies", "none")? else {
         return refused(alloc, Cause::WrongBodies);
     };
-    Ok(Decision::Show(Shown::Trace {
+    Ok(Decision::Show(Shown::Trace(TraceQuery {
         from,
         follow,
         bodies: !bare,
-    }))
+    })))
 }
 
 /// Reads by how many milliseconds the clock is to be set forward: from 1 to 2^53 - 1.

@@ -13,5 +13,5 @@ mod refusals;
 mod routes;
 mod side;
 
-pub use decisions::{ClockRequest, Decision, Received, Shown};
+pub use decisions::{ClockRequest, Decision, Received, Shown, TraceQuery};
 pub use side::Side;

@@ -9,11 +9,11 @@ use std::sync::{Arc, Wait};
 use std::thread::{self, JoinHandle};
 use std::time::{self, Duration};
 
-/// How many seconds the log's thread sleeps at most if there is nothing to say.
-const REST: u64 = 3_600;
+/// How long the log's thread sleeps at most if there is nothing to say.
+const REST_S: u64 = 3_600;
 
-/// How many seconds the service waits for the last line.
-const PATIENCE: u64 = 1;
+/// How long the service waits for the last line.
+const FOR_LAST_LINE_S: u64 = 1;
 
 /// The notes that the service and its log's thread leave for each other.
 #[derive(Drop)]
@@ -53,7 +53,7 @@ fn write<R: Log + Wait + time::Clock>(rt: &R, notices: &Notices, progress: &Prog
             progress.ended.ring();
             return;
         }
-        notices.alarm.sleep(rt, seen, Duration::from_secs(REST));
+        notices.alarm.sleep(rt, seen, Duration::from_secs(REST_S));
     }
     unreachable!()
 }
@@ -104,7 +104,7 @@ impl LogWriter {
         if !progress.has_ended.load(SeqCst) {
             progress
                 .ended
-                .sleep(rt, seen, Duration::from_secs(PATIENCE));
+                .sleep(rt, seen, Duration::from_secs(FOR_LAST_LINE_S));
         }
         if progress.has_ended.load(SeqCst) {
             thread.join(rt);

@@ -11,12 +11,13 @@ use Rattle.futures.specs.declared.task.Poll.TheVariants.{Ready, Pending}
 use Rattle.http_body.specs.declared.frame.Frame.{Frame}
 use Rattle.decisions.specs.declared.decide.Decision.TheVariants as decision
 use Rattle.decisions.specs.declared.decide.Shown.{Shown}
+use Rattle.decisions.specs.declared.decide.TraceQuery.{TraceQuery}
 use Rattle.decisions.specs.declared.decide.Shown.TheVariants.{Trace}
 use Rattle.http.specs.declared.request.Parts.{Parts}
 use Rattle.lambda_wire.specs.declared.reply.Reply.{Reply}
 use Rattle.long_poll.specs.Bodies.{Collects}
 use Rattle.arn_ids.specs.Limits.{longest_body}
-use Rattle.long_poll.specs.Exchanges.{Awaits, ComesOfCall, Decides, Exchanges, IsOfBody, IsBegun, IsHeld, HasBegun, shown}
+use Rattle.long_poll.specs.Exchanges.{Awaits, ComesOfCall, Decides, Exchanges, IsOfBody, IsBegun, IsSubmission, HasBegun, shown}
 use Rattle.long_poll.specs.Outcomes.{IsHistoryOf, IsTraceOf, IsStreamOf}
 use Rattle.long_poll.specs.Stages.{GivesFrom, StartsFrom}
 use Rattle.long_poll.specs.declared.bell.Heard.{Heard}
@@ -24,10 +25,10 @@ use Rattle.long_poll.specs.declared.clock.Clock as Clock
 use Rattle.long_poll.specs.declared.connection.Begun.{Begun}
 use Rattle.long_poll.specs.declared.connection.Begun.TheVariants.{Replied, HeldBack, AsksForHistory, AsksForTrace, Parked}
 use Rattle.long_poll.specs.declared.connection.Connection.{Connection}
-use Rattle.long_poll.specs.declared.connection.HeldBackCall.{HeldBackCall}
+use Rattle.long_poll.specs.declared.connection.Submission.{Submission}
 use Rattle.decisions.specs.declared.decide.Decide as Decide
 use Rattle.long_poll.specs.declared.exchange.Stage.{Stage}
-use Rattle.long_poll.specs.declared.exchange.Stage.TheVariants.{Collecting, Holding, Submitting, Waiting}
+use Rattle.long_poll.specs.declared.exchange.Stage.TheVariants.{Collecting, Submitting, Trying, Waiting}
 use Rattle.long_poll.specs.declared.fault.ExchangeFault.{ExchangeFault}
 use Rattle.long_poll.specs.declared.fault.ExchangeFault.TheVariants.{BodyFailed, OutOfMemory, BellLost}
 use Rattle.long_poll.specs.declared.outcome.Outcome.{Outcome}
@@ -89,7 +90,7 @@ module _ {R S D N K L T : Type 0} {service : Service.Ghosts S K L T} {decider : 
   begun_submitted head body call made (Replied reply token) h = (decision.Submit call, made, inr h)
   begun_submitted head body call made (HeldBack held) h = (rw h.0 made, h.1)
   begun_submitted head body call made (AsksForHistory from) h = absurd h
-  begun_submitted head body call made (AsksForTrace from follow bodies) h = absurd h
+  begun_submitted head body call made (AsksForTrace query) h = absurd h
   begun_submitted head body call made (Parked ticket heard token) h = (call, made, h)
 
   module _ {B P E : Type 0} (yields : B → Runs (Result (Frame P) E)) (reads : P → List ℕ → Type 0)
@@ -119,13 +120,13 @@ module _ {R S D N K L T : Type 0} {service : Service.Ghosts S K L T} {decider : 
         (λ body b. (b.0, b.1, (ticket, heard, seen, b.2, rendered))) h
     gives_answer (Collecting parts collecting declared) ticket heard seen h (Err OutOfMemory) rendered = tt
     gives_answer (Collecting parts collecting declared) ticket heard seen h (Err BodyFailed) rendered = absurd rendered.1
-    gives_answer (Holding held) ticket heard seen h (Ok (outcome.Reply reply token)) rendered = inl (ticket, seen, h.0, rendered)
-    gives_answer (Holding held) ticket heard seen h (Ok (outcome.History body)) rendered = absurd rendered
-    gives_answer (Holding held) ticket heard seen h (Ok (outcome.Trace body)) rendered = absurd rendered
-    gives_answer (Holding held) ticket heard seen h (Err BellLost) rendered = (ticket, heard, seen, h, rendered)
-    gives_answer (Holding held) ticket heard seen h (Err OutOfMemory) rendered = tt
-    gives_answer (Holding held) ticket heard seen h (Err BodyFailed) rendered = absurd rendered.1
-    gives_answer Submitting ticket heard seen h r rendered = absurd h
+    gives_answer (Submitting held) ticket heard seen h (Ok (outcome.Reply reply token)) rendered = inl (ticket, seen, h.0, rendered)
+    gives_answer (Submitting held) ticket heard seen h (Ok (outcome.History body)) rendered = absurd rendered
+    gives_answer (Submitting held) ticket heard seen h (Ok (outcome.Trace body)) rendered = absurd rendered
+    gives_answer (Submitting held) ticket heard seen h (Err BellLost) rendered = (ticket, heard, seen, h, rendered)
+    gives_answer (Submitting held) ticket heard seen h (Err OutOfMemory) rendered = tt
+    gives_answer (Submitting held) ticket heard seen h (Err BodyFailed) rendered = absurd rendered.1
+    gives_answer Trying ticket heard seen h r rendered = absurd h
     gives_answer (Waiting t heard' before) ticket heard seen h r rendered = absurd h
 
     -- it has its reply
@@ -133,8 +134,8 @@ module _ {R S D N K L T : Type 0} {service : Service.Ghosts S K L T} {decider : 
         → StartsFrom connection clock yields reads stage (Ok (Replied reply token))
         → GivesFrom connection clock yields reads shows stage (Ok (outcome.Reply reply token))
     gives_reply (Collecting parts collecting declared) reply token h = h
-    gives_reply (Holding held) reply token h = inr h
-    gives_reply Submitting reply token h = absurd h
+    gives_reply (Submitting held) reply token h = inr h
+    gives_reply Trying reply token h = absurd h
     gives_reply (Waiting t heard before) reply token h = absurd h
 
     -- it has none
@@ -144,14 +145,14 @@ module _ {R S D N K L T : Type 0} {service : Service.Ghosts S K L T} {decider : 
     gives_fault (Collecting parts collecting declared) BodyFailed h = h
     gives_fault (Collecting parts collecting declared) OutOfMemory h = tt
     gives_fault (Collecting parts collecting declared) BellLost h = absurd h
-    gives_fault (Holding held) BodyFailed h = absurd h
-    gives_fault (Holding held) OutOfMemory h = tt
-    gives_fault (Holding held) BellLost h = absurd h
-    gives_fault Submitting fault h = absurd h
+    gives_fault (Submitting held) BodyFailed h = absurd h
+    gives_fault (Submitting held) OutOfMemory h = tt
+    gives_fault (Submitting held) BellLost h = absurd h
+    gives_fault Trying fault h = absurd h
     gives_fault (Waiting t heard token) fault h = absurd h
 
     -- its call is held back, and this came of it in the end
-    pub gives_held : (stage : Stage B L) (held : Box HeldBackCall Global)
+    pub gives_held : (stage : Stage B L) (held : Box Submission Global)
         → StartsFrom connection clock yields reads stage (Ok (HeldBack held))
         → (r : Result (Outcome H L) ExchangeFault) → ComesOfCall connection clock held.value.call r
         → GivesFrom connection clock yields reads shows stage r
@@ -164,18 +165,18 @@ module _ {R S D N K L T : Type 0} {service : Service.Ghosts S K L T} {decider : 
         of_body reads (yields collecting.body) parts collecting.held _ _ (λ body b. (held.value.call, b.0, came)) h
     gives_held (Collecting parts collecting declared) held h (Err OutOfMemory) came = tt
     gives_held (Collecting parts collecting declared) held h (Err BodyFailed) came = absurd came
-    gives_held (Holding before) held h r came = rw (← h.0) came
-    gives_held Submitting held h r came = absurd h
+    gives_held (Submitting before) held h r came = rw (← h.0) came
+    gives_held Trying held h r came = absurd h
     gives_held (Waiting t heard token) held h r came = absurd h
 
   module _ {B P E : Type 0} (yields : B → Runs (Result (Frame P) E)) (reads : P → List ℕ → Type 0) where
     -- a call that is held back can be submitted
-    pub holds_held : (stage : Stage B L) (held : Box HeldBackCall Global)
-        → StartsFrom connection clock yields reads stage (Ok (HeldBack held)) → IsHeld connection held.value
+    pub holds_held : (stage : Stage B L) (held : Box Submission Global)
+        → StartsFrom connection clock yields reads stage (Ok (HeldBack held)) → IsSubmission connection held.value
     holds_held (Collecting parts collecting declared) held h =
         whatever_body reads (yields collecting.body) parts collecting.held _ (λ body b. b.1) h
-    holds_held (Holding before) held h = h.1
-    holds_held Submitting held h = absurd h
+    holds_held (Submitting before) held h = h.1
+    holds_held Trying held h = absurd h
     holds_held (Waiting t heard token) held h = absurd h
 
   module _ {B P E : Type 0} (yields : B → Runs (Result (Frame P) E)) (reads : P → List ℕ → Type 0) (s : S) where
@@ -190,23 +191,23 @@ module _ {R S D N K L T : Type 0} {service : Service.Ghosts S K L T} {decider : 
         of_body reads (yields collecting.body) parts collecting.held _ _ (λ body b. (from, b, is)) h
     gives_history (Collecting parts collecting declared) from h (Ok (outcome.Trace body)) is = absurd is
     gives_history (Collecting parts collecting declared) from h (Err fault) is = rw is tt
-    gives_history (Holding held) from h r is = absurd h
-    gives_history Submitting from h r is = absurd h
+    gives_history (Submitting held) from h r is = absurd h
+    gives_history Trying from h r is = absurd h
     gives_history (Waiting t heard token) from h r is = absurd h
 
     -- it asks for the trace, and this shows it
-    pub gives_trace : (stage : Stage B L) (from : ℕ) (follow bodies : Bool)
-        → StartsFrom connection clock yields reads stage (Ok (AsksForTrace from follow bodies))
+    pub gives_trace : (stage : Stage B L) (query : TraceQuery)
+        → StartsFrom connection clock yields reads stage (Ok (AsksForTrace query))
         → (r : Result (Outcome (StreamedBody R S T K L) L) ExchangeFault)
-        → MatchResult r (IsTraceOf service s (Trace from follow bodies)) (λ fault. fault ≡ OutOfMemory)
+        → MatchResult r (IsTraceOf service s (Trace query)) (λ fault. fault ≡ OutOfMemory)
         → GivesFrom connection clock yields reads (IsStreamOf service s) stage r
-    gives_trace (Collecting parts collecting declared) from follow bodies h (Ok (outcome.Reply reply token)) is =
+    gives_trace (Collecting parts collecting declared) query h (Ok (outcome.Reply reply token)) is =
         of_body reads (yields collecting.body) parts collecting.held _ _
-        (λ body b. (decision.Show (Trace from follow bodies), b, is)) h
-    gives_trace (Collecting parts collecting declared) from follow bodies h (Ok (outcome.History body)) is = absurd is
-    gives_trace (Collecting parts collecting declared) from follow bodies h (Ok (outcome.Trace body)) is =
-        of_body reads (yields collecting.body) parts collecting.held _ _ (λ body b. (from, follow, bodies, b, is)) h
-    gives_trace (Collecting parts collecting declared) from follow bodies h (Err fault) is = rw is tt
-    gives_trace (Holding held) from follow bodies h r is = absurd h
-    gives_trace Submitting from follow bodies h r is = absurd h
-    gives_trace (Waiting t heard token) from follow bodies h r is = absurd h
+        (λ body b. (decision.Show (Trace query), b, is)) h
+    gives_trace (Collecting parts collecting declared) query h (Ok (outcome.History body)) is = absurd is
+    gives_trace (Collecting parts collecting declared) query h (Ok (outcome.Trace body)) is =
+        of_body reads (yields collecting.body) parts collecting.held _ _ (λ body b. (query, b, is)) h
+    gives_trace (Collecting parts collecting declared) query h (Err fault) is = rw is tt
+    gives_trace (Submitting held) query h r is = absurd h
+    gives_trace Trying query h r is = absurd h
+    gives_trace (Waiting t heard token) query h r is = absurd h

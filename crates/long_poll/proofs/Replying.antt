@@ -11,7 +11,7 @@ use Rattle.call_types.specs.declared.call.Entry.{Entry}
 use Rattle.decisions.specs.declared.decide.Decide as Decide
 use Rattle.decisions.specs.declared.decide.Decision.TheVariants.{Submit}
 use Rattle.lambda_wire.specs.declared.reply.Reply.{Reply}
-use Rattle.long_poll.specs.Exchanges.{IsReply}
+use Rattle.long_poll.specs.Exchanges.{IsReply, service_of}
 use Rattle.long_poll.specs.Moments.{moment_of}
 use Rattle.long_poll.specs.Reads.{Renders}
 use Rattle.long_poll.specs.Replies.{IsReplyAt}
@@ -28,14 +28,14 @@ module _ {R S D N K L T : Type 0} {service : Service.Ghosts S K L T} {decider : 
     (config : Config) (most salt : ℕ)
     (takes : (had : List Entry) (before : Held) (now : ℕ) (call : Call) (bell : Option OneShotBell) (ticket : ℕ)
     (seen then : List Entry) (after : Held)
-    → service.submits (arc_value connection.service) had before now call bell (Ok (ticket, seen)) then after
+    → service.submits (service_of connection) had before now call bell (Ok (ticket, seen)) then after
     → IsTaken config most had now call ticket seen)
     (refuses : (had : List Entry) (before : Held) (now : ℕ) (call : Call) (bell : Option OneShotBell)
     (refused : Refused OneShotBell) (then : List Entry) (after : Held)
-    → service.submits (arc_value connection.service) had before now call bell (Err refused) then after
+    → service.submits (service_of connection) had before now call bell (Err refused) then after
     → IsTurnedAway config most had call refused.refusal then)
     (renders : (seen : List Entry) (ticket : ℕ) (reply : Option Reply) (then : List Entry)
-    → service.renders (arc_value connection.service) seen ticket reply then
+    → service.renders (service_of connection) seen ticket reply then
     → Renders config most salt seen ticket reply then)
     (there : (config : Config) (most : ℕ) (had : List Entry) (now : ℕ) (call : Call) (ticket : ℕ)
     (seen then : List Entry)

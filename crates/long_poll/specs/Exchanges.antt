@@ -28,12 +28,13 @@ use Rattle.long_poll.specs.declared.clock.Clock as Clock
 use Rattle.long_poll.specs.declared.connection.Begun.{Begun}
 use Rattle.long_poll.specs.declared.connection.Begun.TheVariants.{Replied, HeldBack, AsksForHistory, AsksForTrace, Parked}
 use Rattle.long_poll.specs.declared.connection.Connection.{Connection}
-use Rattle.long_poll.specs.declared.connection.HeldBackCall.{HeldBackCall}
+use Rattle.long_poll.specs.declared.connection.Submission.{Submission}
 use Rattle.decisions.specs.declared.decide.Decide as Decide
 use Rattle.decisions.specs.declared.decide.ClockRequest.{ClockRequest}
 use Rattle.decisions.specs.declared.decide.Decision.{Decision}
 use Rattle.decisions.specs.declared.decide.Decision.TheVariants as decision
 use Rattle.decisions.specs.declared.decide.Shown.{Shown}
+use Rattle.decisions.specs.declared.decide.TraceQuery.{TraceQuery}
 use Rattle.decisions.specs.declared.decide.Shown.TheVariants.{Stats, History, Trace, Environments, Reservation, Version}
 use Rattle.long_poll.specs.declared.fault.ExchangeFault.{ExchangeFault}
 use Rattle.long_poll.specs.declared.fault.ExchangeFault.TheVariants.{BodyFailed, OutOfMemory, BellLost}
@@ -75,17 +76,24 @@ IsOfBody reads source head held is =
 -- Of a connection: its account, its clock and who decides its requests, each by the relations of its trait.
 module _ {R S D N K L T : Type 0} {service : Service.Ghosts S K L T} {decider : Decide.Ghosts D}
     {keep : Keep.Ghosts K} (connection : Connection R S D N K L T service decider keep) where
+  -- The connection's account.
+  abbrev pub service_of : S
+  service_of = arc_value (arc_value connection.shared).service
+
+  -- The connection's clock.
+  abbrev pub clock_of : N
+  clock_of = (arc_value connection.shared).clock
+
   -- What the connection's account renders at a ticket, to a token that had seen the first beginning of the history, and
   -- has then seen the second.
   abbrev pub shown : List Entry → ℕ → Option Reply → List Entry → Type 0
-  shown seen ticket reply then = service.renders (arc_value connection.service) seen ticket reply then
+  shown seen ticket reply then = service.renders service_of seen ticket reply then
 
-  -- What holds of a call that is held back: it is within the limits of the account's configuration, and its bell can be
-  -- heard.
-  abbrev pub IsHeld : HeldBackCall → Type 0
-  IsHeld held =
-      IsWithin (service.serves (arc_value connection.service)) held.call
-      × (rings_at held.bell ≡ hears_at held.heard)
+  -- What holds of a submission: its call is within the limits of the account's configuration, and its bell can be heard.
+  abbrev pub IsSubmission : Submission → Type 0
+  IsSubmission submission =
+      IsWithin (service.serves service_of) submission.call
+      × (rings_at submission.bell ≡ hears_at submission.heard)
 
   -- What is decided about a request with this head and this body.
   abbrev pub Decides : Parts → List ℕ → Decision → Type 0
@@ -93,15 +101,15 @@ module _ {R S D N K L T : Type 0} {service : Service.Ghosts S K L T} {decider : 
 
   -- The account shows these counts to a token that has then seen this history.
   abbrev pub Counts : Counted → List Entry → Type 0
-  Counts stats then = (seen : List Entry) × service.counts (arc_value connection.service) seen stats then
+  Counts stats then = (seen : List Entry) × service.counts service_of seen stats then
 
   -- The account shows this text of its environments to a token that has then seen this history.
   abbrev pub Lists : List ℕ → List Entry → Type 0
-  Lists text then = (seen : List Entry) × service.lists (arc_value connection.service) seen text then
+  Lists text then = (seen : List Entry) × service.lists service_of seen text then
 
   -- The account shows this reservation of a function to a token that has then seen this history.
   abbrev pub Reserves : ℕ → Option ℕ → List Entry → Type 0
-  Reserves f count then = (seen : List Entry) × service.reserves (arc_value connection.service) seen f count then
+  Reserves f count then = (seen : List Entry) × service.reserves service_of seen f count then
 
   -- The reply shows what is asked for, as the account gives it to a token that has then seen this history. A history
   -- and its trace are shown by a body that is streamed, never by a reply; but if a trace is to be followed, the reply may
@@ -109,7 +117,7 @@ module _ {R S D N K L T : Type 0} {service : Service.Ghosts S K L T} {decider : 
   abbrev pub IsView : Shown → Reply → List Entry → Type 0
   IsView Stats reply then = (stats : _) × Counts stats then × (reply ≡ stats_reply stats)
   IsView (History from) reply then = ⊥
-  IsView (Trace from follow bodies) reply then = (follow ≡ true) × (reply ≡ followers_reply)
+  IsView (Trace query) reply then = (query.follow ≡ true) × (reply ≡ followers_reply)
   IsView Environments reply then = (text : List ℕ) × Lists text then × (reply ≡ environments_reply text)
   IsView (Reservation f) reply then = (count : Option ℕ) × Reserves f count then × (reply ≡ reservation_reply count)
   IsView Version reply then = reply ≡ version_reply
@@ -120,7 +128,7 @@ module _ {R S D N K L T : Type 0} {service : Service.Ghosts S K L T} {decider : 
     pub before : Held
     pub then : List Entry
     pub after : Held
-    pub came : service.submits (arc_value connection.service) had before now Tick None back then after
+    pub came : service.submits service_of had before now Tick None back then after
 
   -- A Tick was taken at a moment, and made this history.
   abbrev pub IsTickedAt : List Entry → ℕ → Type 0
@@ -139,13 +147,13 @@ module _ {R S D N K L T : Type 0} {service : Service.Ghosts S K L T} {decider : 
     -- A call was submitted at a reading of the clock, with a bell, and this was the result.
     pub record Submitted (call : Call) (back : CameBack) : Type 0 where
       pub reading : ℕ
-      pub read : clock.reads (arc_value connection.clock) reading
+      pub read : clock.reads clock_of reading
       pub had : List Entry
       pub before : Held
       pub then : List Entry
       pub after : Held
       pub bell : OneShotBell
-      pub came : service.submits (arc_value connection.service)
+      pub came : service.submits service_of
           had before (moment_of reading) call (Some bell) back then after
 
     -- The same with this bell.
@@ -156,12 +164,6 @@ module _ {R S D N K L T : Type 0} {service : Service.Ghosts S K L T} {decider : 
     abbrev pub TurnedAway : OneShotBell → Call → Refused OneShotBell → List Entry → Type 0
     TurnedAway bell call refused then =
         (submitted : Submitted call (Err refused)) × (submitted.bell ≡ bell) × (then ≡ submitted.then)
-
-    -- A call was submitted with this bell: it was taken, and this is its ticket with a token; or it was refused, and the
-    -- token is of what was then seen.
-    abbrev pub CameTo : OneShotBell → Call → Result (ℕ × List Entry) (Refused OneShotBell × List Entry) → Type 0
-    CameTo bell call (Ok taken) = SubmittedWith bell call (Ok taken)
-    CameTo bell call (Err refused) = TurnedAway bell call refused.0 refused.1
 
     -- A call was submitted, and this is rendered at the ticket that it got, to a token that had seen the history that
     -- the call made, and has then seen this one.
@@ -191,16 +193,16 @@ module _ {R S D N K L T : Type 0} {service : Service.Ghosts S K L T} {decider : 
     -- call is held back.
     abbrev pub IsBegun : Call → Begun L → Type 0
     IsBegun call (Replied reply token) = IsRefusal call reply token
-    IsBegun call (HeldBack held) = (held.value.call ≡ call) × IsHeld held.value
+    IsBegun call (HeldBack held) = (held.value.call ≡ call) × IsSubmission held.value
     IsBegun call (AsksForHistory from) = ⊥
-    IsBegun call (AsksForTrace from follow bodies) = ⊥
+    IsBegun call (AsksForTrace query) = ⊥
     IsBegun call (Parked ticket heard token) = IsParked call ticket heard token
 
     -- The reply to what is asked of the connection's clock, with what its token has seen: the history that the Tick of an
     -- advance made, or in which it was refused.
     abbrev pub IsOfClock : ClockRequest → Reply → List Entry → Type 0
     IsOfClock request reply token =
-        IsClockReply (clock.reads (arc_value connection.clock)) (IsTickedAt token) (IsTickRefusal token) request reply
+        IsClockReply (clock.reads clock_of) (IsTickedAt token) (IsTickRefusal token) request reply
 
     -- The reply to a request, given what is decided about it, with what its token has seen: the history that the reply
     -- is of, or anything if the reply itself was decided.
@@ -213,10 +215,9 @@ module _ {R S D N K L T : Type 0} {service : Service.Ghosts S K L T} {decider : 
     -- How far a request with this head and this body has come.
     abbrev pub HasBegun : Parts → List ℕ → Begun L → Type 0
     HasBegun head body (Replied reply token) = (made : Decision) × Decides head body made × IsReply made reply token
-    HasBegun head body (HeldBack held) = Decides head body (decision.Submit held.value.call) × IsHeld held.value
+    HasBegun head body (HeldBack held) = Decides head body (decision.Submit held.value.call) × IsSubmission held.value
     HasBegun head body (AsksForHistory from) = Decides head body (decision.Show (History from))
-    HasBegun head body (AsksForTrace from follow bodies) =
-        Decides head body (decision.Show (Trace from follow bodies))
+    HasBegun head body (AsksForTrace query) = Decides head body (decision.Show (Trace query))
     HasBegun head body (Parked ticket heard token) =
         (call : Call) × Decides head body (decision.Submit call) × IsParked call ticket heard token
 
@@ -239,8 +240,7 @@ module _ {R S D N K L T : Type 0} {service : Service.Ghosts S K L T} {decider : 
       ComesOf head body (Ok (outcome.History shown)) =
           (from : Option ℕ) × Decides head body (decision.Show (History from)) × shows (History from) shown
       ComesOf head body (Ok (outcome.Trace shown)) =
-          (from : ℕ) × (follow : Bool) × (bodies : Bool) × Decides head body (decision.Show (Trace from follow bodies))
-          × shows (Trace from follow bodies) shown
+          (query : TraceQuery) × Decides head body (decision.Show (Trace query)) × shows (Trace query) shown
       ComesOf head body (Err BellLost) =
           (call : Call) × Decides head body (decision.Submit call) × IsLost call
       ComesOf head body (Err OutOfMemory) = Unit {0}

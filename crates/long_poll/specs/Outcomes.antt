@@ -22,7 +22,7 @@ ShowsFrom s from body =
 -- The reply turns away a request to follow the trace.
 abbrev pub IsFull : Shown → Replied → Type 0
 IsFull (shown.History from) reply = ⊥
-IsFull (shown.Trace from follow bodies) reply = (follow ≡ true) × (reply ≡ followers_reply)
+IsFull (shown.Trace query) reply = (query.follow ≡ true) × (reply ≡ followers_reply)
 IsFull shown.Stats reply = ⊥
 IsFull shown.Environments reply = ⊥
 IsFull (shown.Reservation f) reply = ⊥
@@ -33,9 +33,8 @@ module _ {R S K L T : Type 0} (service : Service.Ghosts S K L T) (s : S) where
   abbrev pub IsStreamOf : Shown → StreamedBody R S T K L → Type 0
   IsStreamOf (shown.History from) (streamed.History body) = ShowsFrom s from body
   IsStreamOf (shown.History from) (streamed.Trace body) = ⊥
-  IsStreamOf (shown.Trace from follow bodies) (streamed.History body) = ⊥
-  IsStreamOf (shown.Trace from follow bodies) (streamed.Trace body) =
-      IsTraceFrom service s from follow bodies body.value
+  IsStreamOf (shown.Trace query) (streamed.History body) = ⊥
+  IsStreamOf (shown.Trace query) (streamed.Trace body) = IsTraceFrom service s query body.value
   IsStreamOf shown.Stats body = ⊥
   IsStreamOf shown.Environments body = ⊥
   IsStreamOf (shown.Reservation f) body = ⊥

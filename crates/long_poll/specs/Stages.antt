@@ -10,11 +10,11 @@ use Rattle.long_poll.specs.Ringing.{hears_at}
 use Rattle.long_poll.specs.declared.clock.Clock as Clock
 use Rattle.long_poll.specs.declared.connection.Begun.{Begun}
 use Rattle.long_poll.specs.declared.connection.Connection.{Connection}
-use Rattle.long_poll.specs.declared.connection.HeldBackCall.{HeldBackCall}
+use Rattle.long_poll.specs.declared.connection.Submission.{Submission}
 use Rattle.decisions.specs.declared.decide.Decide as Decide
 use Rattle.decisions.specs.declared.decide.Shown.{Shown}
 use Rattle.long_poll.specs.declared.exchange.Stage.{Stage}
-use Rattle.long_poll.specs.declared.exchange.Stage.TheVariants.{Collecting, Holding, Submitting, Waiting}
+use Rattle.long_poll.specs.declared.exchange.Stage.TheVariants.{Collecting, Submitting, Trying, Waiting}
 use Rattle.long_poll.specs.declared.fault.ExchangeFault.{ExchangeFault}
 use Rattle.long_poll.specs.declared.fault.ExchangeFault.TheVariants.{BodyFailed, OutOfMemory, BellLost}
 use Rattle.long_poll.specs.declared.outcome.Outcome.{Outcome}
@@ -26,41 +26,41 @@ abbrev pub IsCollecting : {B : Type 0} → (B → Type 0) → Parts → B → Bo
 IsCollecting can_poll parts body declared = can_poll body × (declared ≡ declares_too_long parts)
 
 -- The body is being collected and can be polled, or the call is held back.
-abbrev pub IsStarting : {B L : Type 0} → (HeldBackCall → Type 0) → (B → Type 0) → Stage B L → Type 0
-IsStarting is_held can_poll (Collecting parts collecting declared) =
+abbrev pub IsStarting : {B L : Type 0} → (Submission → Type 0) → (B → Type 0) → Stage B L → Type 0
+IsStarting is_submission can_poll (Collecting parts collecting declared) =
     IsCollecting can_poll parts collecting.body declared
-IsStarting is_held can_poll (Holding held) = is_held held.value
-IsStarting is_held can_poll Submitting = ⊥
-IsStarting is_held can_poll (Waiting ticket heard token) = ⊥
+IsStarting is_submission can_poll (Submitting held) = is_submission held.value
+IsStarting is_submission can_poll Trying = ⊥
+IsStarting is_submission can_poll (Waiting ticket heard token) = ⊥
 
 -- The call is held back.
-abbrev pub IsHolding : {B L : Type 0} → (HeldBackCall → Type 0) → Stage B L → Type 0
-IsHolding is_held (Collecting parts collecting declared) = ⊥
-IsHolding is_held (Holding held) = is_held held.value
-IsHolding is_held Submitting = ⊥
-IsHolding is_held (Waiting ticket heard token) = ⊥
+abbrev pub IsSubmitting : {B L : Type 0} → (Submission → Type 0) → Stage B L → Type 0
+IsSubmitting is_submission (Collecting parts collecting declared) = ⊥
+IsSubmitting is_submission (Submitting held) = is_submission held.value
+IsSubmitting is_submission Trying = ⊥
+IsSubmitting is_submission (Waiting ticket heard token) = ⊥
 
 -- The answer is awaited.
 abbrev pub IsWaiting : {B L : Type 0} → Stage B L → Type 0
 IsWaiting (Collecting parts collecting declared) = ⊥
-IsWaiting (Holding held) = ⊥
-IsWaiting Submitting = ⊥
+IsWaiting (Submitting held) = ⊥
+IsWaiting Trying = ⊥
 IsWaiting (Waiting ticket heard token) = Unit {0}
 
 -- The exchange can be polled.
-abbrev pub CanGoOn : {B L : Type 0} → (HeldBackCall → Type 0) → (B → Type 0) → Stage B L → Type 0
-CanGoOn is_held can_poll (Collecting parts collecting declared) =
+abbrev pub CanGoOn : {B L : Type 0} → (Submission → Type 0) → (B → Type 0) → Stage B L → Type 0
+CanGoOn is_submission can_poll (Collecting parts collecting declared) =
     IsCollecting can_poll parts collecting.body declared
-CanGoOn is_held can_poll (Holding held) = is_held held.value
-CanGoOn is_held can_poll Submitting = ⊥
-CanGoOn is_held can_poll (Waiting ticket heard token) = Unit {0}
+CanGoOn is_submission can_poll (Submitting held) = is_submission held.value
+CanGoOn is_submission can_poll Trying = ⊥
+CanGoOn is_submission can_poll (Waiting ticket heard token) = Unit {0}
 
 -- The sources that the exchange waits for: those of its body, or that of its bell. While its call is held back, it
 -- waits for none and asks to be polled again.
 abbrev pub WaitsFor : {B L : Type 0} → (B → ℕ → Type 0) → Stage B L → ℕ → Type 0
 WaitsFor needs (Collecting parts collecting declared) source = needs collecting.body source
-WaitsFor needs (Holding held) source = ⊥
-WaitsFor needs Submitting source = ⊥
+WaitsFor needs (Submitting held) source = ⊥
+WaitsFor needs Trying source = ⊥
 WaitsFor needs (Waiting ticket heard token) source = source ≡ hears_at heard
 
 module _ {R S D N K L T : Type 0} {service : Service.Ghosts S K L T} {decider : Decide.Ghosts D}
@@ -72,8 +72,8 @@ module _ {R S D N K L T : Type 0} {service : Service.Ghosts S K L T} {decider : 
       → Type 0
   GivesFrom shows (Collecting parts collecting declared) =
       Exchanges connection clock shows reads (yields collecting.body) parts collecting.held
-  GivesFrom shows (Holding held) = ComesOfCall connection clock held.value.call
-  GivesFrom shows Submitting = λ r. ⊥
+  GivesFrom shows (Submitting held) = ComesOfCall connection clock held.value.call
+  GivesFrom shows Trying = λ r. ⊥
   GivesFrom shows (Waiting ticket heard token) = Awaits (shown connection token) ticket
 
   -- How far the request has come once its body was collected, or once its call was tried again.
@@ -83,9 +83,9 @@ module _ {R S D N K L T : Type 0} {service : Service.Ghosts S K L T} {decider : 
   StartsFrom (Collecting parts collecting declared) (Err BodyFailed) = Fails (yields collecting.body)
   StartsFrom (Collecting parts collecting declared) (Err OutOfMemory) = Unit {0}
   StartsFrom (Collecting parts collecting declared) (Err BellLost) = ⊥
-  StartsFrom (Holding held) (Ok begun) = IsBegun connection clock held.value.call begun
-  StartsFrom (Holding held) (Err BodyFailed) = ⊥
-  StartsFrom (Holding held) (Err OutOfMemory) = Unit {0}
-  StartsFrom (Holding held) (Err BellLost) = ⊥
-  StartsFrom Submitting begun = ⊥
+  StartsFrom (Submitting held) (Ok begun) = IsBegun connection clock held.value.call begun
+  StartsFrom (Submitting held) (Err BodyFailed) = ⊥
+  StartsFrom (Submitting held) (Err OutOfMemory) = Unit {0}
+  StartsFrom (Submitting held) (Err BellLost) = ⊥
+  StartsFrom Trying begun = ⊥
   StartsFrom (Waiting ticket heard token) begun = ⊥

@@ -2,6 +2,7 @@
 use Rattle.std.specs.Prelude.{◌≡◌, ◌⊎◌, ℕ, zero, suc, ⊤, Bool, true, false, not, ◌&&◌, List, [], ◌∷◌}
 use Rattle.std.specs.Prelude.{Option, Some, None, Result, Ok, Err}
 use Rattle.std.specs.Arc.{arc_value}
+use Rattle.decisions.specs.declared.decide.TraceQuery.{TraceQuery}
 use Rattle.futures.specs.Runs.{Runs, EndsIf}
 use Rattle.http_body.specs.declared.frame.Frame.{Frame}
 use Rattle.long_poll.specs.Pieces.{IsPiece}
@@ -101,10 +102,10 @@ module _ {R S T K L : Type 0} (service : Service.Ghosts S K L T) where
   abbrev pub Yields : {E : Type 0} → TraceBody R S T K L → Runs (Result (Frame (List ℕ)) E)
   Yields body = EndsIf body.is_ended (Frames service (arc_value body.service) body.bodies body.course)
 
-  -- The body shows a service's trace from the entry of a ticket on, with bodies or without, and follows the history or
-  -- not.
-  abbrev pub IsTraceFrom : S → ℕ → Bool → Bool → TraceBody R S T K L → Type 0
-  IsTraceFrom s from follow bodies body =
-      (arc_value body.service ≡ s) × (body.bodies ≡ bodies) × (body.is_ended ≡ false)
-      × (body.course.left ≡ from) × (body.course.rest ≡ None) × (body.course.follow ≡ follow)
+  -- The body shows a service's trace as it is asked for: from the entry of a ticket on, with bodies or without, and
+  -- follows the history or not.
+  abbrev pub IsTraceFrom : S → TraceQuery → TraceBody R S T K L → Type 0
+  IsTraceFrom s query body =
+      (arc_value body.service ≡ s) × (body.bodies ≡ query.bodies) × (body.is_ended ≡ false)
+      × (body.course.left ≡ query.from) × (body.course.rest ≡ None) × (body.course.follow ≡ query.follow)
       × service.begins s body.course.trail

@@ -8,8 +8,8 @@ use std::sync::atomic::Ordering::SeqCst;
 use std::sync::{Arc, Mutex, Wait};
 use std::time::Duration;
 
-/// How many milliseconds a thread waits at most for the ticker to have looked.
-const PATIENCE: u64 = 100;
+/// How long a thread waits at most for the ticker to have looked.
+const FOR_LOOK_MS: u64 = 100;
 
 /// What the ticker and the threads of the connections tell each other. While the ticker rests, each
 /// step rings for it: a thread makes its step and then looks whether the ticker rests; the ticker
@@ -94,7 +94,8 @@ impl Beat {
     pub fn await_look(&self, rt: &impl Wait) {
         let seen = self.looked.count();
         self.alarm.ring();
-        self.looked.sleep(rt, seen, Duration::from_millis(PATIENCE));
+        self.looked
+            .sleep(rt, seen, Duration::from_millis(FOR_LOOK_MS));
     }
 
     /// Returns how often the ticker was woken so far.

@@ -5,6 +5,9 @@ ghost use Rattle.long_poll.specs.Moments.{moment_of};
 
 use arn_ids::GREATEST_MOMENT;
 
+/// The greatest lag behind the time of day at which a clock is not set forward.
+pub const MOST_LAG_MS: u64 = 1_000;
+
 /// What a clock shows: its reading, in milliseconds, and whether it is running.
 #[derive(Clone, Copy, Debug, PartialEq, Eq)]
 pub struct ClockFace {

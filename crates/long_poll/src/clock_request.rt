@@ -25,7 +25,7 @@ impl<
     K: Keep,
     L: Ledgers,
 > Connection<R, S, D, N, K, L> {
-    ghost use Rattle.long_poll.specs.Exchanges.{IsOfClock, IsTickedAt, IsTickRefused};
+    ghost use Rattle.long_poll.specs.Exchanges.{IsOfClock, IsTickedAt, IsTickRefused, clock_of};
     ghost use Rattle.long_poll.specs.Views.{clock_reply as shows};
 
     /// Submits a Tick at this moment. If it is refused, the token that is returned has seen what was then seen.
@@ -37,10 +37,9 @@ impl<
         let mut token = self.token();
         let mut tally = self.tally.lock(&self.rt);
         let came = self
-            .service
+            .service()
             .submit(&self.rt, &mut tally, &mut token, now, Call::Tick, None);
-        let seen = self.service.again(&mut token);
-        self.seen.set(Some(token));
+        let seen = self.put_back(token);
         match came {
             Ok((_ticket, taken)) => Ok(taken),
             Err(refused) => Err((refused, seen)),
@@ -53,14 +52,14 @@ impl<
     fn advance_clock(&self, by: u64) -> Result<(Reply, Token<L>), AllocError>
         ensures { IfOk result (λ replied. IsOfClock self.now N.Clock (Advance by) replied.0 replied.1) }
     {
-        let _setting = self.beat.setting.lock(&self.rt);
-        let Some(face) = self.clock.advance(by) else {
-            return Ok((past_reply(self.alloc)?, self.another_token()));
+        let _setting = self.shared.beat.setting.lock(&self.rt);
+        let Some(face) = self.clock().advance(by) else {
+            return Ok((past_reply(self.alloc())?, self.another_token()));
         };
         match self.tick(face.now) {
-            Ok(taken) => Ok((clock_reply(self.alloc, face)?, taken)),
+            Ok(taken) => Ok((clock_reply(self.alloc(), face)?, taken)),
             Err((refused, seen)) => {
-                let reply = refusal_reply(self.alloc, false, refused.refusal)?;
+                let reply = refusal_reply(self.alloc(), false, refused.refusal)?;
                 Ok((reply, seen))
             }
         }
@@ -68,29 +67,29 @@ impl<
 
     /// Pauses the clock.
     fn pause_clock(&self) -> ClockFace
-        ensures read { N.reads (arc_value self.now.clock) result.now }
+        ensures read { N.reads (clock_of self.now) result.now }
         ensures few { result.now < 2 ^ 53 }
         ensures paused { result.is_running ≡ false }
     {
-        let _setting = self.beat.setting.lock(&self.rt);
-        self.clock.pause()
+        let _setting = self.shared.beat.setting.lock(&self.rt);
+        self.clock().pause()
     }
 
     /// Lets the clock go on.
     fn resume_clock(&self) -> ClockFace
-        ensures read { N.reads (arc_value self.now.clock) result.now }
+        ensures read { N.reads (clock_of self.now) result.now }
         ensures few { result.now < 2 ^ 53 }
         ensures running { result.is_running ≡ true }
     {
-        let _setting = self.beat.setting.lock(&self.rt);
-        self.clock.resume()
+        let _setting = self.shared.beat.setting.lock(&self.rt);
+        self.clock().resume()
     }
 
     /// Returns the reply that shows the clock.
     fn show_clock(&self, face: ClockFace) -> Result<(Reply, Token<L>), AllocError>
         ensures { IfOk result (λ replied. replied.0 ≡ shows face.now face.is_running) }
     {
-        Ok((clock_reply(self.alloc, face)?, self.another_token()))
+        Ok((clock_reply(self.alloc(), face)?, self.another_token()))
     }
 
     /// Does what is asked of the clock, and returns the reply, with a token of the history that the Tick of an advance
@@ -99,7 +98,7 @@ impl<
         ensures { IfOk result (λ replied. IsOfClock self.now N.Clock request replied.0 replied.1) }
     {
         match request {
-            ClockRequest::Show => self.show_clock(self.clock.face()),
+            ClockRequest::Show => self.show_clock(self.clock().face()),
             ClockRequest::Advance { milliseconds } => self.advance_clock(milliseconds),
             ClockRequest::Pause => self.show_clock(self.pause_clock()),
             ClockRequest::Resume => self.show_clock(self.resume_clock()),
@@ -111,8 +110,8 @@ impl<
         if let ClockRequest::Show = request {
             return;
         }
-        self.beat.note_clock();
-        self.beat.note_step(&self.rt);
+        self.shared.beat.note_clock();
+        self.shared.beat.note_step(&self.rt);
     }
 
     /// Does what is asked of the clock, and returns the reply, with a token of the history that the Tick of an advance

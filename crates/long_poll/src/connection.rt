@@ -9,72 +9,63 @@ ghost use Rattle.http.specs.declared.request.Parts.{Parts as Head};
 ghost use Rattle.futures.specs.Task.{Covers, Keeps};
 ghost use Rattle.futures.specs.Poll.{IfReady, OnPending};
 
-use crate::beat::Beat;
-use crate::clock::moment;
+use crate::clock::{MOST_LAG_MS, moment};
 use crate::followers::FollowerPlace;
-use crate::line::{Line, Place};
+use crate::line::Place;
 use crate::refusal::refusal_reply;
 use crate::views::{
     environments_reply, followers_reply, reservation_reply, stats_reply, version_reply,
 };
 use crate::{
-    Clock, ExchangeFault, Heard, HistoryBody, OneShotBell, OpenPoll, Outcome, Service,
+    Clock, ExchangeFault, Heard, HistoryBody, OneShotBell, OpenPoll, Outcome, Service, Shared,
     StreamedBody, TraceBody,
 };
 use account_lock::{NotTaken, Refused};
 use arn_ids::FnNo;
 use call_model::{Call, Stats, Ticket};
-use decisions::{Decide, Decision, Received, Shown};
+use decisions::{Decide, Decision, Received, Shown, TraceQuery};
 use futures::future::Future;
 use futures::task::{Context, Poll};
 use http::request::Parts;
-use lambda_wire::{HeaderMaps, LongScratches, PayloadScratch, Reply};
+use lambda_wire::{HeaderMaps, PayloadScratch, Reply};
 use std::alloc::{AllocError, Global};
 use std::cell::Cell;
 use std::sync::{Arc, Mutex, Wait};
 use std::time;
 use usage_ledger::{Keep, Ledgers, Tally, Token};
 
-/// The longest pause of a caller that is not called, in microseconds: its connection then runs once.
-const LONGEST_PAUSE: u64 = 8_000;
+/// The longest pause of a caller that is not called: its connection then runs once.
+const LONGEST_PAUSE_US: u64 = 8_000;
 
-/// What the exchanges of one connection share: the account and the decider of its requests, both of one
-/// configuration; a clock; the connection's tally and token; the note of its open Next; the maps of the
-/// headers that most replies have; what wakes the ticker after a step; the line of the callers that are held
-/// back; and its patience, which is how many milliseconds a premature call is held back at most.
+/// What the exchanges of one connection share: what its service shares with all of them; the decider of its
+/// requests, of the same configuration as the service's account; its tally and token; and the note of its open
+/// Next.
 #[derive(Drop)]
 pub struct Connection<R, S: Service<K, L>, D: Decide, N, K: Keep, L: Ledgers> {
     pub(crate) rt: R,
-    pub(crate) alloc: Global,
-    pub(crate) service: Arc<S>,
+    pub(crate) shared: Arc<Shared<S, N>>,
     pub(crate) decider: Arc<D>,
-    pub(crate) clock: Arc<N>,
     pub(crate) tally: Arc<Mutex<Tally<K, L>>>,
     open: Arc<OpenPoll>,
-    // What wakes the ticker, and the line, both of all connections; and the function whose environment
-    // asks here, if one does.
-    pub(crate) beat: Arc<Beat>,
-    line: Arc<Line>,
+    // The function whose environment asks here, if one does.
     function: Option<FnNo>,
-    pub(crate) maps: Arc<HeaderMaps>,
-    patience: u32,
     // The token, which has seen the history up to the earlier requests; none while a request has it.
-    pub(crate) seen: Cell<Option<Token<L>>>,
+    seen: Cell<Option<Token<L>>>,
     // The scratch space in which payloads are read, one decision at a time.
     scratch: Cell<PayloadScratch>,
-    ghost agree: { S.serves (arc_value service) ≡ D.decides_for (arc_value decider) },
+    ghost agree: { S.serves (arc_value (arc_value shared).service) ≡ D.decides_for (arc_value decider) },
 }
 
-/// A call that is held back, with its bell and the future that hears it. Between two attempts its
-/// connection runs once, and only then notices a signal to stop and its own state; then the thread
-/// *sleeps* at its place in the line until it is called, for 8 ms at most.
+/// A call on its way to the account, with its bell and the future that hears it. While it comes too early, it
+/// is held back: between two attempts its connection runs once, and only then notices a signal to stop and its
+/// own state; then the thread *sleeps* at the call's place in the line until it is called, for 8 ms at most.
 #[derive(Drop)]
-pub(crate) struct HeldBackCall {
+pub(crate) struct Submission {
     call: Call,
     bell: OneShotBell,
     heard: Heard,
     // How long it may still be held back, in microseconds.
-    left: u64,
+    left_us: u64,
     // Its place, once it was held back.
     place: Option<Place>,
 }
@@ -86,18 +77,14 @@ pub(crate) enum Begun<L: Ledgers> {
     Replied(Reply, Token<L>),
     /// Its call is held back. (On the heap, since few calls are, and what is returned of the others would
     /// have its size.)
-    HeldBack(Box<HeldBackCall>),
+    HeldBack(Box<Submission>),
     /// It asks for the history, from the entry of a ticket on or whole.
     AsksForHistory {
         from: Option<Ticket>,
     },
-    /// It asks for the trace, from the entry of a ticket on, and for how it is to be shown.
-    AsksForTrace {
-        from: Ticket,
-        follow: bool,
-        bodies: bool,
-    },
-    /// Its call was submitted, and its bell rings once its ticket is answered. The token has seen the
+    /// It asks for this trace.
+    AsksForTrace(TraceQuery),
+    /// Its call was taken, and its bell rings once its ticket is answered. The token has seen the
     /// history up to the call.
     Parked {
         ticket: Ticket,
@@ -109,10 +96,12 @@ pub(crate) enum Begun<L: Ledgers> {
 /// The result of an attempt to submit a call.
 #[derive(Drop)]
 enum Attempt<L: Ledgers> {
-    /// It was submitted, with this result; if it was refused, the token has seen what was then seen.
-    Made(Result<(Ticket, Token<L>), (Refused<OneShotBell>, Token<L>)>),
-    /// It was premature, or came behind one that is, and is returned with its bell.
-    NotMade(Call, OneShotBell),
+    /// It was taken, with this ticket. The token has seen the history up to the call.
+    Taken(Ticket, Token<L>),
+    /// It was refused. The token has seen what was then seen.
+    Refused(Refused<OneShotBell>, Token<L>),
+    /// It is premature, or came behind one that is, and is returned with its bell.
+    TooEarly(Call, OneShotBell),
 }
 
 /// What a call is for the connection that submits it.
@@ -154,7 +143,8 @@ impl<
     L: Ledgers,
 > Connection<R, S, D, N, K, L> {
     ghost use Rattle.long_poll.specs.Attempts.{IsAttempt, IsPatient, IsNearer};
-    ghost use Rattle.long_poll.specs.Exchanges.{CameTo, IsHeld, IsBegun, HasBegun, Decides};
+    ghost use Rattle.long_poll.specs.Exchanges.{service_of, clock_of};
+    ghost use Rattle.long_poll.specs.Exchanges.{IsSubmission, IsBegun, HasBegun, Decides};
     ghost use Rattle.long_poll.specs.Exchanges.{Counts, Lists, Reserves, Renders, RendersOnce, shown};
     ghost use Rattle.long_poll.specs.Outcomes.{ShowsFrom};
     ghost use Rattle.long_poll.specs.TraceFrames.{IsTraceFrom};
@@ -162,53 +152,78 @@ impl<
     ghost use Rattle.long_poll.specs.Pending.{KeepsTo};
     ghost use Rattle.long_poll.specs.Views.{followers_reply as full_reply};
 
-    /// Returns a connection to this account, whose requests are decided for the same configuration. Each
+    /// Returns a connection to this service, whose requests are decided for the same configuration. Each
     /// submit locks the connection's tally, and then the account. The token is shown the history at each
     /// submit and each reading, so that the replies to the connection's requests never go back in the
-    /// history. A premature call is held back for `patience` milliseconds at most, during which the
-    /// connection's thread sleeps at its place in the line. The function is that of the environment at
-    /// whose port the connection is, if it is at one: its Nexts call the callers of this function. Long
-    /// payloads are read in the memory that all connections share.
+    /// history. While a premature call is held back, the connection's thread sleeps at its place in the line.
+    ///
+    /// # Errors
+    /// If an allocation fails.
     pub fn new(
         rt: R,
-        alloc: Global,
-        service: Arc<S>,
+        shared: Arc<Shared<S, N>>,
         decider: Arc<D>,
-        clock: Arc<N>,
         tally: Arc<Mutex<Tally<K, L>>>,
         token: Token<L>,
         open: Arc<OpenPoll>,
-        beat: Arc<Beat>,
-        line: Arc<Line>,
-        function: Option<FnNo>,
-        maps: Arc<HeaderMaps>,
-        long: Arc<LongScratches>,
-        patience: u32,
-    ) -> Connection<R, S, D, N, K, L>
-        requires { S.serves (arc_value service) ≡ D.decides_for (arc_value decider) }
-        ensures { (result.service ≡ service) × (result.decider ≡ decider) × (result.clock ≡ clock) }
+    ) -> Result<Connection<R, S, D, N, K, L>, AllocError>
+        requires { S.serves (arc_value (arc_value shared).service) ≡ D.decides_for (arc_value decider) }
+        ensures { IfOk result (λ connection. (connection.shared ≡ shared) × (connection.decider ≡ decider)) }
     {
-        Connection {
+        let long = Arc::try_clone(&shared.long)?;
+        Ok(Connection {
             rt,
-            alloc,
-            service,
+            shared,
             decider,
-            clock,
             tally,
             open,
-            beat,
-            line,
-            function,
-            maps,
-            patience,
+            function: None,
             seen: Cell::new(Some(token)),
             scratch: Cell::new(PayloadScratch::sharing(long)),
-        }
+        })
+    }
+
+    /// Returns the same connection at the port of an environment of this function, if it is at one: its Nexts call
+    /// the callers of this function.
+    pub fn of_function(mut self, function: Option<FnNo>) -> Connection<R, S, D, N, K, L>
+        ensures { (result.shared ≡ self.shared) × (result.decider ≡ self.decider) }
+    {
+        self.function = function;
+        self
     }
 
     /// Returns its allocator.
-    pub(crate) fn alloc(&self) -> Global {
-        self.alloc
+    pub(crate) fn alloc(&self) -> Global
+        ensures { result ≡ (arc_value self.now.shared).alloc }
+    {
+        self.shared.alloc
+    }
+
+    /// Returns its account.
+    pub(crate) fn service(&self) -> &S
+        ensures { result.now ≡ service_of self.now }
+    {
+        &self.shared.service
+    }
+
+    /// Returns its clock.
+    pub(crate) fn clock(&self) -> &N
+        ensures { result.now ≡ clock_of self.now }
+    {
+        &self.shared.clock
+    }
+
+    /// Returns the maps of the headers that most replies have.
+    pub(crate) fn maps(&self) -> &HeaderMaps {
+        &self.shared.maps
+    }
+
+    /// Sees to it that the clock is not behind the time of day, as after the machine has slept: if the ticker
+    /// rests, it first gets the time to set the clock forward.
+    pub fn await_time_of_day(&self) {
+        if self.shared.beat.rests() && self.shared.clock.lag() > MOST_LAG_MS {
+            self.shared.beat.await_look(&self.rt);
+        }
     }
 
     /// Takes the connection's token, which has to be put back. If a request has it, makes another token, which
@@ -216,113 +231,116 @@ impl<
     pub(crate) fn token(&self) -> Token<L> {
         match self.seen.take() {
             Some(token) => token,
-            None => self.service.token(&self.rt),
+            None => self.service().token(&self.rt),
         }
     }
 
-    /// Returns another token of the connection's, which has seen as much.
-    pub(crate) fn another_token(&self) -> Token<L> {
-        let mut token = self.token();
-        let other = self.service.again(&mut token);
+    /// Puts the connection's token back, and returns another, which has seen as much.
+    pub(crate) fn put_back(&self, mut token: Token<L>) -> Token<L>
+        ensures { result ≡ token }
+    {
+        let other = self.service().again(&mut token);
         self.seen.set(Some(token));
         other
     }
 
-    /// Submits a call with its bell at the clock's reading. If it is refused, the token that is returned has seen
-    /// what was then seen.
-    fn submit_at_reading(
-        &self,
-        call: Call,
-        bell: OneShotBell,
-    ) -> Result<(Ticket, Token<L>), (Refused<OneShotBell>, Token<L>)>
-        requires { IsWithin (S.serves (arc_value self.now.service)) call }
-        ensures { CameTo self.now N.Clock bell call result }
+    /// Returns another token of the connection's, which has seen as much.
+    pub(crate) fn another_token(&self) -> Token<L> {
+        self.put_back(self.token())
+    }
+
+    /// Submits a call with its bell at the clock's reading.
+    fn submit_at_reading(&self, call: Call, bell: OneShotBell) -> Attempt<L>
+        requires { IsWithin (S.serves (service_of self.now)) call }
+        ensures attempt { IsAttempt self.now N.Clock bell call result }
+        ensures patience { IsPatient 0 result }
     {
         let mut token = self.token();
         let mut tally = self.tally.lock(&self.rt);
-        let now = moment(&*self.clock);
+        let now = moment(self.clock());
         let came = self
-            .service
+            .service()
             .submit(&self.rt, &mut tally, &mut token, now, call, Some(bell));
-        let seen = self.service.again(&mut token);
-        self.seen.set(Some(token));
+        let seen = self.put_back(token);
         match came {
-            Ok(taken) => Ok(taken),
-            Err(refused) => Err((refused, seen)),
+            Ok((ticket, taken)) => Attempt::Taken(ticket, taken),
+            Err(refused) => Attempt::Refused(refused, seen),
         }
     }
 
     /// Submits a call with its bell at the clock's reading, unless it is premature.
     fn attempt(&self, call: Call, bell: OneShotBell) -> Attempt<L>
-        requires { IsWithin (S.serves (arc_value self.now.service)) call }
+        requires { IsWithin (S.serves (service_of self.now)) call }
         ensures { IsAttempt self.now N.Clock bell call result }
     {
         let mut token = self.token();
         let mut tally = self.tally.lock(&self.rt);
-        let now = moment(&*self.clock);
+        let now = moment(self.clock());
         let came = self
-            .service
+            .service()
             .submit_unless_premature(&self.rt, &mut tally, &mut token, now, call, Some(bell));
-        let seen = self.service.again(&mut token);
-        self.seen.set(Some(token));
+        let seen = self.put_back(token);
         match came {
-            Ok(taken) => Attempt::Made(Ok(taken)),
-            Err(NotTaken::Refused(refused)) => Attempt::Made(Err((refused, seen))),
+            Ok((ticket, taken)) => Attempt::Taken(ticket, taken),
+            Err(NotTaken::Refused(refused)) => Attempt::Refused(refused, seen),
             Err(NotTaken::Premature { call, bell }) => match bell {
-                Some(bell) => Attempt::NotMade(call, bell),
+                Some(bell) => Attempt::TooEarly(call, bell),
                 None => unreachable!(),
             },
         }
     }
 
-    /// Submits a call with its bell, unless it may be held back for `left` microseconds more and is premature, or
+    /// Submits a call with its bell, unless it may be held back for `left_us` microseconds more and is premature, or
     /// another Invoke of its function that came earlier is held back.
     fn attempt_within(
         &self,
-        left: u64,
+        left_us: u64,
         place: &Option<Place>,
         call: Call,
         bell: OneShotBell,
     ) -> Attempt<L>
-        requires { IsWithin (S.serves (arc_value self.now.service)) call }
+        requires { IsWithin (S.serves (service_of self.now)) call }
         ensures attempt { IsAttempt self.now N.Clock bell call result }
-        ensures patience { IsPatient left result }
+        ensures patience { IsPatient left_us result }
     {
-        if left == 0 {
-            return Attempt::Made(self.submit_at_reading(call, bell));
+        if left_us == 0 {
+            return self.submit_at_reading(call, bell);
         }
         if let Some(function) = invoked(&call)
-            && !self.line.is_turn(&self.rt, function, place)
+            && !self.shared.line.is_turn(&self.rt, function, place)
         {
-            return Attempt::NotMade(call, bell);
+            return Attempt::TooEarly(call, bell);
         }
         self.attempt(call, bell)
     }
 
-    /// Submits a call with a bell of its own, or holds it back.
-    fn submit(&self, call: Call) -> Result<Begun<L>, ExchangeFault>
-        requires { IsWithin (S.serves (arc_value self.now.service)) call }
+    /// Submits a call with a bell of its own, or holds it back, for as long as the service's patience.
+    fn submit_call(&self, call: Call) -> Result<Begun<L>, ExchangeFault>
+        requires { IsWithin (S.serves (service_of self.now)) call }
         ensures ok { IfOk result (IsBegun self.now N.Clock call) }
         ensures err { IfErr result (λ fault. fault ≡ ExchangeFault.OutOfMemory) }
     {
-        let (bell, heard) = OneShotBell::pair(self.alloc)?;
-        self.submit_held(HeldBackCall {
+        let (bell, heard) = OneShotBell::pair(self.alloc())?;
+        self.submit(Submission {
             call,
             bell,
             heard,
-            left: u64::from(self.patience) * 1_000,
+            left_us: u64::from(self.shared.patience_ms) * 1_000,
             place: None,
         })
     }
 
     /// Sleeps at a place in the line until it is called, for a pause at most. Returns how many microseconds of
     /// these are left.
-    fn pause(&self, left: u64, place: &Option<Place>) -> u64
-        ensures { result ≤ left }
+    fn pause(&self, left_us: u64, place: &Option<Place>) -> u64
+        ensures { result ≤ left_us }
     {
         match place {
-            None => left,
-            Some(place) => left.saturating_sub(place.sleep(&self.rt, left.min(LONGEST_PAUSE))),
+            None => left_us,
+            Some(place) => {
+                let slept_us = place.sleep(&self.rt, left_us.min(LONGEST_PAUSE_US));
+                left_us.saturating_sub(slept_us)
+            }
         }
     }
 
@@ -331,6 +349,7 @@ impl<
         match place {
             Some(place) => Ok(place),
             None => self
+                .shared
                 .line
                 .join(&self.rt, invoked(call).unwrap_or(0), readies),
         }
@@ -340,57 +359,60 @@ impl<
     /// on, each step wakes it; a Next is noted as open, and may make an environment ready; a call that was held back
     /// leaves the line.
     fn taken(&self, sort: Sort, ticket: Ticket, place: Option<Place>) {
+        let shared = &*self.shared;
         if let Sort::Stop = sort {
-            self.beat.note_stop();
+            shared.beat.note_stop();
         }
-        self.beat.note_step(&self.rt);
+        shared.beat.note_step(&self.rt);
         if let Sort::Next = sort {
             self.open.note(ticket);
             if let Some(function) = self.function {
-                self.line.call(&self.rt, function);
+                shared.line.call(&self.rt, function);
             }
         }
         if let Some(place) = place {
-            self.line.leave(&self.rt, place);
+            shared.line.leave(&self.rt, place);
         }
     }
 
-    /// Submits a call that was held back, with its bell, once it is no longer premature or the connection's
-    /// patience is used up. Before that its thread sleeps at its place in the line, during which no lock is held.
-    pub(crate) fn submit_held(&self, held: HeldBackCall) -> Result<Begun<L>, ExchangeFault>
-        requires { IsHeld self.now held }
-        ensures ok { IfOk result (IsBegun self.now N.Clock held.call) }
-        ensures nearer { IfOk result (IsNearer held.left) }
+    /// Tries a submission once. If it was held back, its thread first sleeps at its place in the line, during which
+    /// no lock is held. If it comes too early while some of its time is left, it is held back, with less time left: at
+    /// least a microsecond less, so that a call is tried finitely often whatever its sleeps take.
+    pub(crate) fn submit(&self, submission: Submission) -> Result<Begun<L>, ExchangeFault>
+        requires { IsSubmission self.now submission }
+        ensures ok { IfOk result (IsBegun self.now N.Clock submission.call) }
+        ensures nearer { IfOk result (IsNearer submission.left_us) }
         ensures err { IfErr result (λ fault. fault ≡ ExchangeFault.OutOfMemory) }
     {
-        let HeldBackCall {
+        let Submission {
             call,
             bell,
             heard,
-            left,
+            left_us,
             place,
-        } = held;
+        } = submission;
         let sort = Sort::of(&call);
         let is_invoke = call.is_invoke();
-        let left = self.pause(left, &place);
-        let readies = self.line.readies();
-        match self.attempt_within(left, &place, call, bell) {
-            Attempt::NotMade(call, bell) => {
+        let left_us = self.pause(left_us, &place);
+        let readies = self.shared.line.readies();
+        match self.attempt_within(left_us, &place, call, bell) {
+            Attempt::TooEarly(call, bell) => {
                 let place = Some(self.placed(place, &call, readies)?);
-                let held = HeldBackCall {
+                let held = Submission {
                     call,
                     bell,
                     heard,
-                    left: left - 1,
+                    // The measure by which its attempts end: a sleep may take less than a microsecond.
+                    left_us: left_us - 1,
                     place,
                 };
-                Ok(Begun::HeldBack(Box::new(self.alloc, held).map_err(AllocError::from)?))
+                Ok(Begun::HeldBack(Box::new(self.alloc(), held).map_err(AllocError::from)?))
             }
-            Attempt::Made(Err((refused, seen))) => {
-                let reply = refusal_reply(self.alloc, is_invoke, refused.refusal)?;
+            Attempt::Refused(refused, seen) => {
+                let reply = refusal_reply(self.alloc(), is_invoke, refused.refusal)?;
                 Ok(Begun::Replied(reply, seen))
             }
-            Attempt::Made(Ok((ticket, token))) => {
+            Attempt::Taken(ticket, token) => {
                 self.taken(sort, ticket, place);
                 Ok(Begun::Parked {
                     ticket,
@@ -409,7 +431,7 @@ impl<
         ensures err { IfErr result (λ fault. fault ≡ ExchangeFault.OutOfMemory) }
     {
         let mut scratch = self.scratch.take();
-        let decided = self.decider.decide(self.alloc, &mut scratch, parts, body);
+        let decided = self.decider.decide(self.alloc(), &mut scratch, parts, body);
         self.scratch.set(scratch);
         self.carry_out(decided?)
     }
@@ -419,22 +441,18 @@ impl<
         ensures { Counts self.now result.0 result.1 }
     {
         let mut token = self.token();
-        let stats = self.service.stats(&self.rt, &mut token);
-        let seen = self.service.again(&mut token);
-        self.seen.set(Some(token));
-        (stats, seen)
+        let stats = self.service().stats(&self.rt, &mut token);
+        (stats, self.put_back(token))
     }
 
     /// Returns a function's reservation in its account, with a token of the history that has it.
     fn reservation(&self, function: FnNo) -> (Option<u32>, Token<L>)
-        requires { IsFunction (S.serves (arc_value self.now.service)) function }
+        requires { IsFunction (S.serves (service_of self.now)) function }
         ensures { Reserves self.now function result.0 result.1 }
     {
         let mut token = self.token();
-        let count = self.service.reservation(&self.rt, &mut token, function);
-        let seen = self.service.again(&mut token);
-        self.seen.set(Some(token));
-        (count, seen)
+        let count = self.service().reservation(&self.rt, &mut token, function);
+        (count, self.put_back(token))
     }
 
     /// Returns the text of its account's environments, with a token of the history that has them.
@@ -442,18 +460,14 @@ impl<
         ensures { IfOk result (λ shown. Lists self.now shown.0.items shown.1) }
     {
         let mut token = self.token();
-        let text = self.service.environments(&self.rt, &mut token);
-        let seen = self.service.again(&mut token);
-        self.seen.set(Some(token));
-        match text {
-            Ok(text) => Ok((text, seen)),
-            Err(refused) => Err(refused),
-        }
+        let text = self.service().environments(&self.rt, &mut token);
+        let seen = self.put_back(token);
+        Ok((text?, seen))
     }
 
     /// Does what was decided about a request.
     fn carry_out(&self, decision: Decision) -> Result<Begun<L>, ExchangeFault>
-        requires { IsAllowed (S.serves (arc_value self.now.service)) decision }
+        requires { IsAllowed (S.serves (service_of self.now)) decision }
         ensures ok { IfOk result
             (λ begun. (head : Head) → (body : List ℕ) → Decides self.now head body decision
             → HasBegun self.now N.Clock head body begun) }
@@ -463,36 +477,26 @@ impl<
             Decision::Reply(reply) => Ok(Begun::Replied(reply, self.another_token())),
             Decision::Show(Shown::Stats) => {
                 let (stats, seen) = self.stats();
-                Ok(Begun::Replied(stats_reply(self.alloc, stats)?, seen))
+                Ok(Begun::Replied(stats_reply(self.alloc(), stats)?, seen))
             }
             Decision::Show(Shown::History { from }) => Ok(Begun::AsksForHistory { from }),
-            Decision::Show(
-                Shown::Trace {
-                    from,
-                    follow,
-                    bodies,
-                },
-            ) => Ok(Begun::AsksForTrace {
-                from,
-                follow,
-                bodies,
-            }),
+            Decision::Show(Shown::Trace(query)) => Ok(Begun::AsksForTrace(query)),
             Decision::Show(Shown::Environments) => {
                 let (text, seen) = self.environments()?;
-                Ok(Begun::Replied(environments_reply(self.alloc, text)?, seen))
+                Ok(Begun::Replied(environments_reply(self.alloc(), text)?, seen))
             }
             Decision::Show(Shown::Reservation { function }) => {
                 let (count, seen) = self.reservation(function);
-                Ok(Begun::Replied(reservation_reply(self.alloc, count)?, seen))
+                Ok(Begun::Replied(reservation_reply(self.alloc(), count)?, seen))
             }
             Decision::Show(Shown::Version) => {
-                Ok(Begun::Replied(version_reply(self.alloc)?, self.another_token()))
+                Ok(Begun::Replied(version_reply(self.alloc())?, self.another_token()))
             }
             Decision::Clock(request) => {
                 let (reply, seen) = self.ask_clock(request)?;
                 Ok(Begun::Replied(reply, seen))
             }
-            Decision::Submit(call) => self.submit(call),
+            Decision::Submit(call) => self.submit_call(call),
         }
     }
 
@@ -501,50 +505,45 @@ impl<
         &self,
         from: Option<Ticket>,
     ) -> Result<HistoryBody<R, S, K, L>, AllocError>
-        ensures { IfOk result (ShowsFrom (arc_value self.now.service) from) }
+        ensures { IfOk result (ShowsFrom (service_of self.now) from) }
     {
-        let service = Arc::try_clone(&self.service)?;
+        let service = Arc::try_clone(&self.shared.service)?;
         Ok(HistoryBody::new(self.rt, service, from))
     }
 
-    /// Returns the trace of the account's history, from the entry of a ticket on, which follows the history or not,
-    /// with bodies or without.
+    /// Returns the trace of the account's history that is asked for. If it follows the history, it has a place among
+    /// the followers.
     pub(crate) fn trace(
         &self,
         place: Option<FollowerPlace>,
-        from: Ticket,
-        follow: bool,
-        bodies: bool,
+        query: TraceQuery,
     ) -> Result<Box<TraceBody<R, S, S::Trail, K, L>>, AllocError>
-        ensures { IfOk result (λ body.
-            IsTraceFrom S.Service (arc_value self.now.service) from follow bodies body.value) }
+        ensures { IfOk result (λ body. IsTraceFrom S.Service (service_of self.now) query body.value) }
     {
-        let service = Arc::try_clone(&self.service)?;
+        let service = Arc::try_clone(&self.shared.service)?;
         let open = Arc::try_clone(&self.open)?;
-        let beat = Arc::try_clone(&self.beat)?;
-        let body = TraceBody::new(
-            self.rt, self.alloc, service, open, beat, place, from, follow, bodies,
-        )?;
-        Box::new(self.alloc, body).map_err(AllocError::from)
+        let beat = Arc::try_clone(&self.shared.beat)?;
+        let body = TraceBody::new(self.rt, self.alloc(), service, open, beat, place, query)?;
+        Box::new(self.alloc(), body).map_err(AllocError::from)
     }
 
     /// Takes a place among those who follow the history, `None` if none is left.
     pub(crate) fn follower_place(&self) -> Result<Option<FollowerPlace>, AllocError> {
-        FollowerPlace::take(&self.beat)
+        FollowerPlace::take(&self.shared.beat)
     }
 
     /// Returns the reply to a request to follow the history for which no place is left.
     pub(crate) fn turned_away(&self) -> Result<(Reply, Token<L>), AllocError>
         ensures { IfOk result (λ replied. replied.0 ≡ full_reply) }
     {
-        Ok((followers_reply(self.alloc)?, self.another_token()))
+        Ok((followers_reply(self.alloc())?, self.another_token()))
     }
 
     /// Renders the answer to a ticket, and takes back the note of a Next.
     fn render(&self, token: &mut Token<L>, ticket: Ticket) -> Result<Reply, ExchangeFault>
         ensures { Renders (shown self.now token.old) ticket result token.new }
     {
-        match self.service.render(&self.rt, token, ticket) {
+        match self.service().render(&self.rt, token, ticket) {
             Err(AllocError) => Err(ExchangeFault::OutOfMemory),
             Ok(None) => Err(ExchangeFault::BellLost),
             Ok(Some(reply)) => {
@@ -588,6 +587,6 @@ impl<
     ) -> Outcome<StreamedBody<R, S, S::Trail, K, L>, L>
         ensures { result ≡ replied reply token.old }
     {
-        Outcome::Reply(reply, self.service.again(token))
+        Outcome::Reply(reply, self.service().again(token))
     }
 }

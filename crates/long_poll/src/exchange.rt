@@ -7,16 +7,17 @@ ghost use Rattle.futures.specs.Poll.{IfReady, OnPending};
 ghost use Rattle.long_poll.specs.Lengths.{declares_too_long};
 ghost use Rattle.long_poll.specs.Outcomes.{IsHistoryOf, IsTraceOf};
 ghost use Rattle.decisions.specs.declared.decide.Shown.TheVariants.{Trace};
+ghost use Rattle.long_poll.specs.Exchanges.{service_of};
 ghost use Rattle.long_poll.specs.Pending.{KeepsTo};
 ghost use Rattle.long_poll.specs.declared.exchange.Stage.TheVariants as stage;
 ghost use Rattle.long_poll.specs.declared.fault.ExchangeFault.TheVariants.{OutOfMemory};
 
 use crate::collecting::Collecting;
-use crate::connection::{Begun, Connection, HeldBackCall};
+use crate::connection::{Begun, Connection, Submission};
 use crate::{BodyFault, Clock, ExchangeFault, Heard, Outcome, Service, StreamedBody};
 use bytes::Bytes;
 use call_model::Ticket;
-use decisions::{Decide, Received};
+use decisions::{Decide, Received, TraceQuery};
 use futures::future::Future;
 use futures::ready;
 use futures::task::{Context, Poll};
@@ -37,10 +38,10 @@ enum Stage<B, L: Ledgers> {
         is_too_long: bool,
     },
     /// The call is held back: each poll sleeps until it is called, for a pause at most, and tries it once.
-    Holding(Box<HeldBackCall>),
+    Submitting(Box<Submission>),
     /// The call that was held back is being tried, within one poll.
-    Submitting,
-    /// The call was submitted, and its answer is awaited. The token has seen the history up to the call.
+    Trying,
+    /// The call was taken, and its answer is awaited. The token has seen the history up to the call.
     Waiting {
         ticket: Ticket,
         heard: Heard,
@@ -70,7 +71,7 @@ where
     B::Data: Into<Bytes>,
     B::Error: BodyFault,
 {
-    ghost use Rattle.long_poll.specs.Stages.{CanGoOn, IsStarting, IsHolding, IsWaiting, WaitsFor};
+    ghost use Rattle.long_poll.specs.Stages.{CanGoOn, IsStarting, IsSubmitting, IsWaiting, WaitsFor};
     ghost use Rattle.long_poll.specs.Standing.{Holds, Starts};
 
     /// Begins the exchange of a request with this head and this body, of which the head declares that it is too
@@ -84,7 +85,7 @@ where
         requires { is_too_long ≡ declares_too_long parts }
         ensures connection { result.connection ≡ connection }
         ensures stage { result.stage ≡ stage.Collecting parts
-            (record { alloc = (arc_value connection).alloc; body = body; held = [] }) is_too_long }
+            (record { alloc = (arc_value (arc_value connection).shared).alloc; body = body; held = [] }) is_too_long }
     {
         let body = Collecting::new(connection.alloc(), body);
         Exchange {
@@ -99,17 +100,17 @@ where
 
     /// Returns the maps of the headers that most replies have.
     pub fn maps(&self) -> &HeaderMaps {
-        &self.connection.maps
+        self.connection.maps()
     }
 
     /// Tries once more the call that is held back.
     fn look_again(&mut self) -> Result<Begun<L>, ExchangeFault>
-        requires { IsHolding (Holds self.old) self.old.stage }
+        requires { IsSubmitting (Holds self.old) self.old.stage }
         ensures value { Starts N.Clock B.yields B.Data.converts self.old result }
         ensures connection { self.new.connection ≡ self.old.connection }
     {
-        match mem::replace(&mut self.stage, Stage::Submitting) {
-            Stage::Holding(held) => self.connection.submit_held(Box::into_inner(held)),
+        match mem::replace(&mut self.stage, Stage::Trying) {
+            Stage::Submitting(held) => self.connection.submit(Box::into_inner(held)),
             _ => unreachable!(),
         }
     }
@@ -127,8 +128,8 @@ where
         ensures connection { self.new.connection ≡ self.old.connection }
     {
         match &mut self.stage {
-            Stage::Waiting { .. } | Stage::Submitting => unreachable!(),
-            Stage::Holding(_) => Poll::Ready(self.look_again()),
+            Stage::Waiting { .. } | Stage::Trying => unreachable!(),
+            Stage::Submitting(_) => Poll::Ready(self.look_again()),
             Stage::Collecting {
                 parts,
                 is_too_long: true,
@@ -162,33 +163,31 @@ where
         from: Option<Ticket>,
     ) -> Result<Outcome<StreamedBody<R, S, S::Trail, K, L>, L>, ExchangeFault>
         ensures { MatchResult result
-            (IsHistoryOf S.Service (arc_value (arc_value self.now.connection).service) from)
+            (IsHistoryOf S.Service (service_of (arc_value self.now.connection)) from)
             (λ fault. fault ≡ OutOfMemory) }
     {
         Ok(Outcome::History(StreamedBody::History(self.connection.history(from)?)))
     }
 
-    /// Returns the trace of the account's history, from the entry of a ticket on; or a reply if it is to be followed, and
-    /// as many connections follow it as may.
+    /// Returns the trace of the account's history that is asked for; or a reply if it is to be followed, and as many
+    /// connections follow it as may.
     fn trace(
         &self,
-        from: Ticket,
-        follow: bool,
-        bodies: bool,
+        query: TraceQuery,
     ) -> Result<Outcome<StreamedBody<R, S, S::Trail, K, L>, L>, ExchangeFault>
         ensures { MatchResult result
-            (IsTraceOf S.Service (arc_value (arc_value self.now.connection).service) (Trace from follow bodies))
+            (IsTraceOf S.Service (service_of (arc_value self.now.connection)) (Trace query))
             (λ fault. fault ≡ OutOfMemory) }
     {
         let mut place = None;
-        if follow {
+        if query.follow {
             place = self.connection.follower_place()?;
             if place.is_none() {
                 let (reply, token) = self.connection.turned_away()?;
                 return Ok(Outcome::Reply(reply, token));
             }
         }
-        let body = self.connection.trace(place, from, follow, bodies)?;
+        let body = self.connection.trace(place, query)?;
         Ok(Outcome::Trace(StreamedBody::Trace(body)))
     }
 
@@ -205,7 +204,7 @@ where
         ensures kept { Keeps cx.old cx.new }
     {
         match &mut self.stage {
-            Stage::Collecting { .. } | Stage::Holding(_) | Stage::Submitting => unreachable!(),
+            Stage::Collecting { .. } | Stage::Submitting(_) | Stage::Trying => unreachable!(),
             Stage::Waiting {
                 ticket,
                 heard,
@@ -237,17 +236,11 @@ where
             Err(fault) => Poll::Ready(Err(fault)),
             Ok(Begun::Replied(reply, token)) => Poll::Ready(Ok(Outcome::Reply(reply, token))),
             Ok(Begun::HeldBack(held)) => {
-                self.stage = Stage::Holding(held);
+                self.stage = Stage::Submitting(held);
                 cx.yield_now()
             }
             Ok(Begun::AsksForHistory { from }) => Poll::Ready(self.history(from)),
-            Ok(
-                Begun::AsksForTrace {
-                    from,
-                    follow,
-                    bodies,
-                },
-            ) => Poll::Ready(self.trace(from, follow, bodies)),
+            Ok(Begun::AsksForTrace(query)) => Poll::Ready(self.trace(query)),
             Ok(
                 Begun::Parked {
                     ticket,

@@ -11,6 +11,7 @@ use crate::piece::first_piece;
 use crate::{Beat, Heard, OpenPoll, Service};
 use bytes::Bytes;
 use call_model::Ticket;
+use decisions::TraceQuery;
 use futures::future::Future;
 use futures::task::{Context, Poll};
 use http_body::{Body, Frame};
@@ -25,8 +26,8 @@ use usage_ledger::{Keep, Ledgers, Tally};
 /// How many entries one poll passes at most, so that a long history does not keep other futures waiting.
 const PASSED_PER_POLL: u32 = 128;
 
-/// For how many milliseconds a follower rests after a step before it looks.
-const REST: u64 = 1;
+/// For how long a follower rests after a step before it looks.
+const REST_MS: u64 = 1;
 
 /// How far a trace has come.
 #[derive(Drop)]
@@ -83,8 +84,8 @@ impl<R: Wait + Drop, S: Service<K, L, Trail = T>, T: Drop, K: Keep, L: Ledgers> 
     K,
     L,
 > {
-    /// Streams the trace of a service's history, from the entry of a ticket on, with the bodies of requests and
-    /// answers or without. If it does not follow the history, the body is empty from a ticket past the last entry.
+    /// Streams the trace of a service's history that is asked for. If it does not follow the history, the body is
+    /// empty from a ticket past the last entry.
     ///
     /// # Errors
     /// If an allocation fails.
@@ -95,11 +96,9 @@ impl<R: Wait + Drop, S: Service<K, L, Trail = T>, T: Drop, K: Keep, L: Ledgers> 
         open: Arc<OpenPoll>,
         beat: Arc<Beat>,
         place: Option<FollowerPlace>,
-        from: Ticket,
-        follow: bool,
-        bodies: bool,
+        query: TraceQuery,
     ) -> Result<TraceBody<R, S, T, K, L>, AllocError>
-        ensures { IfOk result (IsTraceFrom S.Service (arc_value service) from follow bodies) }
+        ensures { IfOk result (IsTraceFrom S.Service (arc_value service) query) }
     {
         let trail = service.trail(&rt, alloc)?;
         Ok(TraceBody {
@@ -107,12 +106,12 @@ impl<R: Wait + Drop, S: Service<K, L, Trail = T>, T: Drop, K: Keep, L: Ledgers> 
             service,
             open,
             beat,
-            bodies,
+            bodies: query.bodies,
             course: Course {
                 trail,
-                left: from,
+                left: query.from,
                 rest: None,
-                follow,
+                follow: query.follow,
             },
             place,
             heard: None,
@@ -221,7 +220,7 @@ impl<R: Wait + Drop, S: Service<K, L, Trail = T>, T: Drop, K: Keep, L: Ledgers> 
             Poll::Ready(()) => {
                 self.heard = None;
                 self.parker
-                    .park_timeout(&self.rt, Duration::from_millis(REST));
+                    .park_timeout(&self.rt, Duration::from_millis(REST_MS));
                 cx.yield_now()
             }
         }

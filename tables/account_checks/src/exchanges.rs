@@ -12,7 +12,7 @@ ghost use Rattle.std.specs.Arc.{arc_value};
 use crate::Runner;
 use crate::exchanges::board::{Board, Mood};
 use crate::exchanges::rows::Rows;
-use crate::exchanges::scene::{Scene, Shared};
+use crate::exchanges::scene::{Scene, Served};
 use crate::lines::{malformed, number_behind, number_of};
 use crate::opening::{Opening, opening_of};
 use account_book::OpenFault;
@@ -95,8 +95,8 @@ fn play_over_account<R: Runner, S: Identity + Drop + Send + Sync>(
     given: &mut Given,
 ) -> Result<(), CaseFault> {
     let alloc = given.alloc();
-    let shared = Shared::new(alloc, opened.0, rows, opened.1)?;
-    scene::play(&Scene::new(rt, alloc, shared, patience), case, given)
+    let served = Served::new(alloc, opened.0, rows, opened.1)?;
+    scene::play(&Scene::new(rt, alloc, served, patience), case, given)
 }
 
 /// Runs a case over a board.
@@ -114,7 +114,7 @@ fn play_over_board<R: Runner, S: Identity + Drop + Send + Sync>(
     let scene = Scene::new(
         rt,
         alloc,
-        Shared::new(alloc, board, rows, opened.1)?,
+        Served::new(alloc, board, rows, opened.1)?,
         patience,
     );
     let played = scene::play(&scene, case, given);

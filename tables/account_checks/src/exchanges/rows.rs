@@ -9,7 +9,7 @@ use arn_ids::{GREATEST_MOMENT, LONGEST_BODY};
 use bytes::Bytes;
 use call_model::{Call, Ticket};
 use case_tables::{CaseFault, value_of};
-use decisions::{Decide, Decision, Received, Shown};
+use decisions::{Decide, Decision, Received, Shown, TraceQuery};
 use http::request::Parts;
 use lambda_wire::{PayloadScratch, Reply, fault_reply, json_headers};
 use long_poll::{Clock, ClockFace, Heard, OneShotBell, Service};
@@ -233,11 +233,11 @@ impl<S: Identity> Decide for Rows<S> {
             Asked::Withdraw => Ok(Decision::Submit(Call::Withdraw { ticket: 0 })),
             Asked::Stats => Ok(Decision::Show(Shown::Stats)),
             Asked::History(from) => Ok(Decision::Show(Shown::History { from })),
-            Asked::Trace(from, follow) => Ok(Decision::Show(Shown::Trace {
+            Asked::Trace(from, follow) => Ok(Decision::Show(Shown::Trace(TraceQuery {
                 from,
                 follow,
                 bodies: true,
-            })),
+            }))),
             Asked::Environments => Ok(Decision::Show(Shown::Environments)),
             Asked::Reservation => Ok(Decision::Show(Shown::Reservation { function: 1 })),
             Asked::Echo => self.replied(echo_of(alloc, body)),

@@ -16,9 +16,9 @@ use account_lock::Identity;
 use call_model::Answer;
 use case_tables::{Case, CaseFault, Given, Part, value_of};
 use http_body_util::BodyExt;
-use lambda_wire::{HeaderMaps, LongScratches, Reply};
+use lambda_wire::Reply;
 use long_poll::{
-    Alarm, Beat, BellLost, Connection, Exchange, Heard, Line, OneShotBell, OpenPoll, Poll, Service,
+    BellLost, Connection, Exchange, Heard, OneShotBell, OpenPoll, Poll, Service, Shared,
     StreamedBody, declares_too_long,
 };
 use std::alloc::{AllocError, AllocGlobal, Global};
@@ -33,7 +33,7 @@ const TRIES: u32 = 2;
 
 /// What the connections of a case share: a service, its decider, and a tally.
 #[derive(Drop)]
-pub struct Shared<X: Service<KeepNone, S>, S: Identity> {
+pub struct Served<X: Service<KeepNone, S>, S: Identity> {
     service: Arc<X>,
     rows: Arc<Rows<S>>,
     tally: Arc<Mutex<Tally<KeepNone, S>>>,
@@ -45,7 +45,7 @@ pub struct Shared<X: Service<KeepNone, S>, S: Identity> {
 pub struct Scene<R, X: Service<KeepNone, S>, S: Identity> {
     rt: R,
     alloc: Global,
-    shared: Shared<X, S>,
+    served: Served<X, S>,
     patience: u32,
 }
 
@@ -69,19 +69,19 @@ fn heard_lost(alloc: Global) -> Result<Heard, AllocError> {
     Ok(heard)
 }
 
-impl<X: Service<KeepNone, S>, S: Identity> Shared<X, S> {
+impl<X: Service<KeepNone, S>, S: Identity> Served<X, S> {
     /// Collects what the connections to this service share.
     pub fn new(
         alloc: Global,
         service: X,
         rows: Arc<Rows<S>>,
         tally: Tally<KeepNone, S>,
-    ) -> Result<Shared<X, S>, AllocError>
+    ) -> Result<Served<X, S>, AllocError>
         requires { X.serves service ≡ S.config }
     {
         let service = arc_of(alloc, service)?;
         let tally = arc_of(alloc, Mutex::new(tally))?;
-        Ok(Shared {
+        Ok(Served {
             service,
             rows,
             tally,
@@ -89,11 +89,11 @@ impl<X: Service<KeepNone, S>, S: Identity> Shared<X, S> {
     }
 
     /// Shares it with one more connection.
-    fn again(&self) -> Result<Shared<X, S>, AllocError> {
+    fn again(&self) -> Result<Served<X, S>, AllocError> {
         let service = Arc::try_clone(&self.service)?;
         let rows = Arc::try_clone(&self.rows)?;
         let tally = Arc::try_clone(&self.tally)?;
-        Ok(Shared {
+        Ok(Served {
             service,
             rows,
             tally,
@@ -107,51 +107,31 @@ impl<
     S: Identity + Drop,
 > Scene<R, X, S> {
     /// Creates a scene around this service.
-    pub fn new(rt: R, alloc: Global, shared: Shared<X, S>, patience: u32) -> Scene<R, X, S> {
+    pub fn new(rt: R, alloc: Global, served: Served<X, S>, patience: u32) -> Scene<R, X, S> {
         Scene {
             rt,
             alloc,
-            shared,
+            served,
             patience,
         }
     }
 
     /// Returns the service.
     pub fn service(&self) -> &X {
-        &self.shared.service
+        &self.served.service
     }
 
     /// Opens a connection with this clock and this note of its open Next.
     fn connected(
         &self,
-        clock: Arc<At>,
+        clock: At,
         open: Arc<OpenPoll>,
     ) -> Result<Arc<Connection<R, X, Rows<S>, At, KeepNone, S>>, AllocError> {
-        let own = self.shared.again()?;
+        let own = self.served.again()?;
         let token = own.service.token(&self.rt);
-        let maps = arc_of(self.alloc, HeaderMaps::open(self.alloc)?)?;
-        let beat = arc_of(
-            self.alloc,
-            Beat::new(self.alloc, arc_of(self.alloc, Alarm::new())?),
-        )?;
-        let line = arc_of(self.alloc, Line::new(self.alloc))?;
-        let long = arc_of(self.alloc, LongScratches::new(self.alloc))?;
-        let connection = Connection::new(
-            self.rt,
-            self.alloc,
-            own.service,
-            own.rows,
-            clock,
-            own.tally,
-            token,
-            open,
-            beat,
-            line,
-            None,
-            maps,
-            long,
-            self.patience,
-        );
+        let shared = Shared::new(self.alloc, own.service, clock, self.patience)?;
+        let shared = arc_of(self.alloc, shared)?;
+        let connection = Connection::new(self.rt, shared, own.rows, own.tally, token, open)?;
         arc_of(self.alloc, connection)
     }
 
@@ -161,9 +141,8 @@ impl<
         at: At,
         open: &Arc<OpenPoll>,
     ) -> Result<Arc<Connection<R, X, Rows<S>, At, KeepNone, S>>, AllocError> {
-        let clock = arc_of(self.alloc, at)?;
         let open = Arc::try_clone(open)?;
-        self.connected(clock, open)
+        self.connected(at, open)
     }
 
     /// Makes the exchange of a line, over a new connection.
@@ -248,7 +227,7 @@ impl<
 
     /// Polls for the answer of a ticket, and returns the outcome.
     fn poll(&self, parked: Parked<S>) -> Result<Polled, CaseFault> {
-        let service = Arc::try_clone(&self.shared.service)?;
+        let service = Arc::try_clone(&self.served.service)?;
         let poll: Poll<R, X, Heard, KeepNone, S> = Poll::new(
             self.rt,
             service,
@@ -263,7 +242,7 @@ impl<
     fn poll_lost(&self, part: &Part, given: &mut Given) -> Result<(), CaseFault> {
         let ticket = number_behind(part)?;
         let heard = heard_lost(self.alloc)?;
-        let token = self.shared.service.token(&self.rt);
+        let token = self.served.service.token(&self.rt);
         let came = self.poll(Parked {
             ticket,
             heard,
@@ -275,10 +254,10 @@ impl<
 
     /// Submits a runtime's Next with a bell.
     fn park(&self) -> Result<Parked<S>, CaseFault> {
-        let mut tally = self.shared.tally.lock(&self.rt);
-        self.shared
+        let mut tally = self.served.tally.lock(&self.rt);
+        self.served
             .rows
-            .park(&self.rt, self.alloc, &*self.shared.service, &mut tally)
+            .park(&self.rt, self.alloc, &*self.served.service, &mut tally)
     }
 
     /// Begins the request of a part while another thread polls for ticket 0: a ticket that is not

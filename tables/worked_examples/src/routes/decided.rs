@@ -12,7 +12,7 @@ use case_tables::Given;
 use entry_blocks::Blocks;
 use http::request::Parts;
 use http_header::HeaderMap;
-use http_routes::{ClockRequest, Decision, Received, Shown};
+use http_routes::{ClockRequest, Decision, Received, Shown, TraceQuery};
 use lambda_wire::{PayloadScratch, Reply};
 use script::draft_entry;
 use std::alloc::{AllocError, Global};
@@ -119,13 +119,13 @@ fn push_history(from: Option<Ticket>, given: &mut Given) {
 }
 
 /// Adds that the trace is shown, the ticket it starts at, and how.
-fn push_trace(from: Ticket, follow: bool, bodies: bool, given: &mut Given) {
+fn push_trace(query: TraceQuery, given: &mut Given) {
     given.push("show trace from ");
-    given.print(&from);
-    if follow {
+    given.print(&query.from);
+    if query.follow {
         given.push(" followed");
     }
-    if !bodies {
+    if !query.bodies {
         given.push(" without bodies");
     }
 }
@@ -135,11 +135,7 @@ fn push_shown(shown: Shown, given: &mut Given) {
     match shown {
         Shown::Stats => given.push("show stats"),
         Shown::History { from } => push_history(from, given),
-        Shown::Trace {
-            from,
-            follow,
-            bodies,
-        } => push_trace(from, follow, bodies, given),
+        Shown::Trace(query) => push_trace(query, given),
         Shown::Environments => given.push("show environments"),
         Shown::Version => given.push("show version"),
         Shown::Reservation { function } => {

@@ -31,7 +31,7 @@ returns g c =
           (λ seen f count then r. subst (λ k. Reserves k g.S.Identity.most seen f count then) configured r)
           (λ head body made d. subst (λ side. made ≡ decision side head body) decider d)
           (arc_value c.args.self.now.common.hosts) head response
-          (arc_value c.args.self.now.common.account) (search rules)
-          (arc_value c.args.self.now.common.clock) (search rules) (search rules) (search rules) x)
+          (arc_value (arc_value c.args.self.now.common.shared).service) (search rules)
+          (arc_value c.args.self.now.common.shared).clock (search rules) (search rules) (search rules) x)
           c.serve_by.result.io _ c.serve_by.ensures.written,
     )

@@ -3,7 +3,7 @@ use Rattle.long_poll.proofs.connection.Connection.advance_clock.Goals as goal
 
 pub returns : goal.returns
 returns g c =
-    let moved = rw c.deref-2.ensures at c.in-Some.ensures.moved in (
+    let moved = rw c.clock.ensures at c.in-Some.ensures.moved in (
       moved.0,
       moved.1,
       inr (

@@ -3,7 +3,7 @@ use Rattle.long_poll.proofs.connection.Connection.attempt.Goals as goal
 
 pub returns-in-Ok : goal.returns-in-Ok
 returns-in-Ok g c =
-    let at = rw c.deref-2.ensures at c.moment-now.ensures.read in (
+    let at = rw c.clock.ensures at c.moment-now.ensures.read in (
       record {
         reading = at.0;
         read = at.1;
@@ -12,14 +12,14 @@ returns-in-Ok g c =
         then = _;
         after = _;
         bell = c.args.bell;
-        came = rw (c.deref-3.ensures, at.2) at c.in-Ok.ensures;
+        came = rw (c.service.ensures, at.2) at c.in-Ok.ensures;
       },
       refl,
     )
 
 pub returns-in-Err-Refused : goal.returns-in-Err-Refused
 returns-in-Err-Refused g c =
-    let at = rw c.deref-2.ensures at c.moment-now.ensures.read in (
+    let at = rw c.clock.ensures at c.moment-now.ensures.read in (
       record {
         reading = at.0;
         read = at.1;
@@ -28,8 +28,8 @@ returns-in-Err-Refused g c =
         then = _;
         after = _;
         bell = c.args.bell;
-        came = rw (c.in-Err-Refused.field-0-is, c.deref-3.ensures, at.2) at c.in-Err-Refused.ensures;
+        came = rw (c.in-Err-Refused.field-0-is, c.service.ensures, at.2) at c.in-Err-Refused.ensures;
       },
       refl,
-      c.again-seen.ensures.0,
+      c.put_back-seen.ensures,
     )

@@ -7,7 +7,7 @@ returns g c = (
     before = _;
     then = _;
     after = _;
-    came = rw c.deref-2.ensures at c.in-Err.ensures;
+    came = rw c.service.ensures at c.in-Err.ensures;
   },
-  c.again-seen.ensures.0,
+  c.put_back-seen.ensures,
 )
