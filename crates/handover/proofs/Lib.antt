@@ -5,3 +5,5 @@ mod Steps
 mod Runs
 mod Hands
 mod Bounds
+mod Fields
+mod Messages

@@ -3,3 +3,5 @@ pub mod Stages
 pub mod Order
 pub mod Runs
 pub mod Presence
+pub mod Heads
+pub mod Posted

@@ -1,10 +1,13 @@
 //! What holds of requests that are handed over, whatever happens. Each function does nothing; its clauses are the laws.
 
-ghost use Rattle.std.specs.Prelude.{◌≡◌, ◌+◌, ◌≤◌, ℕ, List, length};
-ghost use Rattle.std.specs.List.{Contains};
+ghost use Rattle.std.specs.Prelude.{◌≡◌, ◌+◌, ◌≤◌, ◌++◌, ◌∷◌, [], ℕ, true, nat_lt, List, length, chars, encode_utf8_all};
+ghost use Rattle.std.specs.List.{Contains, list_all};
+ghost use Rattle.http_header.specs.FieldValue.{FieldValue};
+ghost use Rattle.json.specs.Print.{print};
 ghost use Rattle.std.specs.Map.{keys_of};
 ghost use Rattle.handover.specs.declared.counter.Limits.{Limits as Bounds};
 ghost use Rattle.handover.specs.Counters.{opened, bytes_held};
+ghost use Rattle.handover.specs.Heads.{head_tokens, line_of, named_tokens};
 ghost use Rattle.handover.specs.Runs.{Event, Answered, run, all_ends, all_hands, times, times_here, times_given};
 
 /// Every request is in one place.
@@ -36,4 +39,15 @@ pub fn bounded()
         → length (run (opened limits) events).waiting ≤ limits.most }
     ensures bytes { (limits : Bounds) (events : List Event)
         → bytes_held (run (opened limits) events).waiting ≤ limits.most_bytes }
+{}
+
+/// A handler gets the request that came.
+pub fn messages()
+    // The line of a request is the text of its head, with its identifier as the first member, and a line feed.
+    ensures line { (id port : ℕ) (method target : List ℕ) (fields : List (List ℕ × FieldValue))
+        → line_of id (print (head_tokens port method target fields))
+        ≡ print (named_tokens id port method target fields) ++ 10 ∷ [] }
+    // The characters of a field's text are the bytes of its value.
+    ensures bytes_stay { (bytes : List ℕ) → list_all (λ b. nat_lt b 256) bytes ≡ true
+        → chars (encode_utf8_all bytes) ≡ bytes }
 {}
