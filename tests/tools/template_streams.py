@@ -108,6 +108,8 @@ class TemplateStreams(Case):
                       "is not the ARN of an SQS queue, nor of a stream of Kinesis or DynamoDB",
                       "ignores U, AWS::SNS::Subscription: its function is not here"):
             self.check(f"said: {words}", words in said, shown=said)
+        self.check("nothing is said of other protocols", "ignores T" in said or "a subscription of Other" in said,
+                   False, shown=said)
 
     @unittest.skipUnless(HAS_YAML, "PyYAML is not here")
     def test_serverless(self):
