@@ -107,6 +107,7 @@ LIES: Dict[str, Tuple[str, str, str, str]] = {
     "sources": ("what_fails", OF_TOOLS + "up/queues.py",
                 "return Invoked(None, \"failed\")", "return Invoked([], \"\")"),
     "stopping": ("stops", OF_TOOLS + "service.py", "/_local/stop", "/_local/stops"),
+    "stream_filters": ("rules", OF_TOOLS + "event_sources/filters.py", '== wanted["exists"]', '!= wanted["exists"]'),
     "stream_parts": ("what_follows", OF_TOOLS + "event_sources/batches.py", "batch.records[failing:]", "batch.records"),
     "stream_readers": ("newest", OF_TOOLS + "event_sources/streams.py",
                        "NEWEST if is_newest else OLDEST", "NEWEST"),

@@ -49,7 +49,8 @@ class TemplateStreams(Case):
                 "DestinationConfig": {"OnFailure": {"Type": "SQS", "Destination": arn("Dead")}}}},
             "B": {"Type": "DynamoDB", "Properties": {
                 "Stream": arn("Orders", "StreamArn"), "StartingPosition": "TRIM_HORIZON", "MaximumRetryAttempts": 3,
-                "MaximumRecordAgeInSeconds": -1, "FunctionResponseTypes": ["ReportBatchItemFailures"]}},
+                "MaximumRecordAgeInSeconds": -1, "FunctionResponseTypes": ["ReportBatchItemFailures"],
+                "FilterCriteria": {"Filters": [{"Pattern": '{"eventName": ["INSERT"]}'}]}}},
             "C": {"Type": "SNS", "Properties": {"Topic": {"Ref": "News"}, "FilterPolicy": {"kind": ["a"]},
                                                 "FilterPolicyScope": "MessageBody"}},
             "D": {"Type": "Kinesis", "Properties": {"Stream": arn("Clicks"), "Enabled": False}},
@@ -59,7 +60,7 @@ class TemplateStreams(Case):
         self.check("streams", made["F"]["stream"], [
             {"url": ENDPOINT, "kinesis": "Clicks", "position": "LATEST", "batchSize": 7, "window": 5, "bisect": True,
              "partial": False, "onFailure": DEAD},
-            {"url": ENDPOINT, "dynamodb": "Orders", "retries": 3}])
+            {"url": ENDPOINT, "dynamodb": "Orders", "retries": 3, "filters": [{"eventName": ["INSERT"]}]}])
         self.check("a topic", made["F"]["topic"], {"url": ENDPOINT, "name": "News", "filterPolicy": {"kind": ["a"]},
                                                    "filterPolicyScope": "MessageBody"})
         for words in ("its event A: one batch of a shard runs at a time here, not 3",
@@ -75,8 +76,7 @@ class TemplateStreams(Case):
                       "lambda_local.json, or AWS_ENDPOINT_URL_SNS (docs/services.md)"):
             self.check(f"said: {words[:60]}", words in said, shown=said)
         made, _ = self.made(whole, "AWS_ENDPOINT_URL_DYNAMODB")
-        self.check("an address of one service", made["F"]["stream"], [{"url": ENDPOINT, "dynamodb": "Orders",
-                                                                       "retries": 3}])
+        self.check("an address of one service", [one["dynamodb"] for one in made["F"]["stream"]], ["Orders"])
 
     def test_own_address(self):
         whole = template(F=sam(Events={"C": {"Type": "SNS", "Properties": {"Topic": {"Ref": "News"}}}}))
@@ -108,6 +108,8 @@ class TemplateStreams(Case):
                       "is not the ARN of an SQS queue, nor of a stream of Kinesis or DynamoDB",
                       "ignores U, AWS::SNS::Subscription: its function is not here"):
             self.check(f"said: {words}", words in said, shown=said)
+        self.check("nothing is said of other protocols", "ignores T" in said or "a subscription of Other" in said,
+                   False, shown=said)
 
     @unittest.skipUnless(HAS_YAML, "PyYAML is not here")
     def test_serverless(self):
@@ -130,4 +132,5 @@ class TemplateStreams(Case):
         self.check("topics", made["s-dev-f"]["topic"], [
             {"url": ENDPOINT, "name": "news"}, {"url": ENDPOINT, "name": "other", "filterPolicy": {"kind": ["a"]}},
             {"url": ENDPOINT, "name": "third"}])
-        self.check("a filter is said", "ignores FilterCriteria of its event stream" in said, shown=said)
+        self.check("a pattern that is none is said", "ignores FilterCriteria of its event stream, so all records come: "
+                   "{} must be an object with at least one member" in said, shown=said)

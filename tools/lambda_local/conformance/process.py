@@ -12,6 +12,7 @@ from typing import IO, Any, Callable, Dict, Iterator, List, NamedTuple, Optional
 
 from ..executables import why_not_found, why_not_started
 from ..guard import GUARD
+from ..outgoing import printable
 from ..service import Fault
 from .sockets import chosen_ports
 from .watch import NO_SESSION, OwnTime, begun_at, open_descriptors, processes_of, resident, threads_of
@@ -57,10 +58,10 @@ def collecting_early() -> Dict[str, str]:
     return {**LITTLE_HEAPS, **options}
 
 
-def printable(text: str, most: int) -> str:
-    """A text as a line of a terminal, of so many letters."""
-    line = "".join(letter if letter.isprintable() else repr(letter)[1:-1] for letter in text[:most + 1])
-    return line if len(line) <= most else f"{line[:most]}\u2026"
+def cut(text: str, most: int, end: str = "\u2026") -> str:
+    """A text as a line for a person, of so many letters; what is left out is the end."""
+    line = printable(text[:most + 1])
+    return line if len(line) <= most else f"{line[:most]}{end}"
 
 
 class Holds(NamedTuple):
@@ -213,7 +214,7 @@ class Process:
         except (OSError, ValueError):
             return []
         lines = text.expandtabs(4).splitlines()[1 if begin else 0:] or text.splitlines()
-        return [printable(line.rstrip(), LONGEST_LINE) for line in lines if line.strip()][-most:]
+        return [cut(line.rstrip(), LONGEST_LINE) for line in lines if line.strip()][-most:]
 
     def how_it_ended(self) -> str:
         if not self.ended:

@@ -18,7 +18,7 @@ from .environment import LOOK, Environment
 from .exchanges import as_json, read_json
 from .kit import FAIL, NOTE, PASS, SHOULD, Came, EndedEarly, Finding, Jury, Missing, Scenario, Seen
 from .parked import parked
-from .process import Processes, program_of
+from .process import Processes, cut, program_of
 from .watch import OwnTime
 Event = Union[bytes, Dict[str, Any]]  # as its bytes, or as a value
 
@@ -81,9 +81,7 @@ def shown(value: Any) -> str:
     """A value as a line that is not too long."""
     text = value.decode(errors="replace") if isinstance(value, (bytes, bytearray)) else value
     text = str(text) if isinstance(text, str) else json.dumps(text, ensure_ascii=False)
-    line = "".join(letter if letter.isprintable() else repr(letter)[1:-1] for letter in text[:SHOWN + 1])
-    return line if len(line) <= SHOWN else (
-        f"{line[:SHOWN]}.. ({len(value) if not isinstance(value, (dict, list)) else 'more'} in all)")
+    return cut(text, SHOWN, f".. ({len(value) if isinstance(value, (str, bytes, bytearray)) else 'more'} in all)")
 
 
 def compact(event: Event) -> bytes:

@@ -5,6 +5,7 @@ from typing import Any, Dict, Iterator, List, NamedTuple, Optional, Tuple
 from ..configuration import Kind, is_text, is_whole, mistakes_of, shown
 from ..other_server import ARN, is_endpoint
 from ..other_server import EXAMPLE as QUEUE
+from . import filters
 
 MOST_SOURCES = 10  # streams of a function, and topics
 POSITIONS = ("TRIM_HORIZON", "LATEST")
@@ -32,6 +33,9 @@ OF_STREAM = {
     "retries": Kind(is_number(0, 10_001), "a whole number from 0 to 10000, or -1"),
     "maximumAge": Kind(is_number(1, 604_801), "a whole number of seconds, from 1 to 604800, or -1"),
     "bisect": YES,
+    "filters": Kind(lambda value: isinstance(value, list) and 0 < len(value) <= filters.MOST_FILTERS
+                    and all(isinstance(one, dict) for one in value),
+                    f"a list of up to {filters.MOST_FILTERS} patterns, which are objects"),
     "partial": YES,
     "onFailure": Kind(lambda value: isinstance(value, str) and ARN.fullmatch(value) is not None,
                       f"a string: the ARN of an SQS queue or an SNS topic, such as \"{QUEUE}\""),
@@ -75,6 +79,7 @@ class Stream(NamedTuple):
     reads_failures: bool = True  # `batchItemFailures` of a result
     on_failure: Optional[str] = None  # an ARN
     checkpoint: Optional[str] = None  # a file
+    filters: Tuple[Dict[str, Any], ...] = ()  # patterns, one of which takes each record that comes
 
     @property
     def name(self) -> str:
@@ -152,6 +157,8 @@ def mistakes_of_stream(given: Dict[str, Any], where: str) -> Iterator[str]:
     if NAMES[service].fullmatch(given[service]) is None:
         yield f"{where}{service}: {shown(given[service])} must be {OF_STREAM[service].expected[10:]}"
     yield from mistakes_of_url(given, where)
+    for number, pattern in enumerate(given.get("filters", ()), 1):
+        yield from filters.mistakes(pattern, f"{where}filters: number {number}: ")
 
 
 def mistakes_of_topic(given: Dict[str, Any], where: str) -> Iterator[str]:
@@ -174,7 +181,7 @@ def stream_of(function: str, given: Dict[str, Any]) -> Stream:
     return Stream(function, given["url"].rstrip("/"), service, given[service], given.get("position", "TRIM_HORIZON"),
                   given.get("batchSize", 100), given.get("window", 0), given.get("retries", FOREVER),
                   given.get("maximumAge", FOREVER), given.get("bisect", False), given.get("partial", True),
-                  given.get("onFailure"), given.get("checkpoint"))
+                  given.get("onFailure"), given.get("checkpoint"), tuple(given.get("filters", ())))
 
 
 def streams_of(functions: "List[Dict[str, Any]] | Tuple[Dict[str, Any], ...]") -> List[Stream]:

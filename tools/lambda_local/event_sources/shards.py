@@ -7,6 +7,7 @@ from ..clock.followed import Clock
 from ..other_server import code_of
 from .batches import Batch, cut
 from .failures import Invoked
+from .filters import is_taken
 from .members import Stream
 from .servers import Record, SeenShard, Server
 
@@ -117,7 +118,10 @@ class Shard(Task):
                 repeated += 1
             else:
                 self.read_to = record.sequence
-                self.collected.append(record)
+                if is_taken(self.stream.filters, record.event):
+                    self.collected.append(record)
+        if not self.collected and not self.batches:
+            self.handled = self.read_to  # (what no filter takes is done)
         self.is_read = read.following is None or self.is_closed and read.is_at_end
         return Odd(wrong, repeated), len(read.records) - wrong - repeated
 

@@ -240,8 +240,9 @@ class Reader(Handling):
         shard.weigh()
         wait = self.server.wait if shard.empty < MANY_EMPTY else LONG_WAIT
         shard.due = time.monotonic() + (wait if is_idle else 0.0)
-        if shard.is_over:
+        if not shard.collected and not shard.batches:
             self.note(shard)
+        if shard.is_over:
             self.look.due = 0.0  # (what it has become is read next)
 
     def is_heavy(self) -> bool:

@@ -25,10 +25,6 @@ class Stack(NamedTuple):
     functions: List[Tuple[str, Members]]
     base: str
 
-    @property
-    def is_serverless(self) -> bool:
-        return isinstance(self.scope, serverless.ServerlessScope)
-
 
 def stack_name(path: str) -> str:
     """What a stack of this template would be called: by its file, or by its folder if the file is just called

@@ -4,6 +4,8 @@ import re
 from typing import Dict, Iterator, List, Optional, Tuple
 
 from ..configuration import Members
+from ..event_sources.filters import MOST_FILTERS, filters_in
+from ..json_reader import NotJson
 from ..other_server import ARN as DESTINATION
 from .messages import VALUES, excerpt
 from .objects import Object, Tell, members_by_key
@@ -60,6 +62,7 @@ def rules_of(given: Object, scope: Scope, tell: Tell) -> Members:
             "maximumAge": number_of(given, "MaximumRecordAgeInSeconds", 60, 604_800),
             "bisect": given.value("BisectBatchOnFunctionError") in (True, "true") or None,
             "partial": None if reads else False,
+            "filters": filters_of(given.value("FilterCriteria"), given.where, tell),
             "onFailure": destination_of(given.raw("DestinationConfig"), given.where, scope, tell)}
     factor = given.whole("ParallelizationFactor", 1, 10)
     if factor is not None and factor > 1:
@@ -67,6 +70,20 @@ def rules_of(given: Object, scope: Scope, tell: Tell) -> Members:
     given.without_meaning(["StartingPositionTimestamp", "KmsKeyArn", "KMSKeyArn", "Tags", "MetricsConfig",
                            "LoggingConfig"])
     return {name: value for name, value in made.items() if value is not None}
+
+
+def filters_of(given: object, where: str, tell: Tell) -> Optional[List[Dict[str, object]]]:
+    """The patterns of a mapping, by CloudFormation's members or Serverless' list."""
+    patterns = given.get("Filters") if isinstance(given, dict) else given
+    if not patterns:
+        return None
+    try:
+        if not isinstance(patterns, list) or len(patterns) > MOST_FILTERS:
+            raise NotJson(f"it must be a list of up to {MOST_FILTERS} patterns")
+        return filters_in([one.get("Pattern", one) if isinstance(one, dict) else one for one in patterns])
+    except NotJson as fault:
+        tell(f"ignores FilterCriteria of {where}, so all records come: {fault}")
+        return None
 
 
 def number_of(given: Object, name: str, least: int, most: int) -> Optional[int]:

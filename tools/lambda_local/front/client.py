@@ -3,17 +3,16 @@ written here and nowhere else: a method, a target, the headers that the service 
 caller's own head is never passed on."""
 import asyncio
 import contextlib
-import errno
 import time
 from typing import AsyncIterator, Callable, List, Optional, Sequence, Tuple
 
+from ..history.running import NO_DESCRIPTOR
 from ..http1 import CLOSED, Event, Headers, Malformed, Response, ResponseReader, request_head
 from .http import Answer, Body
 from .wire import Gone, Wire
 
 MOST_IDLE = 64  # connections that are kept
 IDLE_SECONDS = 60  # (the service closes one after 300)
-NO_DESCRIPTOR = (errno.EMFILE, errno.ENFILE)
 
 
 class Unreachable(Gone):

@@ -1,9 +1,8 @@
 """Requests that are asked of the service in the front's own words, and its answers as they come."""
 import contextlib
-import secrets
-import time
 from typing import AsyncIterator, Optional, Tuple
 
+from ..streaming.streams import own_trace
 from .budget import Budget
 from .client import Client
 from .http import OF_CONNECTION, Body, Headers, Reply, Request, TooLong, first, words_of
@@ -25,7 +24,7 @@ def headers_to_send(headers: Headers) -> Headers:
 def own_root() -> str:
     """The trace of an invocation whose caller gave none. The SDKs of AWS pass it on with what its function invokes, and
     `rerun` knows those invocations by it."""
-    return f"Root=1-{int(time.time()):08x}-{secrets.token_hex(12)};Sampled=0;{OF_FRONT}"
+    return own_trace(OF_FRONT)
 
 
 def headers_to_return(headers: Headers) -> Headers:

@@ -34,11 +34,13 @@ class Functions(Session):
         options = argparse.Namespace(up=path, debug=None, salt=recording.salt, program=program, reload=False,
                                      keep_credentials=False, ready=ready, command=["rerun"], history=None, only=None,
                                      allow_unready=False, drain=5, patient=1, report=False)
-        names = {member["name"] for member in project_of(path).whole["functions"]}
+        log = Log() if verbose else Silent()
+        project = project_of(path, say=lambda line: log("up", line, kind="template"))
+        names = {member["name"] for member in project.whole["functions"]}
         for invocation in recording.invocations:
             if invocation.was_served and invocation.function not in names:
                 raise Fault(2, f"{path}: there is no function {invocation.function}, which the history invokes")
-        super().__init__(options, Log() if verbose else Silent())
+        super().__init__(options, log, project)
 
     def late(self) -> Tuple[List[Environment], List[Environment]]:
         """As lambda_local up has it; a command that ends each time is not waited for."""

@@ -102,6 +102,11 @@ def text_of(body: str) -> str:
         return body
 
 
+def own_trace(more: str) -> str:
+    """The trace of an invocation whose caller gave none, with what else is to be in it."""
+    return f"Root=1-{int(time.time()):08x}-{secrets.token_hex(12)};Sampled=0;{more}"
+
+
 class Expected:
     """A caller that waits for the response to an invocation. Its token is in the trace that the service gets, and
     nowhere else before that: the first Invoke with it is this caller's."""
@@ -118,7 +123,7 @@ class Expected:
         given = others[1] if others else given
         if given and len(given) + 1 + len(lineage) <= LONGEST_TRACE:
             return f"{given};{lineage}"
-        return f"Root=1-{int(time.time()):08x}-{secrets.token_hex(12)};Sampled=0;{lineage}"
+        return own_trace(lineage)
 
 
 def token_in(trace: Optional[str]) -> Optional[str]:

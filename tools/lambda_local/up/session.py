@@ -1,225 +1,31 @@
 """One run of lambda_local up: all is started, the command is run or a signal waited for, and all is stopped in
 order."""
-import argparse
 import http.client
-import os
 import signal
 import threading
 import time
-from typing import Callable, Dict, Iterator, List, Optional, Sequence, Tuple, TypeVar
+from typing import Callable, List, Optional, Sequence, Tuple, TypeVar
 
-from ..event_sources.sources import Sources, prepare
-from ..front import asynchronous
-from ..front.front import Front
-from ..front.outbox import Outbox
-from ..guard import GUARD
 from ..guard_process import end_all_below
 from ..outgoing import written
 from ..reports import Report
-from ..service import Fault, Service
-from ..telemetry.sidecars import Sidecars
+from ..service import Fault
 from ..variables import of_callers
-from . import patience, surroundings
-from .closer import Closer
 from .environments import Environment
-from .invocation_lines import Line, Printed
-from .invocation_log import Invocations, Tails
-from .invocation_report import InvocationReport
 from .lines import Lines
-from .limits import Limits
-from .log import OUTPUT, Log
-from .looks import Hook, Looks
-from .members import load
-from .project import project_by
-from .queues import pollers_of
-from .refused_calls import RefusedCalls
-from .reload import Reload
-from .restarts import Restarts
+from .parts import Parts
 from .run import Run
-from .scaling import BETWEEN_LOOKS, Scaling
-from .schedules import Schedules
-from .sources import queues_of, refuse_aws
-from .supervised import BROKEN, Supervisor, told
-from .troubles import Troubles
-from .unnamed import Unnamed
-from .watch import Watch
+from .supervised import BROKEN, told
 
 Given = TypeVar("Given")
 
 SAVED = "lambda_local.history.txt"
 NAMED = 8  # environments in one line
 FAILED_STARTS = 3  # of an environment in a row, after which a command is not waited for any more
-READY_SECONDS = 60  # for all environments, if no other time is asked for
-DRAIN_SECONDS = 5  # for events at the end, so
 LAST_SECONDS = 20.0  # for all threads at the end
 
 
-class Session:
-    sends_on = True  # what has ended goes to the queues and topics that are named for it
-
-    def __init__(self, options: argparse.Namespace, log: Log) -> None:
-        self.options, self.log = options, log
-        self.command: Optional[Run] = None
-        self.is_served = False
-        self.happened, self.stopping = threading.Event(), threading.Event()  # something to look at; all is to end
-        self.signals, self.signal_number, self.kills_at = 0, 0, 2
-        self.supervisor = Supervisor(log, self.happened.set)
-        GUARD.adopt_orphans(self.guard_lost)
-        self.has_guard = True
-        salt = options.salt
-        self.project = project_by(options, lambda line: log("up", line, kind="template"))
-        options.up = self.project.path
-        configuration, self.functions, front = load(options.up, options.debug, salt, options.only,
-                                                    options.allow_unready, self.project.whole, options.patient)
-        for note in self.functions[0].notes_of_all:
-            self.say(note)
-        queues = queues_of(front.functions)
-        refuse_aws(options.up, queues, options.keep_credentials)
-        positions = prepare(options.up, front.functions, options.keep_credentials)
-        for fault in asynchronous.refused(front.asynchronous, front.of_functions, options.keep_credentials):
-            raise Fault(2, f"{options.up}: {fault}")
-        ready = options.patient * READY_SECONDS
-        self.patience = options.ready or max([ready, *(function.init + ready / 2 for function in self.functions
-                                                       if function.init)])
-        drain = options.patient * DRAIN_SECONDS if options.drain is None else options.drain
-        outbox = Outbox(options.keep_credentials) if self.sends_on else None
-        self.front = Front(front, options.up, drain, log, outbox)
-        streaming = {name for name, address in front.urls.items() if address.streams}
-        self.sidecars = Sidecars(self.functions, streaming, options.up, log, options.report, self.relay_lost)
-        if salt is None and "salt" not in configuration:
-            configuration["salt"] = int(1000 * time.time()) << 16  # so that no two runs have the same identifiers
-        # From here on a signal ends it in order; a second one kills.
-        for number in (signal.SIGTERM, signal.SIGINT, signal.SIGHUP):
-            signal.signal(number, self.signalled)
-        self.service = Service(configuration, options.program, lambda line: log("service", line, kind="service"),
-                               options.up, patience.of_service(options.patient))
-        self.is_served = True
-        self.watch = Watch(self.service, log)
-        self.clock_file = os.path.join(self.service.folder, "clock")
-        self.watch.clock.share(self.clock_file)
-        if any(function.debug for function in self.functions):
-            self.watch.clock.pause()
-        self.looks = Looks(self.watch, self.stopping)
-        self.printed = {number: Printed() for number in self.watch.life.environments}
-        invocations = self.make_invocations()
-        self.watch.followers.append(invocations.take)
-        self.report = self.make_report(invocations) if options.report else None
-        self.watch.lines = Lines(log, self.functions, self.printed)
-        self.limits = Limits(self.functions, streaming, self.watch, self.printed, log, options.patient)
-        self.watch.followers.append(self.limits.take)
-        self.looks.hooks.append(Hook("look at the limits of functions", self.limits.look))
-        if self.report:
-            self.watch.lines.log = self.report.tell
-        self.closer = Closer(self.sidecars, self.service, self.watch, log)
-        self.front.serve(self.service, Tails(invocations, self.watch, self.closer),
-                         self.sidecars.serve(self.service.configuration, self.printed), self.sidecars.streams,
-                         self.limits.answered, self.watch.clock)
-        self.watch.takers.append(self.sidecars.pairing(self.front.call).take)
-        self.refused = RefusedCalls(self.service.configuration, self.sidecars, self.sidecars.tell)
-        self.watch.takers.append(self.refused.take)
-        self.environments = list(self.make_environments())
-        troubles = Troubles(self.environments, self.watch, log)
-        self.front.port.trouble = troubles.order
-        self.watch.followers.append(troubles.take)
-        self.looks.hooks.append(Hook("look after trouble that was called for", troubles.look))
-        self.closer.environments += self.environments
-        self.looks.hooks.append(Hook("look for extensions under another name", Unnamed(
-            self.watch.life.environments.values(),
-            lambda name, line: log(name, f"-- {line}", level="warning", kind="init")).look))
-        self.looks.hooks += [Hook("answer a caller in a pause", environment.answer_callers)
-                             for environment in self.environments]
-        if any(environment.is_extra for environment in self.environments):
-            self.looks.hooks.append(Hook("start or end further environments",
-                                         Scaling(self.environments, self.watch, self.service).look))
-            self.looks.between = BETWEEN_LOOKS
-        self.threads: List[threading.Thread] = [self.watch, self.looks, *self.environments]
-        self.clients, self.ending = surroundings.Clients(log, self.stopping), threading.Event()
-        self.schedules = Schedules(list(front.functions), self.service, self.watch.clock, self.ending, log)
-        self.event_sources = Sources(positions, front.functions, self.service, self.watch.clock,
-                                     options.keep_credentials, self.ending, log)
-        self.sources: List[threading.Thread] = [
-            *pollers_of(queues, self.service, self.watch.clock, options.keep_credentials, self.ending, log),
-            *self.event_sources.threads]
-        if options.reload:
-            self.threads.append(Reload(self.environments, self.service, self.stopping, log, self.project.watched))
-
-    def show(self, line: Line) -> None:
-        """A line that a process printed."""
-        self.log(line.source, line.text, kind=OUTPUT)
-
-    def say(self, line: str, level: str = "info", kind: str = "up", always: bool = False, **members: object) -> None:
-        self.log("up", line, level, kind, always, **members)
-
-    def make_invocations(self) -> Invocations:
-        here = self.watch.life.environments
-        numbers: Dict[str, List[int]] = {}
-        for number, environment in here.items():
-            numbers.setdefault(environment.function, []).append(number)
-
-        def measure() -> None:
-            for number, environment in here.items():
-                invocations.measure(number, environment.generation.is_ready)
-        invocations = Invocations({function.name: function for function in self.functions}, self.printed, numbers)
-        self.looks.hooks.append(Hook("measure memory", measure))
-        return invocations
-
-    def make_report(self, invocations: Invocations) -> InvocationReport:
-        """With --report, what environments print goes through it; else it is shown as it comes."""
-        report = InvocationReport(invocations, self.log)
-        for number, here in self.watch.life.environments.items():
-            report.hold(number, here.name, here.function, here.place, self.printed[number])
-        self.watch.followers.append(report.take)
-        self.watch.readers.append(report.know)
-        return report
-
-    def make_environments(self) -> Iterator[Environment]:
-        number = 0
-        for function, part in zip(self.functions, self.service.configuration["functions"]):
-            if function.debug:
-                is_paused = self.watch.clock.is_paused
-                why = ("and the clock is paused, for the debugger: lambda_local clock resume lets it go on" if is_paused
-                       else "and its timeout as it is, since the service's clock cannot be paused")
-                self.say(f"{function.name}: one environment, {why}", level="info" if is_paused else "warning")
-            for note in function.notes:
-                self.say(f"{function.name}: {note}", level="warning")
-            for port in part["ports"]:
-                number += 1
-                here, beside = self.watch.environment(number), self.sidecars.of(number, port)
-                if not function.command or self.log.form == "json":
-                    todo = "" if function.command else ", start its runtime yourself"
-                    self.say(f"{here.name}: 127.0.0.1:{beside.port}{todo}", kind="address", function=function.name,
-                             environment=here.place, port=beside.port)
-                if self.report is None:
-                    self.printed[number].follow(self.show)
-                if function.command:
-                    own = {"LAMBDA_LOCAL_CLOCK": self.clock_file} if function.is_bundled else {}
-                    variables = surroundings.of_environment(self.service, function, number, beside.port,
-                                                            self.options.keep_credentials,
-                                                            {**self.front.variables(), **own})
-                    restarts = Restarts(self.options.reload)
-                    yield Environment(self.service, self.watch, function, number, port, variables, restarts,
-                                      self.stopping, self.log, self.printed[number], self.sidecars)
-
-    def signalled(self, number: int, _frame: object) -> None:
-        if not self.is_served:  # it is being built, or does not listen yet: nothing has to end in order
-            raise SystemExit(128 + number)
-        self.signals, self.signal_number = self.signals + 1, number
-        if self.signals == 1 and number == signal.SIGINT and self.command:
-            self.kills_at = 3  # (the second one is for the command)
-        self.happened.set()
-        if self.signals >= self.kills_at and self.service.process.poll() is None:
-            # (it ends, and with it each environment's thread, which kills its processes)
-            self.service.process.kill()
-
-    def guard_lost(self) -> None:
-        """The guard has been killed: all that it had started is below this process now, and ends with it."""
-        self.has_guard = False
-        self.supervisor.broken("its guard process has ended")
-
-    def relay_lost(self) -> None:
-        if not self.stopping.is_set():
-            self.supervisor.broken("its relay has ended")
-
+class Session(Parts):
     def note_end(self) -> None:
         self.service.process.wait()
         self.happened.set()
