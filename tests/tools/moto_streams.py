@@ -254,11 +254,12 @@ class MotoStreams(Case):
             def all_texts():
                 return before + texts_in(self.seen(again))
             self.check("all come", until(lambda: len(set(all_texts())) == count, PATIENCE), shown=len(set(all_texts())))
-            self.check("it ends", again.end(), (0, []))
             after = texts_in(self.seen(again))
+            self.check("it ends", again.end(), (0, []))
             twice = len(before) + len(after) - len({*before, *after})
             print(f"note 10,000 records: {len(before):,} before the kill, {len(after):,} after it, {twice:,} of which "
                   "were handled before")
+            self.check("there are four shards", len({shard for shard, _ in after}), 4)
             for shard in sorted({shard for shard, _ in before + after}):
                 for run in (before, after):
                     texts = [text for one, text in run if one == shard]
