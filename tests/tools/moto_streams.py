@@ -201,7 +201,7 @@ class MotoStreams(Case):
             up = self.running(function(stream={"url": server.endpoint, "kinesis": "clicks"},
                                        topic={"url": server.endpoint, "name": "news"}))
             self.check("its records come", until(lambda: len(texts_in(self.seen(up))) == 5, PATIENCE))
-        self.check("its end is told", up.until("stream clicks: it cannot be read: EndpointConnectionError", PATIENCE)
+        self.check("its end is told", up.until("stream clicks: it cannot be read: ", PATIENCE)
                    and up.until("topic news: no notifications come: ", PATIENCE))
         with moto(self, port) as server:
             server.asked(MAKE, {"streams": ["clicks"], "topics": ["news"]})
