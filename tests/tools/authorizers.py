@@ -7,6 +7,7 @@ import contextlib
 import json
 import re
 import time
+from types import SimpleNamespace
 
 from lambda_local.front import authorize as deciders
 from lambda_local.front import settings
@@ -256,9 +257,20 @@ class Authorizers(Case):
                  "Resource of a statement must be a string, or a list of strings")):
             self.check(f"a policy: {name}", seen, wanted)
 
+    def test_patterns_of_anyone(self):
+        """A policy of 8 KiB about a path of 60 KB: a function that authorizes holds up nobody."""
+        arn = "arn:aws:execute-api:r:a:api/s/GET/" + "a" * 60_000
+        for pattern, count in (("*" + "a" * 20 + "b", 250), ("*" + "a" * 20 + "b*", 250), ("*" + "a" * 20 + "?b*", 250),
+                               ("*a" * 2000 + "b", 2), ("*" + "a" * 4000 + "?b*", 2)):
+            begun = time.process_time()
+            verdict = verdict_of({"Statement": [{"Effect": "Allow", "Action": "*", "Resource": [pattern] * count}]}, arn)
+            self.check(f"{pattern[:30]}: it allows nothing", verdict, Verdict.NOT_ALLOWED)
+            took = time.process_time() - begun
+            self.check("and takes no time", took < 5, shown=f"({took:.2f} s)")
+
     def test_bounds(self):
         """What is kept of answers."""
-        kept = deciders.Authorizers(None)
+        kept = deciders.Authorizers(None, SimpleNamespace(now=lambda: 0))
         for number in range(deciders.MOST_KEPT + 2):
             kept.keep(("x", (str(number),)), Authorizer("function", ttl=60), {"n": number})
         self.check("so many, without the oldest", (len(kept.kept), [("x", (text,)) in kept.kept for text in "12"]),

@@ -7,10 +7,12 @@ import resource
 import subprocess
 import sys
 import tempfile
+import threading
 from typing import Iterator
 
 from lambda_local import junit
-from lambda_local.outgoing import written
+from lambda_local.clock.followed import Shared
+from lambda_local.outgoing import renew, written
 from lambda_local.rerun.record import Invocation
 from lambda_local.rerun.report import EQUAL, Result, write_junit
 from tests import ROOT
@@ -106,6 +108,39 @@ class Files(Case):
                 subprocess.run([sys.executable, "-c", code], stdout=out, check=True, timeout=20,
                                env={**os.environ, "PYTHONPATH": os.path.join(ROOT, "tools")})
             self.check("so is /dev/stdout", content(os.path.join(folder, "out")), "new")
+
+    def test_renewed(self):
+        """A small file that others read, in a folder in which a function writes too: nothing that it puts there is
+        written to, or waited for."""
+        with tempfile.TemporaryDirectory() as folder:
+            path, other = os.path.join(folder, "clock"), os.path.join(folder, "other")
+            write(other, "kept")
+            for name in ("clock", "clock.new"):
+                os.symlink("other", os.path.join(folder, name))
+            renew(path, "1\n")
+            self.check("a link is replaced, and does not lead on", (os.path.islink(path), content(path), content(other)),
+                       (False, "1\n", "kept"))
+            for name in ("clock", "clock.new"):
+                os.unlink(os.path.join(folder, name))
+                os.mkfifo(os.path.join(folder, name))
+            renew(path, "2\n")
+            self.check("so is a pipe", (os.path.isfile(path), content(path)), (True, "2\n"))
+            os.unlink(path)
+            os.mkdir(path)
+            self.check("a folder is a fault", fault_in(renew, path, "3\n"), "Is a directory")
+            self.check("and nothing is left beside", sorted(os.listdir(folder)), ["clock", "clock.new", "other"])
+
+    def test_shared_clock(self):
+        """The clock that runtimes read is put there so: a function stops nobody by what it puts beside it."""
+        with tempfile.TemporaryDirectory() as folder:
+            path = os.path.join(folder, "clock")
+            for name in ("clock", "clock.new"):
+                os.mkfifo(os.path.join(folder, name))
+            noting = threading.Thread(target=Shared(path).note, args=(5, 1.0, False), daemon=True)
+            noting.start()
+            noting.join(10)
+            self.check("it is written at once", (noting.is_alive(), os.path.isfile(path) and content(path)),
+                       (False, "5 1000000000 0\n"))
 
     def test_modes(self):
         with tempfile.TemporaryDirectory() as folder:

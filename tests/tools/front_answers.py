@@ -10,6 +10,7 @@ import time
 from typing import Any, AsyncIterator, List
 
 from lambda_local.front import sending, tail
+from lambda_local.front.budget import Unread
 from lambda_local.front.http import Reply, Request
 from lambda_local.front.wire import Gone
 from lambda_local.http1 import RequestReader
@@ -70,7 +71,7 @@ def written(method: str, version: str, reply: Reply, keeps: bool = True) -> Any:
 
     async def send() -> Any:
         try:
-            return await sending.send(wire, request_of(method, version), reply, keeps)
+            return await sending.send(wire, request_of(method, version), reply, keeps, Unread())
         except Gone:
             return "breaks off"
     return wire, asyncio.run(send())

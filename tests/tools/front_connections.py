@@ -1,6 +1,7 @@
 """Checks the connections at a front's ports and to its service: what the service is asked, that each caller gets its
 own answer, who has a place, and who takes too long."""
 import asyncio
+import contextlib
 import errno
 import json
 import os
@@ -13,12 +14,15 @@ from typing import Dict, List
 from lambda_local.front import patience
 from lambda_local.front.budget import SLOW_SECONDS
 from lambda_local.front.client import NoDescriptor
+from lambda_local.front.http import Reply
+from lambda_local.front.sending import PIECE
 from lambda_local.front.tasks import begin_task
 from tests.library.cases import Case
 from tests.library.events_kit import invoke_path
 from tests.library.failing_service import PATIENCE, Service, answer_to, front_of
 from tests.library.up_kit import until
 
+MUCH = 8 << 20  # bytes of an answer: more than the system holds for a reader
 STATS = b"GET /_local/stats HTTP/1.1\r\nHost: a\r\n\r\n"
 
 
@@ -27,6 +31,15 @@ def is_closed(peer):
         return peer.recv(1) == b""
     except ConnectionResetError:
         return True
+
+
+def rest_of(peer):
+    """How many bytes come, up to the end of an answer with MUCH."""
+    size = 0
+    with contextlib.suppress(ConnectionResetError):
+        while size <= MUCH and (data := peer.recv(1 << 20)):
+            size += len(data)
+    return size
 
 
 class Exhausted:
@@ -218,6 +231,43 @@ class FrontConnections(Case):
         told: List[str] = []
         asyncio.run(begin())
         self.check("what is told of two tasks", told, ["the one cannot go on: ValueError('no')"])
+
+    def test_unread_answers(self):
+        """An answer is there once, whoever does not read it. If too much waits for readers, those who take nothing are
+        broken off, the first that came before the others, also if they send something."""
+        class Port:
+            async def handle(self, _request):
+                return Reply(200, [], b"x" * MUCH)
+
+        def asked(room):
+            peer = socket.socket()
+            peer.setsockopt(socket.SOL_SOCKET, socket.SO_RCVBUF, room)
+            peer.settimeout(PATIENCE)
+            peer.connect(("127.0.0.1", front.invoke_listener.getsockname()[1]))
+            peer.sendall(b"GET / HTTP/1.1\r\nHost: a\r\n\r\n")
+            return peer
+
+        with front_of(Service()) as (front, _, told):
+            front.servers[0].port, unread = Port(), front.places.unread
+            unread.most = 3 * MUCH
+            peers = []
+            for count in range(1, 8):
+                peers.append(asked(4096))
+                until(lambda: len(front.places.taken) == count and all(wire.draining for wire in unread.left), PATIENCE)
+            held = [one.wire.transport.get_write_buffer_size() for one in list(front.servers[0].connections)]
+            self.check("of an answer that is not read there is no copy", max(held) <= 2 * PIECE, True, shown=held)
+            for peer in peers:
+                peer.sendall(b"GET / HTTP/1.1\r\n")
+            self.check("what waits for readers is bounded", until(
+                lambda: sum(unread.left.values()) <= unread.most, PATIENCE), True)
+            self.check("some are broken off, and others not", until(
+                lambda: 0 < len(front.places.taken) < len(peers), PATIENCE), True)
+            self.check("a line says so", until(lambda: any("broken off" in line for line in told.lines), 5), True)
+            sizes = [rest_of(peer) for peer in (peers[0], peers[-1])]
+            self.check("the first that came, and not the last", (sizes[0] < MUCH, sizes[1] > MUCH), (True, True))
+            self.check("one that reads has all of it", rest_of(asked(1 << 20)) > MUCH, True)
+            for peer in peers:
+                peer.close()
 
     def test_slow_peers(self):
         """A head has its time as a whole, a body its rate, and what is idle its own (docs/formats.md)."""

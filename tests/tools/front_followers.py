@@ -153,3 +153,5 @@ class FrontFollowers(Case):
         waiting: Any = object()
         wire.draining = waiting
         self.check("an answer that is not read", patience.is_over(late), True)
+        wire.touched = late
+        self.check("also if its reader sends something", patience.is_over(late), True)

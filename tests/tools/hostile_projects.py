@@ -73,6 +73,13 @@ def doubling_texts(levels: int) -> str:
                       "}}"])
 
 
+def of_number(text: str) -> str:
+    return ("Resources:\n  F:\n    Type: AWS::Serverless::Function\n    Properties:\n      Handler: a.b\n"
+            f"      Runtime: python3.12\n      CodeUri: src\n      Timeout: {text}\n      MemorySize: {text}\n"
+            f"      EventInvokeConfig: {{MaximumRetryAttempts: {text}}}\n"
+            f"      Events: {{E: {{Type: HttpApi, Properties: {{Path: /a, Method: {text}}}}}}}\n")
+
+
 def of_serverless(text: str) -> str:
     return ("service: s\nprovider: {name: aws, runtime: python3.12}\nfunctions:\n  f:\n    handler: a.b\n"
             f"    environment:\n      A: {text}\n")
@@ -108,6 +115,10 @@ BOMBS: Dict[str, Tuple[str, object]] = {
         "Type": "AWS::Serverless::HttpApi", "Properties": {"DefinitionBody": {"paths": {f"/{n}": {"get": {
             "x-amazon-apigateway-integration": {"type": "aws_proxy", "uri": {"Fn::GetAtt": ["F", "Arn"]}}}}
             for n in range(20_000)}}}}}}),
+    "a number in base 60": ("template.yml", of_number("1" + ":59" * 200_000)),
+    "a number in base 16": ("template.yml", of_number("0x" + "F" * 6000)),
+    "a number in base 2": ("template.yml", of_number("0b" + "1" * 20_000)),
+    "a number with a point in base 60": ("template.yml", of_number("1" + ":59" * 200_000 + ".5")),
     "Serverless: addresses of addresses": ("serverless.yml", variables_of_paths(30)),
     "Serverless: texts that double": ("serverless.yml", doubling_texts(45)),
     "Serverless: very many quotes": ("serverless.yml", of_serverless('"${' + QUOTES + '}"')),

@@ -1,12 +1,16 @@
 """Checks `lambda_local trouble` on functions of lambda_local up: what callers get of a throttle, a cold start, a crash
 and a timeout of 15 minutes, and that all goes on after it. The program is LAMBDA_LOCAL_PROGRAM, else ./lambda_local."""
+import http.server
 import json
 import os
 import subprocess
 import sys
+import threading
 import time
 
 from lambda_local.in_process import LambdaLocal
+from lambda_local.program import Fault
+from lambda_local.trouble import Trouble as Asking, parser
 from tests import ROOT
 from tests.library.cases import Case
 from tests.library.clock_kit import INVOKE, posted, rests
@@ -28,6 +32,36 @@ def trouble(*words, endpoint):
     done = subprocess.run([*TROUBLE, *words], capture_output=True, text=True, timeout=60, stdin=subprocess.DEVNULL,
                           env={**CLEAN, "AWS_ENDPOINT_URL_LAMBDA": endpoint})
     return done.returncode, done.stdout, done.stderr
+
+
+ODD = ("f: the service answers something else than lambda_local does: name the address that `lambda_local up` prints by "
+       "--endpoint")
+
+
+class Answers(http.server.BaseHTTPRequestHandler):
+    """Answers what its server says."""
+
+    def do_GET(self):
+        self.rfile.read(int(self.headers.get("Content-Length") or 0))
+        status, body = self.server.answer
+        self.send_response(status)
+        self.send_header("Content-Length", str(len(body)))
+        self.end_headers()
+        self.wfile.write(body)
+
+    do_POST = do_PUT = do_DELETE = do_GET
+
+    def log_message(self, *words):
+        pass
+
+
+def fault_of(kind, server):
+    """The status and the text of what is said of this server's answers."""
+    made = Asking(parser().parse_args(["f", kind, "--endpoint", f"http://127.0.0.1:{server.server_port}"]))
+    try:
+        return {"cold": made.cold, "throttle": made.throttle, "crash": made.one_invocation}[kind]()
+    except Fault as fault:
+        return fault.status, str(fault)
 
 
 class Trouble(Case):
@@ -92,6 +126,32 @@ class Trouble(Case):
                    up.until("no invocation of f has come within 30 s: its runtimes go on", 60))
         self.check("and the function answers", isinstance(up.invoke()[0], int))
         self.check("it ends", up.end(), (0, []))
+
+    def test_other_answers(self):
+        """A server that is none of lambda_local, or lies: one line."""
+        server = http.server.ThreadingHTTPServer(("127.0.0.1", 0), Answers)
+        thread = threading.Thread(target=server.serve_forever)
+        thread.start()
+        environment = b'{"environments":[{"function":"f","phase":"idle","environment":%b}]}'
+        try:
+            for body in (b"hello", b"", b"[]", b"null", b"{}", b"\xff", b"[" * 100_000, b'{"environments":7}',
+                         b'{"environments":[7]}', b'{"environments":[{"function":"f"}]}', environment % b'"1"',
+                         environment % b"true", environment % (b"9" * 5000)):
+                server.answer = 200, body
+                self.check(f"cold: {body[:40]!r}", fault_of("cold", server), (4, ODD))
+            for body in (b"hello", b"[]", b'{"ReservedConcurrentExecutions":"1"}',
+                         b'{"ReservedConcurrentExecutions":1e999}', b'{"ReservedConcurrentExecutions":-1}'):
+                server.answer = 200, body
+                self.check(f"throttle: {body[:40]!r}", fault_of("throttle", server), (4, ODD))
+            server.answer = 202, b"["
+            self.check("crash", fault_of("crash", server)[0], 3)
+            server.answer = 200, b"["
+            self.check("it is one line", trouble("f", "cold", endpoint=f"http://127.0.0.1:{server.server_port}")[::2],
+                       (4, f"trouble: {ODD}\n"))
+        finally:
+            server.shutdown()
+            thread.join()
+            server.server_close()
 
     def test_faults(self):
         for words, wanted in (

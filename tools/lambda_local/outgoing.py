@@ -106,6 +106,21 @@ def written(path: str, has_payloads: bool = True) -> Iterator[TextIO]:
         raise
 
 
+def renew(path: str, text: str) -> None:
+    """Puts a small file that others read in the place of what is there, whatever that is: no one finds half of it.
+    OSError if it cannot be."""
+    beside = f"{path}.{os.urandom(8).hex()}"
+    number = os.open(beside, os.O_WRONLY | os.O_CREAT | os.O_EXCL | os.O_CLOEXEC, 0o600)
+    try:
+        with open(number, "w", encoding="utf-8") as file:
+            file.write(text)
+        os.replace(beside, path)
+    except BaseException:
+        with contextlib.suppress(OSError):
+            os.unlink(beside)
+        raise
+
+
 def is_written_in_place(path: str) -> bool:
     """Whether this is no regular file, or a name by which the system gives what is open, such as /dev/stdout."""
     if os.path.abspath(path).startswith(("/dev/", "/proc/")):

@@ -9,16 +9,18 @@ What the caller gets is printed. `crash` and `timeout` need `lambda_local up`, a
 service is that of AWS_ENDPOINT_URL_LAMBDA, which `lambda_local up` prints and sets, else http://127.0.0.1:9000.
 
 Exit statuses: 0, it came about; 1, it did not; 2, a fault in the arguments; 3, the service has refused; 4, the service
-cannot be reached."""
+cannot be reached, or answers as another does."""
 import argparse
 import json
 import signal
 import threading
-from typing import Any, Dict, List, Optional
+from typing import Optional
 from urllib.parse import quote, urlencode
 
+from .configuration import Members, is_whole
 from .endpoint import Answer, add_option, asked
 from .invoke import is_json, print_body, refusal
+from .json_reader import NotJson, read_json
 from .outgoing import tell
 from .program import Fault
 from .usage import parser_of
@@ -29,6 +31,7 @@ PATHS = {"get": "/2019-09-30/functions/{}/concurrency", "set": "/2017-10-31/func
          "invoke": "/2015-03-31/functions/{}/invocations"}
 LONGEST_SECONDS = 1000.0  # of an invocation: 900, and what it waits for
 MOST_SECONDS = 86_400.0
+MOST_RESERVED, MOST_ENVIRONMENTS = 1 << 32, 1000  # numbers that a service gives are below these
 
 
 def seconds_of(text: str) -> float:
@@ -64,11 +67,27 @@ class Trouble:
             raise Fault(3, refusal(self.options.name, *answer))
         return answer
 
+    def members(self, answer: Answer) -> Members:
+        """The object that an answer is; Fault if it is none."""
+        try:
+            found = read_json(answer[2])
+        except NotJson:
+            found = None
+        if not isinstance(found, dict):
+            raise self.odd()
+        return found
+
+    def odd(self) -> Fault:
+        return Fault(4, f"{self.options.name}: the service answers something else than lambda_local does: name the "
+                        "address that `lambda_local up` prints by --endpoint")
+
     # ---- throttle ----------------------------------------------------------------------------------------------------
 
     def throttle(self) -> int:
-        given = self.wanted(self.ask("GET", PATHS["get"].format(self.name)), 200)
-        before: Optional[int] = json.loads(given[2]).get("ReservedConcurrentExecutions")
+        given = self.members(self.wanted(self.ask("GET", PATHS["get"].format(self.name)), 200))
+        before = given.get("ReservedConcurrentExecutions")
+        if before is not None and not is_whole(before, MOST_RESERVED):
+            raise self.odd()
         ending = threading.Event()
         for number in (signal.SIGTERM, signal.SIGINT, signal.SIGHUP):
             signal.signal(number, lambda _number, _frame: ending.set())
@@ -91,8 +110,9 @@ class Trouble:
     # ---- cold --------------------------------------------------------------------------------------------------------
 
     def cold(self) -> int:
-        shown: List[Dict[str, Any]] = json.loads(self.wanted(self.ask("GET", "/_local/environments"), 200)[2])[
-            "environments"]
+        shown = self.members(self.wanted(self.ask("GET", "/_local/environments"), 200)).get("environments")
+        if not isinstance(shown, list) or not all(map(is_environment, shown)):
+            raise self.odd()
         here = [one for one in shown if one["function"] == self.options.name]
         if not here:
             raise Fault(3, f"{self.options.name}: there is no such function")
@@ -116,12 +136,18 @@ class Trouble:
             self.ask("POST", PATHS["invoke"].format(self.name), payload.encode(), LONGEST_SECONDS), 200)
         print_body(body)
         try:
-            report = json.loads(body)
-        except ValueError:
+            report = read_json(body)
+        except NotJson:
             report = None
         has_come = headers.get("X-Amz-Function-Error") and isinstance(report, dict) and (
             report.get("errorType") == REPORTS[kind])
         return 0 if has_come else 1
+
+
+def is_environment(one: object) -> bool:
+    """Whether this is one of those that a service shows."""
+    return (isinstance(one, dict) and is_whole(one.get("environment"), MOST_ENVIRONMENTS)
+            and all(isinstance(one.get(name), str) for name in ("function", "phase")))
 
 
 def main() -> int:

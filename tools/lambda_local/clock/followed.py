@@ -17,11 +17,11 @@ import contextlib
 import heapq
 import http.client
 import itertools
-import os
 import threading
 import time
 from typing import Callable, Iterator, List, Optional, Tuple
 
+from ..outgoing import renew
 from ..service import ask
 from .asked import PAUSE, RESUME, SHOW, NotClock, Reading, reading_of
 
@@ -60,9 +60,7 @@ class Shared:
             return
         self.noted = offset, is_running
         with contextlib.suppress(OSError):  # (its folder has gone with the service, or has no room: it is as it was)
-            with open(self.path + ".new", "w", encoding="ascii") as file:
-                file.write(f"{moment} {round(1e9 * since)} {int(is_running)}\n")
-            os.replace(self.path + ".new", self.path)
+            renew(self.path, f"{moment} {round(1e9 * since)} {int(is_running)}\n")
 
 
 class Clock:

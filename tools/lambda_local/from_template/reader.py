@@ -11,6 +11,7 @@ DEEPEST = 100  # levels of one (an expression has 50: `values`)
 MERGE = "tag:yaml.org,2002:merge"
 MOST_MERGED = 100_000  # members that merge keys bring: `<<: [*a, *a]` doubles them at each level
 MOST_VALUES = 1_000_000  # of a template, each alias written out
+LONGEST_NUMBER = 400  # letters; one in base 60 takes time as the square of its length, one in base 16 cannot be printed
 WITHOUT_PREFIX = ("Ref", "Condition")  # of the short forms, such as !Ref; the others are Fn::
 
 
@@ -27,7 +28,16 @@ def yaml_loader(yaml: Any) -> Any:
         construct = loader.construct_sequence if isinstance(node, yaml.SequenceNode) else loader.construct_mapping
         return {name: construct(node, deep=True)}
 
+    def number(construct: Callable[[Any, Any], object]) -> Callable[[Any, Any], object]:
+        def made(loader: Any, node: Any) -> object:
+            if isinstance(node, yaml.ScalarNode) and len(node.value) > LONGEST_NUMBER:
+                raise Fault(f"line {node.start_mark.line + 1}: a number has at most {LONGEST_NUMBER} letters")
+            return construct(loader, node)
+        return made
+
     Loader.add_multi_constructor("!", write_out)
+    Loader.add_constructor("tag:yaml.org,2002:int", number(Loader.construct_yaml_int))
+    Loader.add_constructor("tag:yaml.org,2002:float", number(Loader.construct_yaml_float))
     Loader.flatten_mapping = count_merges(Loader.flatten_mapping, yaml)
     return Loader
 

@@ -1,8 +1,11 @@
 """A budget of bytes for the bodies that are held while their requests are answered, one for each port. A body takes of
-it what has come of it, and no more. If there is no room, one of which hardly more comes makes it."""
+it what has come of it, and no more. If there is no room, one of which hardly more comes makes it. `Unread` is that of
+the answers."""
 import contextlib
 import time
 from typing import Callable, Dict, Iterator
+
+from .wire import Wire
 
 MOST_HELD = 256 << 20
 # One of which less than so many bytes have come for so long gives way.
@@ -67,3 +70,31 @@ class Budget:
             self.forget(slowest)
             slowest.give_way()
         self.size += count
+
+
+class Unread:
+    """What the readers of answers have not taken, at all ports together. With more than so much, answers are broken off
+    of which nothing was taken for SLOW_SECONDS, the one that has waited longest first."""
+
+    def __init__(self, most: int = MOST_HELD) -> None:
+        self.most = most
+        self.left: Dict[Wire, int] = {}  # bytes, by the connection
+
+    @contextlib.contextmanager
+    def of(self, wire: Wire, size: int) -> Iterator[None]:
+        self.left[wire] = size
+        try:
+            yield
+        finally:
+            self.left.pop(wire, None)
+
+    def look(self, now: float) -> int:
+        """How many were broken off."""
+        size, count = sum(self.left.values()), 0
+        for wire in sorted(self.left, key=lambda wire: wire.full_since):
+            if size <= self.most:
+                break
+            if wire.untaken(now) >= SLOW_SECONDS:
+                size, count = size - self.left.pop(wire), count + 1
+                wire.abort()
+        return count

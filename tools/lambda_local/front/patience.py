@@ -36,5 +36,5 @@ class Patience:
         if self.phase is Phase.LINGERING:
             return silent > LINGER_SECONDS or passed > WHOLE_LINGER_SECONDS
         if self.phase is Phase.ANSWERED:  # (what is answered may take its time too: a trace that is followed, a stream)
-            return self.wire.draining is not None and silent > IDLE_SECONDS
+            return self.wire.untaken(now) > IDLE_SECONDS
         return self.phase is Phase.IDLE and silent > IDLE_SECONDS

@@ -4,6 +4,8 @@ it."""
 import resource
 from typing import Dict, Protocol, Set
 
+from .budget import Unread
+
 MOST = 1024  # connections at once, at all ports together
 LEAST = 16
 RESERVE = 16  # further ones, in which only the requests of the service itself are served: its counts, its stop
@@ -40,6 +42,7 @@ class Places:
         self.most, self.reserve = most, reserve
         self.taken: Set[Holder] = set()
         self.waiting: Dict[Holder, bool] = {}  # those that wait for a whole request, the longest first
+        self.unread = Unread()  # of their answers
 
     def take(self, connection: Holder) -> bool:
         """Whether there is a place for a newcomer; then it is in the reserve if no other place could be had."""

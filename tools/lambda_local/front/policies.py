@@ -1,6 +1,7 @@
 """What the policy of a Lambda authorizer says of a request (API Gateway Developer Guide, "Output from an API Gateway
 Lambda authorizer"; IAM User Guide, "Policy evaluation logic")."""
 import enum
+import re
 from typing import Dict, Iterator, List
 
 ACTION = "execute-api:Invoke"
@@ -16,22 +17,36 @@ class Verdict(enum.Enum):
 
 
 def matches(pattern: str, text: str) -> bool:
-    """Whether a text is as the pattern has it, in which * is any text and ? any character. (By going back to the last *
-    alone, so it takes no longer than both are long.)"""
-    at = place = 0
-    star, after = -1, 0
-    while place < len(text):
-        if at < len(pattern) and pattern[at] == "*":
-            star, after = at, place
-            at += 1
-        elif at < len(pattern) and pattern[at] in ("?", text[place]):
-            at, place = at + 1, place + 1
-        elif star >= 0:
-            after += 1
-            at, place = star + 1, after
-        else:
+    """Whether a text is as the pattern has it, in which * is any text and ? any character. (What is between two * is
+    looked for once, at the first place where it is: so a function that authorizes holds up nobody by its patterns.)"""
+    first, *others = pattern.split("*")
+    if not others:
+        return len(text) == len(first) and fits(first, text, 0)
+    *middle, last = others
+    place, end = len(first), len(text) - len(last)
+    if place > end or not fits(first, text, 0) or not fits(last, text, end):
+        return False
+    for part in filter(None, middle):
+        place = found(part, text, place, end)
+        if place < 0:
             return False
-    return all(letter == "*" for letter in pattern[at:])
+        place += len(part)
+    return True
+
+
+def fits(part: str, text: str, at: int) -> bool:
+    """Whether a part without a * is in the text at this place."""
+    if "?" not in part:
+        return text.startswith(part, at)
+    return all(letter in ("?", other) for letter, other in zip(part, text[at:at + len(part)]))
+
+
+def found(part: str, text: str, begin: int, end: int) -> int:
+    """The first place between these at which a part without a * is; -1 if there is none."""
+    if "?" not in part:
+        return text.find(part, begin, end)
+    match = re.compile(re.escape(part).replace(r"\?", "."), re.DOTALL).search(text, begin, end)
+    return match.start() if match else -1
 
 
 def texts_in(statement: Dict[str, object], name: str) -> List[str]:

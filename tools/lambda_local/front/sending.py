@@ -7,10 +7,12 @@ import time
 from typing import AsyncIterator, NamedTuple, Optional
 
 from ..http1 import chunk, last_chunk, response_head
+from .budget import Unread
 from .http import PHRASES, Headers, Pieces, Reply, Request, every, first
 from .wire import Gone, Wire
 
 LENGTH = "content-length"
+PIECE = 128 << 10  # bytes of a body that are given to the system at once
 
 
 class Follows(enum.Enum):
@@ -64,7 +66,7 @@ def framed(request: Optional[Request], reply: Reply, keeps: bool) -> Framed:
     return Framed(response_head(version, reply.status, reason, headers), follows, length or 0, keeps)
 
 
-async def send(wire: Wire, request: Optional[Request], reply: Reply, keeps: bool) -> bool:
+async def send(wire: Wire, request: Optional[Request], reply: Reply, keeps: bool, unread: Unread) -> bool:
     """Sends an answer. Returns whether the connection can be kept."""
     made = framed(request, reply, keeps)
     if made.follows is Follows.NOTHING:
@@ -72,10 +74,21 @@ async def send(wire: Wire, request: Optional[Request], reply: Reply, keeps: bool
         if reply.pieces is not None and made.keeps:
             await drop_pieces(reply.pieces)
     elif reply.pieces is None:
-        await wire.write(made.head + reply.body)
+        await send_whole(wire, made.head, reply.body, unread)
     else:
         await send_pieces(wire, made, reply.pieces)
     return made.keeps
+
+
+async def send_whole(wire: Wire, head: bytes, body: bytes, unread: Unread) -> None:
+    """Of a body that its reader does not take, there is no copy but for a piece."""
+    if len(body) <= PIECE:
+        return await wire.write(head + body)
+    with unread.of(wire, len(body)):
+        await wire.write(head)
+        for begin in range(0, len(body), PIECE):
+            unread.left[wire] = len(body) - begin
+            await wire.write(body[begin:begin + PIECE])
 
 
 async def send_pieces(wire: Wire, made: Framed, pieces: Pieces) -> None:

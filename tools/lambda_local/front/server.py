@@ -6,7 +6,7 @@ import time
 from typing import Optional, Protocol, Set
 
 from ..http1 import CLOSED, NEED_DATA, CutShort, Event, Malformed, Request as Head, RequestReader
-from ..outgoing import Log
+from ..outgoing import Log, several
 from .client import NoDescriptor
 from .followers import is_short
 from .http import Body, Reply, Request, words_of
@@ -84,7 +84,7 @@ class Connection:
         try:
             is_read = request is not None and request.body.is_read
             self.patience.begin(Phase.ANSWERED)
-            keeps = await send(wire, request, reply, keeps and is_read)
+            keeps = await send(wire, request, reply, keeps and is_read, self.server.places.unread)
         finally:
             if reply.pieces is not None:
                 await reply.pieces.aclose()
@@ -144,7 +144,7 @@ class Server:
         self.port, self.places, self.log = port, places, log
         self.newcomers = Newcomers(listener, self.welcome, self.lacks_room)
         self.connections: Set[Connection] = set()
-        self.last_told = -BETWEEN_TELLS
+        self.last_told = self.last_broken = -BETWEEN_TELLS
 
     async def start(self) -> None:
         loop = asyncio.get_running_loop()
@@ -195,6 +195,11 @@ class Server:
             for connection in list(self.connections):
                 if connection.patience.is_over(now) and connection.wire.is_made:
                     connection.wire.abort()
+            count = self.places.unread.look(now)
+            if count and now - self.last_broken > BETWEEN_TELLS:
+                self.last_broken = now
+                self.log("up", f"{several(count, 'answer')} broken off: more than {self.places.unread.most >> 20} MiB "
+                               "of answers wait, and their readers take nothing", level="error", kind="http")
 
     # ---- what is answered --------------------------------------------------------------------------------------------
 

@@ -33,6 +33,7 @@ class Wire(asyncio.Protocol):
         self.is_made = False
         self.waiting: "Optional[asyncio.Future[None]]" = None
         self.draining: "Optional[asyncio.Future[None]]" = None
+        self.full_since = time.monotonic()  # while it drains: since when its peer takes too little
         self.on_end: Optional[Callable[[], None]] = None
         self.most_ahead = MOST_UNREAD
         self.touched, self.received = time.monotonic(), 0  # the last byte in one of the directions; bytes that came
@@ -68,12 +69,16 @@ class Wire(asyncio.Protocol):
             self.on_lost(self)
 
     def pause_writing(self) -> None:
-        self.draining = asyncio.get_running_loop().create_future()
+        self.draining, self.full_since = asyncio.get_running_loop().create_future(), time.monotonic()
 
     def resume_writing(self) -> None:
         self.touched = time.monotonic()
         if self.draining and not self.draining.done():
             self.draining.set_result(None)
+
+    def untaken(self, now: float) -> float:
+        """For how many seconds its peer has taken too little of what waits to be sent."""
+        return now - self.full_since if self.draining is not None else 0.0
 
     def _wake(self) -> None:
         if self.waiting and not self.waiting.done():
