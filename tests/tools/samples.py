@@ -11,7 +11,14 @@ import re
 import unittest
 
 from lambda_local.event_sources import members
+from lambda_local.front import payload
+from lambda_local.front.alb import OfBalancer
+from lambda_local.front.authorizers import authorizer_of
+from lambda_local.front.formats import OfHttpApi, OfRestApi
+from lambda_local.front.http import Request
+from lambda_local.front.settings import Integration
 from lambda_local.from_template.addresses import READ_ELSEWHERE, READ_OF_SERVERLESS, SAMPLES
+from lambda_local.http1 import RequestReader
 from lambda_local.program import Fault
 from lambda_local.samples import sample, samples, steps_of, with_values
 from lambda_local.up.queues import is_message, record_of
@@ -122,6 +129,43 @@ class Samples(Case):
                                               "Timestamp": "y"}), "arn").event["Records"][0]
         given = event("sns")["Records"][0]
         self.check("sns", (set(made), set(made["Sns"])), (set(given), set(given["Sns"])))
+
+    def test_by_the_front(self):
+        """What the front makes of a request has the members of the sample, but for those of headers."""
+        reader = RequestReader()
+        reader.receive(b"POST /orders/7?full=yes HTTP/1.1\r\nHost: a\r\nCookie: session=1\r\nUser-Agent: curl/8.0.0\r\n"
+                       b"Content-Type: application/json\r\nContent-Length: 15\r\n\r\n")
+        request, body = Request(reader.next_event(), None), b'{"name": "Ada"}'
+        context = {"accountId": "1", "apiId": "a", "domainName": "a", "domainPrefix": "a", "requestId": "r",
+                   "routeKey": "POST /orders/{id}", "stage": "$default", "timeEpoch": 1}
+        made = json.loads(payload.event_of(request, body, context, {"id": "7"}))
+        given = event("apigateway_2.0")
+        self.check("an HTTP API", (set(made), set(made["requestContext"]), set(made["requestContext"]["http"])),
+                   (set(given), set(given["requestContext"]), set(given["requestContext"]["http"])))
+        given, made = event("function_url"), json.loads(payload.event_of(request, body, context))
+        self.check("a Function URL", (set(made), set(made["requestContext"]), made["body"]),
+                   (set(given), set(given["requestContext"]), given["body"]))
+        for kind, is_multiple in (("alb", False), ("alb_multi_value", True)):
+            form = OfBalancer(Integration("alb", is_multiple=is_multiple), "us-east-1")
+            made, given = json.loads(form.event(request, body, {"accountId": "1"}, None, print)), event(kind)
+            self.check(kind, (set(made), made["path"], made["body"]), (set(given), given["path"], given["body"]))
+        for kind, is_rest, version in (("authorizer_2.0", False, "2.0"), ("authorizer_request", True, "1.0")):
+            authorizer = authorizer_of({"function": "a", "type": "REQUEST", "payload": version}, is_rest)
+            form = (OfRestApi if is_rest else OfHttpApi)(Integration(version, is_rest, "prod", {"a": "b"}))
+            made = form.authorizer_event(request, {**context, "resourcePath": "/orders/{id}"}, {"id": "7"}, authorizer,
+                                         "arn", ["x"])
+            self.check(kind, set(event(kind)) - set(made), set())
+
+    @unittest.skipUnless(importlib.util.find_spec("moto"), "moto is not here")
+    def test_s3_by_moto(self):
+        from types import SimpleNamespace
+        from moto.s3.notifications import _get_s3_event  # type: ignore
+        bucket, key = SimpleNamespace(region_name="r", name="b", arn="a"), SimpleNamespace(name="a b", etag='"e"', size=1)
+        made = _get_s3_event("s3:ObjectCreated:Put", bucket, key, "id")["Records"][0]
+        given = event("s3")["Records"][0]
+        self.check("what moto sends is in the sample", (
+            set(made) - set(given), set(made["s3"]) - set(given["s3"]), set(made["s3"]["object"]) - set(
+                given["s3"]["object"]), made["eventVersion"]), (set(), set(), set(), given["eventVersion"]))
 
     def test_encodings(self):
         data = gzip.decompress(base64.b64decode(event("cloudwatch_logs")["awslogs"]["data"], validate=True))
