@@ -160,7 +160,8 @@ class Samples(Case):
     def test_s3_by_moto(self):
         from types import SimpleNamespace
         from moto.s3.notifications import _get_s3_event  # type: ignore
-        bucket, key = SimpleNamespace(region_name="r", name="b", arn="a"), SimpleNamespace(name="a b", etag='"e"', size=1)
+        bucket = SimpleNamespace(region_name="r", name="b", arn="a")
+        key = SimpleNamespace(name="a b", etag='"e"', size=1)
         made = _get_s3_event("s3:ObjectCreated:Put", bucket, key, "id")["Records"][0]
         given = event("s3")["Records"][0]
         self.check("what moto sends is in the sample", (

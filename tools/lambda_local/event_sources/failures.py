@@ -12,7 +12,7 @@ class Invoked(NamedTuple):
     """The last invocation with a batch."""
     request: str
     status: int
-    error: Optional[str]  # "Unhandled", if the function has failed
+    error: Optional[str]  # such as "Unhandled", if the function has failed
 
 
 def moment_of(milliseconds: float, has_fraction: bool) -> str:

@@ -62,9 +62,9 @@ class Handling:
         if status != 200:
             why = body.decode(errors="replace")[:200]
             return self.wait_for_service(shard, f"{what} is answered {status} {why}", FIRST_REST, LONGEST_REST)
-        has_failed = "x-amz-function-error" in headers
-        shard.last = Invoked(headers.get("x-amzn-requestid", ""), status, "Unhandled" if has_failed else None)
-        failing, why = self.failing(has_failed, body, batch)
+        error = headers.get("x-amz-function-error")
+        shard.last = Invoked(headers.get("x-amzn-requestid", ""), status, error)
+        failing, why = self.failing(error is not None, body, batch)
         self.follow(shard, batch, failing, f"{what} {why}")
 
     def invoke(self, batch: Batch) -> Tuple[int, Dict[str, str], bytes]:
