@@ -115,10 +115,10 @@ BOMBS: Dict[str, Tuple[str, object]] = {
         "Type": "AWS::Serverless::HttpApi", "Properties": {"DefinitionBody": {"paths": {f"/{n}": {"get": {
             "x-amazon-apigateway-integration": {"type": "aws_proxy", "uri": {"Fn::GetAtt": ["F", "Arn"]}}}}
             for n in range(20_000)}}}}}}),
-    "a number in base 60": ("template.yml", of_number("1" + ":59" * 200_000)),
+    "a number in base 60": ("template.yml", of_number("1" + ":59" * 10_000)),
     "a number in base 16": ("template.yml", of_number("0x" + "F" * 6000)),
     "a number in base 2": ("template.yml", of_number("0b" + "1" * 20_000)),
-    "a number with a point in base 60": ("template.yml", of_number("1" + ":59" * 200_000 + ".5")),
+    "a number with a point in base 60": ("template.yml", of_number("1" + ":59" * 10_000 + ".5")),
     "Serverless: addresses of addresses": ("serverless.yml", variables_of_paths(30)),
     "Serverless: texts that double": ("serverless.yml", doubling_texts(45)),
     "Serverless: very many quotes": ("serverless.yml", of_serverless('"${' + QUOTES + '}"')),
