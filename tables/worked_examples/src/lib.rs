@@ -1,9 +1,10 @@
-//! The worked examples of everything that needs no threads: the tables in `parts`, `wire`, `routes`
-//! and `scripts`, run through the public calls.
+//! The worked examples of everything that needs no threads: the tables in `parts`, `wire`, `handed`,
+//! `routes` and `scripts`, run through the public calls.
 #![tactic(auto)]
 
 mod accounts;
 mod answers;
+mod handed;
 mod parts;
 mod routes;
 mod scripts;
@@ -24,13 +25,15 @@ enum Table {
     Wire(wire::Table),
     /// Requests on a port.
     Routes,
+    /// Requests that are handed over.
+    Handed(handed::Table),
     /// Scripts, and the books that take them.
     Scripts(scripts::Table),
 }
 
 /// The files. Those whose shortest case is long come last: a test that lets each allocation fail in
 /// turn reaches them least often.
-const TABLES: [(&str, Table); 42] = [
+const TABLES: [(&str, Table); 44] = [
     ("parts/names.txt", Table::Parts(parts::Table::Names)),
     (
         "parts/identifiers.txt",
@@ -72,6 +75,14 @@ const TABLES: [(&str, Table); 42] = [
         Table::Wire(wire::Table::Configurations),
     ),
     ("wire/replies.txt", Table::Wire(wire::Table::Replies)),
+    (
+        "handed/requests.txt",
+        Table::Handed(handed::Table::Requests),
+    ),
+    (
+        "handed/messages.txt",
+        Table::Handed(handed::Table::Messages),
+    ),
     ("routes/routes.txt", Table::Routes),
     ("routes/worked.txt", Table::Routes),
     ("routes/names.txt", Table::Routes),
@@ -124,6 +135,7 @@ impl Table {
             Table::Parts(table) => table.tell(case, given),
             Table::Wire(table) => table.tell(case, given),
             Table::Routes => routes::give(case, given),
+            Table::Handed(table) => table.tell(case, given),
             Table::Scripts(table) => table.tell(case, given),
         }
     }

@@ -8,7 +8,7 @@ mod extension_sets;
 mod heads;
 mod histories;
 mod identifiers;
-mod lines;
+pub mod lines;
 mod moves;
 mod names;
 mod places;

@@ -1,0 +1,23 @@
+//! Requests that are handed over to a handler.
+
+mod messages;
+mod requests;
+
+use case_tables::{Case, CaseFault, Given};
+
+/// The subject of a file's cases.
+#[derive(Clone, Copy)]
+pub enum Table {
+    Requests,
+    Messages,
+}
+
+impl Table {
+    /// Adds what a case gives.
+    pub fn tell(self, case: &Case, given: &mut Given) -> Result<(), CaseFault> {
+        match self {
+            Table::Requests => requests::give(case, given),
+            Table::Messages => messages::give(case, given),
+        }
+    }
+}
