@@ -22,7 +22,7 @@ returns g c =
           (λ head response x. at_port _ _ _ front served g.S.Identity.most
           (λ call reply token r. subst (λ s. IsReplyAt served.config g.S.Identity.most s call reply token) salted
           (subst (λ k. IsReplyAt k g.S.Identity.most g.S.Identity.salt call reply token) configured
-          ((rw c.deref-2.ensures at c.replies.ensures) call reply token r)))
+          ((rw c.deref-3.ensures at c.replies.ensures) call reply token r)))
           (λ had before now ticket seen then after r. subst (λ k. IsTaken k g.S.Identity.most had now Tick ticket seen) configured r.0.taken)
           (λ had before now refused then after r. subst (λ k. IsTurnedAway k g.S.Identity.most had Tick refused.refusal then) configured r.2)
           (λ seen stats then r. subst (λ k. Counts k g.S.Identity.most seen stats then) configured r)
