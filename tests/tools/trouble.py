@@ -123,7 +123,7 @@ class Trouble(Case):
         self.check("a web page may not", posted(up.endpoint, "/_local/trouble?function=f&kind=crash",
                                                 headers={"Origin": "http://site.example"})[0], 403)
         self.check("what is not used is given up",
-                   up.until("no invocation of f has come within 30 s: its runtimes go on", 60))
+                   up.until("f was not invoked within 30 s: its runtimes go on", 60))
         self.check("and the function answers", isinstance(up.invoke()[0], int))
         self.check("it ends", up.end(), (0, []))
 

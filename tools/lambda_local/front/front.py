@@ -192,7 +192,7 @@ class Front(threading.Thread):
         end = time.monotonic() + self.drain_seconds
         if not self.queue or not self.queue.count:
             return
-        self.log("up", f"{several(self.queue.count, 'event')} left: waits up to {self.drain_seconds:g} s",
+        self.log("up", f"waiting up to {self.drain_seconds:g} s for {several(self.queue.count, 'event')}",
                  kind="event")
         while self.queue.count and time.monotonic() < end and not is_over():
             time.sleep(0.01)

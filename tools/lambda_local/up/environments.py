@@ -120,7 +120,7 @@ class Environment(threading.Thread):
             try:
                 self.sidecars.divide(self.number)
             except (OSError, Fault) as fault:
-                self.say(f"what the service refuses of it is not told: {fault}", level="warning")
+                self.say(f"refusals of its requests cannot be reported: {fault}", level="warning")
         self.beside = self.sidecars.of(self.number, self.port)
         self.variables.update(surroundings.address_of(self.function, self.beside.port))
 

@@ -107,9 +107,9 @@ class Poller(threading.Thread):
             self.client = client_of("sqs", self.queue.endpoint, self.region, self.keeps_credentials,
                                     POLL_SECONDS + ANSWER_SECONDS)
         except NoClient:
-            return self.say(f"it is not polled, since {sys.executable} has no boto3: pip install boto3", "error")
+            return self.say(f"not polled: {sys.executable} has no boto3: pip install boto3", "error")
         except Exception as fault:
-            return self.say(f"it is not polled: {one_line(fault)}", "error")
+            return self.say(f"not polled: {one_line(fault)}", "error")
         while not self.stopping.is_set():
             try:
                 batch = self.collected()
@@ -139,12 +139,12 @@ class Poller(threading.Thread):
 
     def works_again(self) -> None:
         if self.pause:
-            self.say("it is polled again")
+            self.say("polled again")
         self.pause = 0.0
 
     def wait_after(self, fault: Exception) -> None:
         if not self.pause:
-            self.say(f"it cannot be polled: {one_line(fault)}", "error")
+            self.say(f"cannot be polled: {one_line(fault)}", "error")
         self.pause = min(LONGEST_PAUSE, 2 * self.pause or FIRST_PAUSE)
         self.stopping.wait(self.pause)
 
@@ -214,7 +214,8 @@ class Poller(threading.Thread):
         done = [message for message in batch if str(message["MessageId"]) not in invoked.failed]
         left = self.delete(done)
         if invoked.failed:
-            self.say(f"{what}: {len(invoked.failed)} failed and stay in the queue", "warning", messages=len(batch),
+            count = len(invoked.failed)
+            self.say(f"{what}: {count} failed and {'stays' if count == 1 else 'stay'} in the queue", "warning", messages=len(batch),
                      failed=len(invoked.failed))
         elif not left:
             self.say(f"{what} ok", "ok", messages=len(batch))
@@ -253,7 +254,7 @@ class Poller(threading.Thread):
             except Exception as fault:
                 left, why = left + len(part), one_line(fault)
         if left:
-            self.say(f"{left} messages were handled and could not be deleted, and so come again: {why}", "error")
+            self.say(f"{several(left, 'handled message')} could not be deleted, and will come again: {why}", "error")
         return left
 
 

@@ -124,11 +124,11 @@ class Session(Parts):
         self.command = Run(self.options.command, variables, self.happened.set)
         self.wait()
         if not self.command.is_over() and self.signal_number == signal.SIGINT:
-            self.say("the command may take 10 s to end; Ctrl-C again ends it")
+            self.say("waiting up to 10 s for the command to end: press Ctrl-C again to kill it")
             self.command.interrupt(lambda: self.signals > 1)
         if not self.command.is_over():
-            self.say("ends the command" if self.signals or self.supervisor.is_broken
-                     else "the service has ended, and so the command is ended")
+            self.say("ending the command" + ("" if self.signals or self.supervisor.is_broken
+                                             else ": the service has ended"))
             self.command.end()
         return self.command.status
 
@@ -203,4 +203,4 @@ class Session(Parts):
             if thread.ident is not None:
                 thread.join(max(0.0, end - time.monotonic()))
                 if thread.is_alive() and not getattr(thread, "is_held", False):
-                    self.say(f"the thread {thread.name} does not end, and is left", level="error", kind="fault")
+                    self.say(f"the thread {thread.name} did not end in time, and was left", level="error", kind="fault")

@@ -96,7 +96,7 @@ class Troubles:
         except (OSError, http.client.HTTPException) as fault:
             why = told(fault)
         if why:
-            self.log("up", f"trouble: the time of {name} does not go by: {why}", level="error", kind="trouble")
+            self.log("up", f"trouble: {name} does not time out: {why}", level="error", kind="trouble")
         self.watch.clock.ask()
 
     def look(self) -> None:
@@ -108,5 +108,4 @@ class Troubles:
         for function, order in orders:
             for environment in order.stopped:
                 signalled(environment, signal.SIGCONT)
-            self.log("up", f"trouble: no invocation of {function} has come within {WAIT_SECONDS:g} s: its runtimes go "
-                     "on", level="warning", kind="trouble")
+            self.log("up", f"trouble: {function} was not invoked within {WAIT_SECONDS:g} s: its runtimes go on", level="warning", kind="trouble")
