@@ -16,7 +16,7 @@ PROGRAM = os.path.join("crates", "lambda_local", "out", "lambda_local")
 SCRATCH = os.path.join(".ci", "LAST_FROM_SCRATCH")
 COSTS = os.path.join("docs", "proof_costs.md")
 MARK = f"<!-- of {SCRATCH} -->\n"
-NONE = "No seconds of crates were recorded by the last one"
+NONE = "No gate from scratch has recorded them yet.\n"
 NAMED = re.compile(rb"--crate-name\0(\w+)\0")
 
 
@@ -96,20 +96,18 @@ def line_of(text: str, word: str) -> str:
 
 
 def costs_of(record: str) -> str:
-    """The line below the mark of a page: the CPU seconds of each crate, the most expensive first, or that the record
-    has none."""
+    """The CPU seconds of each crate as a page has them, the most expensive first; nothing if the record has none."""
     pairs = [it.split(" ") for it in line_of(record, "crate_seconds").split(", ") if it]
     ordered = sorted(pairs, key=lambda it: -int(it[1]))
-    if pairs:
-        return f"{', '.join(f'`{crate}` {seconds}' for crate, seconds in ordered)}\n"
-    commit = line_of(record, "commit")
-    return f"{NONE} ({commit}, {line_of(record, 'day')}).\n" if commit else ""
+    return f"{', '.join(f'`{crate}` {seconds}' for crate, seconds in ordered)}\n" if pairs else ""
 
 
 def with_costs(page: str, record: str) -> str:
-    """The page with the line of the record below the mark, in place of any other one there."""
+    """The page with the CPU seconds of the record below the mark. Without any, those of an earlier one stay; a page
+    that has none says so."""
     costs = costs_of(record)
-    return re.sub(re.escape(MARK) + rf"(?:(?:`|{re.escape(NONE)}).*\n)?", lambda _: MARK + costs, page)
+    return re.sub(re.escape(MARK) + rf"(`.*\n|{re.escape(NONE)})?", lambda found: MARK + (
+        costs or found[1] or NONE), page)
 
 
 def keep_in_tree(root: str, folder: str) -> Iterator[str]:

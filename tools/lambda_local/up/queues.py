@@ -215,8 +215,8 @@ class Poller(threading.Thread):
         left = self.delete(done)
         if invoked.failed:
             count = len(invoked.failed)
-            self.say(f"{what}: {count} failed and {'stays' if count == 1 else 'stay'} in the queue", "warning", messages=len(batch),
-                     failed=len(invoked.failed))
+            self.say(f"{what}: {count} failed and {'stays' if count == 1 else 'stay'} in the queue", "warning",
+                     messages=len(batch), failed=count)
         elif not left:
             self.say(f"{what} ok", "ok", messages=len(batch))
 
