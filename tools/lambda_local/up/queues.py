@@ -14,7 +14,7 @@ from ..clock.followed import Clock
 from ..json_reader import NotJson, read_json
 from ..other_server import ANSWER_SECONDS, NoClient, client_of, one_line
 from ..outgoing import several
-from ..service import ask
+from ..service import AGAIN, ask
 from .log import Log
 from .sources import MOST_AT_ONCE, Queue
 
@@ -23,6 +23,7 @@ MOST_POLLERS = 5  # of a function (Lambda begins with as many)
 MOST_BYTES = 4 << 20  # of a batch's messages; an event has at most 6 MiB
 FIRST_PAUSE, LONGEST_PAUSE = 1.0, 30.0  # seconds, after a fault of the queue; each further one doubles it
 FIRST_RETRY, LONGEST_RETRY, MOST_THROTTLES = 0.05, 2.0, 30  # seconds; after that many throttles a batch is given back
+RECEIVED = "ApproximateReceiveCount"  # how often a message has come
 INVOKE_SECONDS = 1000  # longer than any invocation and its Init
 
 
@@ -205,7 +206,8 @@ class Poller(threading.Thread):
     def handle(self, batch: List[Dict[str, Any]]) -> None:
         identifiers = [str(message["MessageId"]) for message in batch]
         event = {"Records": [record_of(message, self.arn, self.region) for message in batch]}
-        invoked = self.invoke(json.dumps(event, ensure_ascii=False).encode(errors="replace"), identifiers)
+        is_again = any((message.get("Attributes") or {}).get(RECEIVED) not in (None, "1") for message in batch)
+        invoked = self.invoke(json.dumps(event, ensure_ascii=False).encode(errors="replace"), identifiers, is_again)
         what = f"a batch of {len(batch)}"
         if invoked.failed is None:
             if not self.stopping.is_set():
@@ -220,17 +222,18 @@ class Poller(threading.Thread):
         elif not left:
             self.say(f"{what} ok", "ok", messages=len(batch))
 
-    def invoke(self, event: bytes, identifiers: List[str]) -> Invoked:
+    def invoke(self, event: bytes, identifiers: List[str], is_again: bool) -> Invoked:
         pause = FIRST_RETRY
         for _ in range(MOST_THROTTLES):
             try:
-                status, headers, body = ask(self.service.port, "POST",
-                                            f"/2015-03-31/functions/{self.function}/invocations", event,
-                                            timeout=INVOKE_SECONDS)
+                path = f"/2015-03-31/functions/{self.function}/invocations"
+                status, headers, body = ask(self.service.through, "POST", path, event,
+                                            {AGAIN: "1"} if is_again else {}, timeout=INVOKE_SECONDS)
             except (OSError, http.client.HTTPException) as fault:
                 return Invoked(None, f"has no outcome: {one_line(fault)}")
             if status != 429:
                 break
+            is_again = True
             if self.clock.wait(self.stopping, pause):
                 return Invoked(None, "is not invoked, since all stops")
             pause = min(LONGEST_RETRY, 2 * pause)

@@ -40,6 +40,8 @@ class Session(Parts):
         status = 0
         self.say(f"callers: AWS_ENDPOINT_URL_LAMBDA={self.service.endpoint_url}", kind="address",
                  always=not self.options.command, endpoint=self.service.endpoint_url)
+        if self.front.gate:
+            self.say(self.front.gate.tally.announcement(), "warning", "storm")
         for function, text, url in self.front.addresses():
             self.say(text, kind="address", always=not self.options.command, function=function, endpoint=url)
         for thread in [*self.threads, *([self.report] if self.report else [])]:
@@ -184,6 +186,8 @@ class Session(Parts):
         self.refused.end()
         if self.report:
             self.step("the end of the log", self.report.close)
+        if gate := self.front.gate:
+            self.say(gate.tally.summary(), "warning", "storm", **gate.tally.members())
         self.step("counting", lambda: self.watch.lines.tell_throttled(at_the_end=True))
         if status == 0 and gone:
             self.say("the service was stopped by POST /_local/stop")
