@@ -1,4 +1,4 @@
-"""A debugger in the process of a test: while it stands, the clocks of all services there are paused, and go on after it.
+"""A debugger in the process of a test: while it stands, the clocks of all services there are paused; then they go on.
 
 Under pytest its own debugger says when it stands. Without, `breakpoint()` opens one here that says so. A clock that was
 paused before stays as it was; and a service that ends lets its clock go on in any case."""
@@ -92,6 +92,6 @@ def breaks(*, header: Optional[str] = None) -> None:
 
 
 def is_pythons_own() -> bool:
-    """Whether breakpoint() would open Python's debugger: neither pytest's, nor that of PYTHONBREAKPOINT or an editor."""
+    """Whether breakpoint() would open Python's debugger: not pytest's, nor that of PYTHONBREAKPOINT or an editor."""
     return (sys.breakpointhook is sys.__breakpointhook__ and pdb.set_trace.__module__ == "pdb"
             and os.environ.get("PYTHONBREAKPOINT", "") in ("", "pdb.set_trace"))

@@ -21,6 +21,7 @@ from typing import TYPE_CHECKING, Any, Callable, Dict, List, Mapping, Optional, 
 
 from .clock.own import OwnClock
 from .configuration import OF_FUNCTION, Kind, Members, is_whole, mistakes_of
+from .held import HELD
 from .paths import bundled_module
 from .sandbox import Changes, Sandbox
 from .service import RUNTIME, Service, ask
@@ -42,6 +43,7 @@ MEMBERS = {**{name: kind for name, kind in OF_FUNCTION.items() if name != "name"
            "ports": Kind(lambda value: isinstance(value, list) and all(is_whole(port, 1 << 16) for port in value),
                          "a list of ports, 0 for a free one")}
 OPENER = urllib.request.build_opener(urllib.request.ProxyHandler({}))  # (the service is on this machine)
+LONGEST_SECONDS = 86_400  # for an answer: a debugger may stand in a handler
 DRAIN_SECONDS = 5  # for events at the end
 FAULTS_KEPT = 100  # the newest of those that no invoke has asked for
 RESERVED = b"ReservedFunctionConcurrentInvocationLimitExceeded"
@@ -268,6 +270,7 @@ class LambdaLocal(Troubled):
                                   for number, port in zip(self.numbers_of(part["name"]), part["ports"])]
         for runtime in self.runtimes:
             runtime.start()
+        HELD.begin(self.clock)
         return self
 
     def weather(self, storm: Optional[Storm], handlers: List[str]) -> "Optional[Tuple[Storm, InMaker]]":
@@ -315,7 +318,7 @@ class LambdaLocal(Troubled):
             request = urllib.request.Request(f"{self.endpoint_url}/2015-03-31/functions/{name}/invocations",
                                              json.dumps(event).encode(), method="POST")
             try:
-                with OPENER.open(request, timeout=1000) as answer:
+                with OPENER.open(request, timeout=LONGEST_SECONDS) as answer:
                     body = json.loads(answer.read() or b"null")
                     if answer.headers.get("X-Amz-Function-Error"):
                         raise FunctionError(body) from self.faults.pop(answer.headers.get("x-amzn-RequestId"), None)
@@ -372,6 +375,7 @@ class LambdaLocal(Troubled):
         """Stops it, and checks its counts and that its history replays to itself."""
         if self.service is None or self.stopped:
             return
+        HELD.end(self.clock)
         with contextlib.suppress(OSError, http.client.HTTPException, RuntimeError):
             self.clock.resume()  # (in a pause an environment that shuts down would be waited for)
         if self.front:

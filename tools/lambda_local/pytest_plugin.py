@@ -17,6 +17,7 @@ import pathlib
 import subprocess
 from typing import Any, Generator, Iterator, Optional, Tuple
 
+from .held import HELD
 from .in_process import FunctionError, LambdaLocal  # noqa: F401
 from .paths import tool
 from .storm import EXPECTED, Storm, storm_of
@@ -43,6 +44,13 @@ if pytest:
             group.addoption(STORM, metavar="SEED[:RATE]", type=given_storm, help=(
                 "throttles, cold starts, timeouts, crashes and failed Inits at random for each service of a test, the "
                 "same ones by the same seed"))
+
+    def pytest_enter_pdb(config: pytest.Config, pdb: object) -> None:
+        """breakpoint(), also in a handler; --pdb, --trace."""
+        HELD.enter()
+
+    def pytest_leave_pdb(config: pytest.Config, pdb: object) -> None:
+        HELD.leave()
 
     def storm_over(config: pytest.Config, scope: str) -> Optional[Storm]:
         """The storm of this run over one test, or over the session."""

@@ -1,5 +1,5 @@
-"""The debugger with which `--debug F` starts a bundled runtime: debugpy, if the function's Python has it, or Node's own.
-It listens at a port, and the runtime's first line waits for a client."""
+"""The debugger with which `--debug F` starts a bundled runtime: debugpy, if the function's Python has it, or Node's
+own. It listens at a port, and the runtime's first line waits for a client."""
 import subprocess
 from typing import List, NamedTuple, Optional, Tuple
 

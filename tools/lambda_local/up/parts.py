@@ -213,6 +213,9 @@ class Parts:
                 why = ("and the clock is paused, for the debugger: lambda_local clock resume lets it go on" if is_paused
                        else "and its timeout as it is, since the service's clock cannot be paused")
                 self.say(f"{function.name}: one environment, {why}", level="info" if is_paused else "warning")
+            if function.debugger:
+                self.say(f"{function.name}: {function.debugger.said}", always=True, kind="debugger",
+                         level="warning" if function.debugger.port is None else "info", port=function.debugger.port)
             for note in function.notes:
                 self.say(f"{function.name}: {note}", level="warning")
             for port in part["ports"]:
