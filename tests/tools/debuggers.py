@@ -164,9 +164,13 @@ class OfUp(Case):
         up = Up("--debug", f"f:{port}", functions=[self.function("node", "index.run")],
                 files={"index.js": "exports.run = async () => 'done';\n"})
         client = self.attached(up, Inspector, "Node")
-        for method in ("Debugger.enable", "Runtime.runIfWaitingForDebugger", "Debugger.resume"):
+        for method in ("Debugger.enable", "Runtime.runIfWaitingForDebugger"):
             client.send(method)
-        self.check("it is ready then", until(lambda: '"idle"' in up.get("/_local/environments"), 60))
+
+        def goes_on():
+            client.send("Debugger.resume")  # (of use once it has stopped at its first line)
+            return '"idle"' in up.get("/_local/environments")
+        self.check("it is ready then", until(goes_on, 60))
         self.check("and answers", up.invoke()[0], "done")
         self.check("at the port that was given", up.has(f"127.0.0.1:{port} "))
         client.close()
