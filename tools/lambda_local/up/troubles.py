@@ -1,7 +1,7 @@
-"""Trouble that a request (`lambda_local trouble`) or a storm calls for: the next invocation of a function finds a runtime
-that exits, one that takes too long, a new environment, or one whose Init fails. The function is as it is: its runtimes
-are stopped by a signal before the invocation comes, so that none answers; or its idle environments end, and the next
-generation is held until the invocation is bound to it."""
+"""Trouble that a request (`lambda_local trouble`) or a storm calls for: the next invocation of a function finds a
+runtime that exits, one that takes too long, a new environment, or one whose Init fails. The function is as it is: its
+runtimes are stopped by a signal before the invocation comes, so that none answers; or its idle environments end, and
+the next generation is held until the invocation is bound to it."""
 import contextlib
 import http.client
 import os
