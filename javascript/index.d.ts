@@ -88,6 +88,13 @@ export interface Clock {
   paused<Output>(work: (clock: Clock) => Output | Promise<Output>): Promise<Output>;
 }
 
+/** What a caller gets of a function that has failed. */
+export interface Report {
+  errorType: string;
+  errorMessage: string;
+  [member: string]: unknown;
+}
+
 /** A service that runs. */
 export class Service {
   private constructor();
@@ -108,6 +115,17 @@ export class Service {
   readonly clock: Clock;
   /** Does this while the function's reservation is 0: its callers get 429. */
   throttled<Output>(name: string, work: () => Output | Promise<Output>): Promise<Output>;
+  /** Invokes it and lets its time go by, without its handler; the clock is moved. Gives the report its caller gets. */
+  timesOut(name: string, event?: unknown): Promise<Report>;
+  /** Invokes it with a runtime that ends, without its handler. Gives the report that its caller gets. */
+  crashes(name: string, event?: unknown): Promise<Report>;
+  /** Ends its environments once they are idle, so that the next invocations find new ones. Gives how many there were. */
+  cold(name: string): Promise<number>;
+  /**
+   * Ends its environments, and has its next Init that an invocation waits for take so many seconds of the clock, up to
+   * 900. More than 10 time out. For handlers in this process.
+   */
+  slowInit(name: string, seconds: number): Promise<void>;
   /** The counts so far. */
   stats(): Promise<Stats>;
   /** The text of the history; after the stop the whole of it. */

@@ -76,9 +76,9 @@ function textOf(output) {
 }
 
 class Runtime {
-  // `owner` is asked whether it has ended, and keeps what a handler threw.
-  constructor(owner, port, its, setsTrace) {
-    Object.assign(this, { owner, port, its, setsTrace });
+  // `owner` is asked whether it has ended, and keeps what a handler threw; `number` is the environment's.
+  constructor(owner, port, its, setsTrace, number) {
+    Object.assign(this, { owner, port, its, setsTrace, number });
     this.agent = new http.Agent({ keepAlive: true, maxSockets: 1 });
   }
 
@@ -102,6 +102,7 @@ class Runtime {
 
   async serve() {
     while (!this.owner.hasEnded()) {
+      await this.owner.own.troubles.holdInit(this.its.name, this.number).catch(() => {});
       await this.generation().catch(() => {}); // (the service resets it, or is off)
       await sleep(PAUSE, undefined, { ref: false });
     }
@@ -127,6 +128,16 @@ class Runtime {
   async outcome(id, text, headers) {
     if (this.setsTrace && headers["lambda-runtime-trace-id"]) {
       process.env._X_AMZN_TRACE_ID = headers["lambda-runtime-trace-id"];
+    }
+    const { troubles } = this.owner.own;
+    const trouble = troubles.kindOf(this.its.name);
+    if (trouble === "timeout") {
+      await troubles.timeOut(Number(headers["lambda-runtime-deadline-ms"]));
+      throw new Error("its time is over"); // (the runtime begins anew, as one that was killed)
+    }
+    if (trouble === "crash") {
+      const report = troubles.crash(this.its.name, this.number);
+      return ["error", JSON.stringify(report), typeHeader(report)];
     }
     try {
       return ["response", textOf(await outputOf(this.its, text, headers)), {}];

@@ -8,6 +8,7 @@ const { setTimeout: sleep } = require("node:timers/promises");
 const { Clock } = require("./clock.js");
 const { FunctionError } = require("./function_error.js");
 const { run } = require("./child.js");
+const { Troubles } = require("./troubles.js");
 
 const PATIENCE = 2000; // milliseconds: a throttle by an environment that is about to ask again is tried again
 const FAULTS_KEPT = 100; // the newest of those that no invoke has asked for
@@ -39,14 +40,16 @@ function parsed(text) {
 }
 
 class Service {
-  // `host` is what serves: its endpointUrl, child and end().
-  constructor(host, options, leaveSandbox) {
+  // `host` is what serves: its endpointUrl, child and end(). `isOfFile` says that functions have processes of their own.
+  constructor(host, options, leaveSandbox, isOfFile = false) {
     Object.assign(this, { endpointUrl: host.endpointUrl, urls: host.urls ?? {} });
     this.clock = new Clock((method, route) => {
       this.refuseEnded();
       return ask(this.endpointUrl, method, route);
     });
-    Object.defineProperty(this, "own", { value: { host, options, leaveSandbox, faults: new Map(), isStopped: false } });
+    const troubles = new Troubles(this, isOfFile);
+    Object.defineProperty(this, "own", {
+      value: { host, options, leaveSandbox, troubles, faults: new Map(), isStopped: false } });
   }
 
   hasEnded() {
@@ -112,6 +115,26 @@ class Service {
     } finally {
       if (!this.hasEnded()) await this.reserve(function_, before);
     }
+  }
+
+  // Invokes it, and lets its time go by. Returns the report that its caller gets.
+  async timesOut(name, event = {}) {
+    return this.own.troubles.report(name, event, "timeout");
+  }
+
+  // Invokes it with a runtime that ends. Returns the report that its caller gets.
+  async crashes(name, event = {}) {
+    return this.own.troubles.report(name, event, "crash");
+  }
+
+  // Ends its environments, so that the next invocations find new ones. Returns how many there were.
+  async cold(name) {
+    return this.own.troubles.cold(name);
+  }
+
+  // The same, and its next Init takes so long: one that an invocation waits for, which moves the clock.
+  async slowInit(name, seconds) {
+    return this.own.troubles.slowInit(name, seconds);
   }
 
   async reserve(name, count) {

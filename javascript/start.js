@@ -33,7 +33,7 @@ async function start(given, options = {}) {
 
 async function startFile(file, options) {
   const host = await Up.ofFile(file, options);
-  return new Service(host, options, sandbox.begin({ ...host, ...options, variables: {} }));
+  return new Service(host, options, sandbox.begin({ ...host, ...options, variables: {} }), true);
 }
 
 async function startHandlers(given, options) {
@@ -43,7 +43,9 @@ async function startHandlers(given, options) {
   const host = await (options.asynchronous ? Up : Program).ofFunctions(functions, options);
   const service = new Service(host, options, sandbox.begin({ ...host, ...options, variables }));
   const isAlone = host.places.length === 1;
-  for (const { name, port } of host.places) new Runtime(service, port, functions.get(name), isAlone).serve();
+  host.places.forEach(({ name, port }, at) => {
+    new Runtime(service, port, functions.get(name), isAlone, at + 1).serve();
+  });
   return service;
 }
 

@@ -16,6 +16,7 @@ PROGRAM = os.path.join("crates", "lambda_local", "out", "lambda_local")
 SCRATCH = os.path.join(".ci", "LAST_FROM_SCRATCH")
 COSTS = os.path.join("docs", "proof_costs.md")
 MARK = f"<!-- of {SCRATCH} -->\n"
+NONE = "No gate from scratch has recorded them yet.\n"
 NAMED = re.compile(rb"--crate-name\0(\w+)\0")
 
 
@@ -98,13 +99,15 @@ def costs_of(record: str) -> str:
     """The CPU seconds of each crate as a page has them, the most expensive first; nothing if the record has none."""
     pairs = [it.split(" ") for it in line_of(record, "crate_seconds").split(", ") if it]
     ordered = sorted(pairs, key=lambda it: -int(it[1]))
-    return f"{MARK}{', '.join(f'`{crate}` {seconds}' for crate, seconds in ordered)}\n" if pairs else ""
+    return f"{', '.join(f'`{crate}` {seconds}' for crate, seconds in ordered)}\n" if pairs else ""
 
 
 def with_costs(page: str, record: str) -> str:
-    """The page with the CPU seconds of the record below the mark."""
+    """The page with the CPU seconds of the record below the mark. Without any, those of an earlier one stay; a page
+    that has none says so."""
     costs = costs_of(record)
-    return re.sub(re.escape(MARK) + r"(?:`.*\n)?", lambda _: costs, page) if costs else page
+    return re.sub(re.escape(MARK) + rf"(`.*\n|{re.escape(NONE)})?", lambda found: MARK + (
+        costs or found[1] or NONE), page)
 
 
 def keep_in_tree(root: str, folder: str) -> Iterator[str]:

@@ -230,7 +230,7 @@ class Events(Case):
             for number in range(4):
                 caller.event("f", {"do": "sleep", "seconds": 0.4, "number": number})
             self.check("a stop waits for the events", (up.end(), up.count(r"\[f\] event \S+ ok"),
-                                                       up.has(" left: waits up to")),
+                                                       up.has("waiting up to ")),
                        ((0, []), 4, True))
         with self.running(timeout=10) as (up, caller):
             for number in range(3):

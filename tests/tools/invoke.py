@@ -61,10 +61,12 @@ class Invoke(Case):
             payloads: Tuple[Tuple[str, List[str], str, object], ...] = (
                 ("nothing", [], "", {}), ("an object", ['{"name": "Ada"}'], "", {"name": "Ada"}),
                 ("a number", ["-7"], "", -7), ("a string", ['"\u00e9"'], "", "\u00e9"),
-                ("a file", [path], "", {"name": "Ada \u00e9\u4e2d"}), ("standard input", ["-"], "[1]", [1]))
+                ("a file", [path], "", {"name": "Ada \u00e9\u4e2d"}), ("standard input", ["-"], "[1]", [1]),
+                ("behind an option", ["--tail", "[2]"], "", [2]))
             for name, words, stdin, wanted in payloads:
                 status, output, said = invoke("same", *words, stdin=stdin, **here)
-                self.check(f"the payload is {name}", (status, json.loads(output or "0"), said), (0, wanted, ""))
+                told = "" if "--tail" in words else said  # (the service keeps no log)
+                self.check(f"the payload is {name}", (status, json.loads(output or "0"), told), (0, wanted, ""))
             for kind in glob.glob(os.path.join(ROOT, "examples", "events", "*.json")):
                 with open(kind) as file:
                     status, output, _ = invoke("same", "--sample", os.path.basename(kind)[:-5], **here)

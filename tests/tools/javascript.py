@@ -56,6 +56,9 @@ class JavaScript(Case):
     def test_clock(self) -> None:
         self.run_tests("tests/javascript/clock.test.mjs")
 
+    def test_troubles(self) -> None:
+        self.run_tests("tests/javascript/troubles.test.mjs")
+
     def test_sandbox(self) -> None:
         self.run_tests("tests/javascript/sandbox.test.mjs")
 

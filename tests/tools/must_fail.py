@@ -224,6 +224,10 @@ class MustFail(Case):
         self.check("the page has the most expensive first", gate_record.with_costs(page, record),
                    f"# Costs\n{gate_record.MARK}`b` 620, `c` 30, `a` 5\n\nmore\n")
         self.check("and stays without them", gate_record.with_costs(page, "commit 1\n"), page)
+        bare = f"# Costs\n{gate_record.MARK}\nmore\n"
+        none = gate_record.with_costs(bare, "commit 1\n")
+        self.check("one that has none says so", none, f"# Costs\n{gate_record.MARK}{gate_record.NONE}\nmore\n")
+        self.check("until there are some", gate_record.with_costs(none, record), gate_record.with_costs(bare, record))
 
 
 if __name__ == "__main__":

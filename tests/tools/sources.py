@@ -228,7 +228,7 @@ class Sources(Case):
                 server.queue.send("whole")
                 self.check("a message that failed stays, and the others go",
                            until(lambda: server.queue.bodies() == ["part"], 60))
-                self.check("a line says so", up.until("1 failed and stay in the queue", 5))
+                self.check("a line says so", up.until("1 failed and stays in the queue", 5))
                 self.check("it comes again", until(lambda: len(seen_by(up)) >= 2, 30))
                 self.check("by its count",
                            seen_by(up)[-1]["Records"][0]["attributes"]["ApproximateReceiveCount"] != "1")
@@ -295,10 +295,10 @@ class Sources(Case):
                 server.queue.wrong = None
                 server.queue.send("after all")
                 self.check("a wrong answer is told, and stops nothing",
-                           up.count("queue orders: it cannot be polled: ") >= 1)
+                           up.count("queue orders: cannot be polled: ") >= 1)
                 self.check("the queue is polled again", until(lambda: not server.queue.bodies(), 60))
         with self.running(type("Gone", (), {"url": "http://127.0.0.1:9/0/q"})) as up:
-            self.check("no server", up.until("queue q: it cannot be polled: EndpointConnectionError", 30))
+            self.check("no server", up.until("queue q: cannot be polled: EndpointConnectionError", 30))
         with Server() as server:
             server.queue.send("slow")
             with self.running(server) as up:

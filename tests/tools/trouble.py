@@ -85,8 +85,14 @@ class Trouble(Case):
         self.check("all rest after it", rests(up, 3))
         with open(os.path.join(up.at, "seen")) as file:
             self.check("the handler has seen neither", file.read(), "x")
+        status, output, said = trouble("f", "init", endpoint=up.endpoint)
+        self.check("an Init that fails", (status, json.loads(output), said), (0, {
+            "errorMessage": "Runtime exited with error: exit status 1", "errorType": "Runtime.ExitError"}, ""))
+        self.check("of which the log has Lambda's line", up.until(
+            "-- Init failed: Runtime exited with error: exit status 1"))
+        self.check("all rest after that", rests(up, 4))
         self.check("cold starts", trouble("f", "cold", endpoint=up.endpoint), (0, "2 of 2 environments ended\n", ""))
-        self.check("and new ones", rests(up, 3))
+        self.check("and new ones", rests(up, 4))
         second = up.invoke()[0]
         self.check("are other processes", isinstance(second, int) and second != first)
         child = subprocess.Popen([*TROUBLE, "f", "throttle", "--endpoint", up.endpoint], stderr=subprocess.PIPE,
@@ -97,6 +103,13 @@ class Trouble(Case):
                    (429, "ReservedFunctionConcurrentInvocationLimitExceeded"))
         child.terminate()
         self.check("until it ends", (child.wait(20), isinstance(up.invoke()[0], int)), (0, True))
+        child.stderr.close()
+        child = subprocess.Popen([*TROUBLE, "f", "throttle", "--endpoint", up.endpoint], stderr=subprocess.PIPE,
+                                 text=True, env=CLEAN)
+        self.check("once more", child.stderr.readline(), "trouble: f is throttled until Ctrl-C\n")
+        child.kill()
+        self.check("also if it is killed", (child.wait(20), until(lambda: isinstance(up.invoke()[0], int), 20),
+                                            child.stderr.read()), (-9, True, ""))
         child.stderr.close()
         self.check("or for some time", (trouble("f", "throttle", "--seconds", "0.2", endpoint=up.endpoint)[0],
                                         isinstance(up.invoke()[0], int)), (0, True))
@@ -123,7 +136,7 @@ class Trouble(Case):
         self.check("a web page may not", posted(up.endpoint, "/_local/trouble?function=f&kind=crash",
                                                 headers={"Origin": "http://site.example"})[0], 403)
         self.check("what is not used is given up",
-                   up.until("no invocation of f has come within 30 s: its runtimes go on", 60))
+                   up.until("f was not invoked within 30 s: its runtimes go on", 60))
         self.check("and the function answers", isinstance(up.invoke()[0], int))
         self.check("it ends", up.end(), (0, []))
 
@@ -155,8 +168,8 @@ class Trouble(Case):
 
     def test_faults(self):
         for words, wanted in (
-                (["f", "fire"], "fire: write throttle, cold, crash or timeout"),
-                (["f", "cold", "{}"], "cold {}: only crash and timeout have a payload"),
+                (["f", "fire"], "fire: write throttle, cold, crash, timeout or init"),
+                (["f", "cold", "{}"], "cold {}: only crash, timeout and init have a payload"),
                 (["f", "crash", "{a"], "{a is not JSON: write for example"),
                 (["f", "cold", "--seconds", "1"], "--seconds 1: only throttle has a time")):
             status, output, said = trouble(*words, endpoint="http://127.0.0.1:1")

@@ -98,7 +98,7 @@ class Clock(Case):
     @staticmethod
     def rests(service):
         end = time.monotonic() + 20
-        while any(one["phase"] != "idle" for one in service._phases().values()):
+        while any(one["phase"] != "idle" for one in service.phases().values()):
             if time.monotonic() > end:
                 return False
             time.sleep(0.005)

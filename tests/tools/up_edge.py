@@ -119,7 +119,7 @@ class UpEdge(Case):
         up = self.leaving()
         guard = next(pid for pid in children(up.process.pid) if "guard_process.py" in command_of(pid))
         self.check("after kill -9 of its guard nothing is left", end_by(up, guard), (70, []))
-        self.check("which it tells", up.has("lambda_local up ends, since its guard process has ended"), True)
+        self.check("which it tells", up.has("stopping: its guard process has ended"), True)
         up = self.leaving()
         service = next(pid for pid in children(up.process.pid) if "serve" in command_of(pid).split("\0"))
         self.check("after kill -9 of its service nothing is left", end_by(up, service), (4, []))

@@ -8,6 +8,7 @@ A handler takes the event, or the event and its context, as Lambda calls it; `co
 invocation. Until the end, the process has the variables of a function, dummy credentials and the service's address: a
 client of Lambda calls the service, and no client of boto3 reaches AWS. `keep_credentials=True` lets them."""
 import contextlib
+import functools
 import http.client
 import json
 import os
@@ -20,15 +21,18 @@ from typing import TYPE_CHECKING, Any, Callable, Dict, List, Mapping, Optional, 
 
 from .clock.own import OwnClock
 from .configuration import OF_FUNCTION, Kind, Members, is_whole, mistakes_of
+from .held import HELD
 from .paths import bundled_module
 from .sandbox import Changes, Sandbox
-from .service import Service
+from .service import RUNTIME, Service, ask
+from .storm import Storm, given_storm
 from .troubles import CRASH, Troubled
 from .variables import OF_FUNCTION as VARIABLES
 from .variables import of_function, text_of
 
 if TYPE_CHECKING:
     from .front.front import Front
+    from .in_storm import InMaker, InOrder
 
 Handler = Callable[..., Any]
 
@@ -39,8 +43,10 @@ MEMBERS = {**{name: kind for name, kind in OF_FUNCTION.items() if name != "name"
            "ports": Kind(lambda value: isinstance(value, list) and all(is_whole(port, 1 << 16) for port in value),
                          "a list of ports, 0 for a free one")}
 OPENER = urllib.request.build_opener(urllib.request.ProxyHandler({}))  # (the service is on this machine)
+LONGEST_SECONDS = 86_400  # for an answer: a debugger may stand in a handler
 DRAIN_SECONDS = 5  # for events at the end
 FAULTS_KEPT = 100  # the newest of those that no invoke has asked for
+RESERVED = b"ReservedFunctionConcurrentInvocationLimitExceeded"
 PAUSE = 0.02  # seconds, until an environment that was reset is asked again
 
 
@@ -99,7 +105,8 @@ class Runtime(threading.Thread):
     def __init__(self, owner: "LambdaLocal", function: str, number: int, port: int, handler: Handler,
                  memory: str) -> None:
         super().__init__(name=f"lambda_local {port}", daemon=True)
-        self.function, self.number = function, number  # of its environment
+        self.function, self.number, self.port = function, number, port  # of its environment
+        self.is_new = True  # it has had no invocation
         self.owner, self.memory, self.code = owner, memory, bundled_module("runtime.py")
         self.handler = self.code.with_context(handler)
         self.context = type("Context", (self.code.Context,), {"clock": staticmethod(self.now)})
@@ -111,12 +118,34 @@ class Runtime(threading.Thread):
             while not self.owner.has_ended():
                 with contextlib.suppress(OSError, http.client.HTTPException):
                     self.owner.hold_init(self.function, self.number)
+                    self.is_new = True
+                    if self.owner.maker and (order := self.owner.maker.holds(self.function, self.number)):
+                        self.fail(order)
+                        continue
                     self.code.serve(self.environment, self.handler, self.begin, self.outcome,
                                     sets_trace=len(self.owner.runtimes) == 1)
                 if not self.owner.has_ended():
                     time.sleep(PAUSE)
         finally:
             self.environment.close()
+
+    def fail(self, order: "InOrder") -> None:
+        """Reports that its Init fails."""
+        status, _, body = ask(self.port, "POST", RUNTIME + "init/error", json.dumps(CRASH),
+                              {"Lambda-Runtime-Function-Error-Type": CRASH["errorType"]})
+        order.end(status == 202, why=f"the service answers {status} {body[:100].decode(errors='replace')}")
+
+    def trouble(self, headers: Mapping[str, str]) -> Optional[str]:
+        """What the invocation is to meet in place of its handler."""
+        is_new, self.is_new = self.is_new, False
+        deadline = int(headers["Lambda-Runtime-Deadline-Ms"])
+        trouble = self.owner.kind_of(self.function)
+        if trouble == "timeout":
+            self.owner.time_out(deadline)
+        elif trouble is None and self.owner.maker:
+            trouble = self.owner.maker.take(self.function, self.number, headers["Lambda-Runtime-Aws-Request-Id"],
+                                            deadline, is_new)
+        return trouble
 
     def begin(self, request: str) -> None:
         if self.owner.sandbox:
@@ -138,9 +167,8 @@ class Runtime(threading.Thread):
 
     def outcome(self, handler: Handler, payload: bytes, headers: Mapping[str, str]) -> Tuple[str, str, Dict[str, str]]:
         """What an invocation comes to: "response" or "error", and the body and headers to post."""
-        trouble = self.owner.kind_of(self.function)
+        trouble = self.trouble(headers)
         if trouble == "timeout":
-            self.owner.time_out(int(headers["Lambda-Runtime-Deadline-Ms"]))
             raise ConnectionError("its time is over")  # (the runtime begins anew, as one that was killed)
         if trouble == "crash":
             self.owner.crash(self.function, self.number)
@@ -159,21 +187,23 @@ class Runtime(threading.Thread):
 
 
 def front_of(asynchronous: Union[None, bool, Members], members: Mapping[str, Members],
-             keeps_credentials: bool) -> "Optional[Front]":
-    """What takes invocations of the type Event, by the members of UP.json's "asynchronous"; None if none is wanted."""
-    if asynchronous is None or asynchronous is False:
+             keeps_credentials: bool, storm: Optional[Storm]) -> "Optional[Front]":
+    """What takes invocations of the type Event, by the members of UP.json's "asynchronous", and those that a storm may
+    give trouble; None if none is wanted."""
+    takes_events = asynchronous is not None and asynchronous is not False
+    if not takes_events and storm is None:
         return None
     from .front.front import Front  # (asyncio takes a while to import, and few tests need it)
     from .front.asynchronous import asynchronous_of, mistakes, refused
     from .front.outbox import Outbox
     from .front.settings import Settings
-    if asynchronous is not True and not isinstance(asynchronous, dict):
+    if takes_events and asynchronous is not True and not isinstance(asynchronous, dict):
         raise ValueError(f"asynchronous must be True, or a dict such as {{\"retries\": 0}}, not {asynchronous!r}")
-    given = {} if asynchronous is True else asynchronous
+    given = asynchronous if isinstance(asynchronous, dict) else {}
     for mistake in mistakes(given, members, "asynchronous: "):
         raise ValueError(mistake)
-    settings = asynchronous_of(given)
-    for mistake in refused(settings, {}, keeps_credentials):
+    settings = asynchronous_of(given) if takes_events else None
+    for mistake in refused(settings, {}, keeps_credentials) if settings else ():
         raise ValueError(mistake)
     functions = tuple({"name": name, **own} for name, own in members.items())
     made = Settings(0, settings, urls={}, apis={}, functions=functions, folder=os.getcwd())
@@ -197,6 +227,8 @@ class LambdaLocal(Troubled):
     endpoint_url: Optional[str] = None
     stopped, log = False, ""
     salt: Optional[int] = None  # of request identifiers; the service's own if there is none
+    storm: Union[None, int, str, Storm] = None  # that a test begins in: a seed, or SEED:RATE
+    maker: "Optional[InMaker]" = None  # of its trouble
 
     def __init__(self, functions: Optional[Mapping[str, Members]] = None, program: Optional[str] = None,
                  patches: Optional[Changes] = None, keep_credentials: bool = False,
@@ -218,15 +250,18 @@ class LambdaLocal(Troubled):
         if not members:
             raise ValueError("start() needs a function: start(NAME=handler)")
         parts = [function_of(name, member, handlers.get(name)) for name, member in members.items()]
-        variables, front = variables_of(members), front_of(asynchronous, members, keep_credentials)
+        storm = given_storm(self.storm)
+        variables, front = variables_of(members), front_of(asynchronous, members, keep_credentials, storm)
         configuration: Members = {"account": "123456789012", "region": "us-east-1",
                                   "functions": [part for part, _ in parts]}
         if self.salt is not None:
             configuration["salt"] = self.salt
         self.service = Service(configuration, self.program)
         if front:
-            front.serve(self.service)
+            front.serve(self.service, weather=self.weather(storm, list(handlers)))
             self.front = front
+            if (gate := front.gate) and self.maker:
+                self.maker.still, self.maker.sent = functools.partial(gate.still, front.loop), lambda: gate.sent
         self.endpoint_url = self.service.endpoint_url
         self.sandbox = Sandbox(self.service, variables, keep_credentials, self.patches)
         for (_, memory), part in zip(parts, self.service.configuration["functions"]):
@@ -235,7 +270,16 @@ class LambdaLocal(Troubled):
                                   for number, port in zip(self.numbers_of(part["name"]), part["ports"])]
         for runtime in self.runtimes:
             runtime.start()
+        HELD.begin(self.clock)
         return self
+
+    def weather(self, storm: Optional[Storm], handlers: List[str]) -> "Optional[Tuple[Storm, InMaker]]":
+        """A storm, with what makes its trouble."""
+        if storm is None:
+            return None
+        from .in_storm import InMaker
+        self.maker = InMaker(self, handlers)
+        return storm, self.maker
 
     def numbers_of(self, name: str) -> List[int]:
         number, numbers = 1, {}
@@ -274,7 +318,7 @@ class LambdaLocal(Troubled):
             request = urllib.request.Request(f"{self.endpoint_url}/2015-03-31/functions/{name}/invocations",
                                              json.dumps(event).encode(), method="POST")
             try:
-                with OPENER.open(request, timeout=1000) as answer:
+                with OPENER.open(request, timeout=LONGEST_SECONDS) as answer:
                     body = json.loads(answer.read() or b"null")
                     if answer.headers.get("X-Amz-Function-Error"):
                         raise FunctionError(body) from self.faults.pop(answer.headers.get("x-amzn-RequestId"), None)
@@ -282,7 +326,8 @@ class LambdaLocal(Troubled):
             except urllib.error.HTTPError as fault:
                 text = fault.read()
                 fault.close()
-                if fault.code != 429 or time.monotonic() > end or "throttle" in self.troubles.get(name, ()):
+                if fault.code != 429 or time.monotonic() > end or "throttle" in self.troubles.get(name, ()) or (
+                        self.maker and RESERVED in text):
                     raise FunctionError({"errorType": fault.headers.get("x-amzn-ErrorType"),
                                          "errorMessage": text.decode(errors="replace")}) from None
                 time.sleep(0.005)
@@ -330,11 +375,14 @@ class LambdaLocal(Troubled):
         """Stops it, and checks its counts and that its history replays to itself."""
         if self.service is None or self.stopped:
             return
+        HELD.end(self.clock)
         with contextlib.suppress(OSError, http.client.HTTPException, RuntimeError):
             self.clock.resume()  # (in a pause an environment that shuts down would be waited for)
         if self.front:
             self.front.drain(self.has_ended)
             self.front.end()
+            if self.front.gate:
+                tell_of_events("up", self.front.gate.tally.summary(), "warning")
         try:
             self.log, stats = self.service.history(), self.service.stats()
         except (OSError, http.client.HTTPException):

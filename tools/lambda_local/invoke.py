@@ -187,7 +187,7 @@ def parser() -> argparse.ArgumentParser:
 
 
 def main() -> int:
-    options = parser().parse_args()
+    options = parser().parse_intermixed_args()  # (NAME --event PAYLOAD as well)
     try:
         return tell(options, ask(options, payload_of(options)))
     except Fault as fault:

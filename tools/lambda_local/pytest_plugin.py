@@ -15,10 +15,12 @@ where both stand whole. The program is LAMBDA_LOCAL_PROGRAM, else the one that c
 import http.client
 import pathlib
 import subprocess
-from typing import Any, Generator, Iterator, Tuple
+from typing import Any, Generator, Iterator, Optional, Tuple
 
+from .held import HELD
 from .in_process import FunctionError, LambdaLocal  # noqa: F401
 from .paths import tool
+from .storm import EXPECTED, Storm, storm_of
 
 try:
     import pytest
@@ -28,6 +30,33 @@ except ImportError:
 if pytest:
     from .rerun_marker import pytest_configure, pytest_pyfunc_call, pytest_runtest_call  # noqa: F401
 
+    STORM = "--lambda-local-storm"
+
+    def given_storm(text: str) -> Storm:
+        try:
+            return storm_of(text)
+        except ValueError:
+            raise pytest.UsageError(f"{STORM} {text}: give {EXPECTED}") from None
+
+    def pytest_addoption(parser: pytest.Parser) -> None:
+        group = parser.getgroup("lambda_local")
+        if not any(STORM in option.names() for option in group.options):  # (a plugin that is named twice is one)
+            group.addoption(STORM, metavar="SEED[:RATE]", type=given_storm, help=(
+                "throttles, cold starts, timeouts, crashes and failed Inits at random for each service of a test, the "
+                "same ones by the same seed"))
+
+    def pytest_enter_pdb(config: pytest.Config, pdb: object) -> None:
+        """breakpoint(), also in a handler; --pdb, --trace."""
+        HELD.enter()
+
+    def pytest_leave_pdb(config: pytest.Config, pdb: object) -> None:
+        HELD.leave()
+
+    def storm_over(config: pytest.Config, scope: str) -> Optional[Storm]:
+        """The storm of this run over one test, or over the session."""
+        storm: Optional[Storm] = config.getoption(STORM)
+        return None if storm is None else storm._replace(scope=scope)
+
     SHOWN = 100  # lines of each in a report
     TITLE = "lambda_local history"
 
@@ -36,6 +65,7 @@ if pytest:
                      monkeypatch: pytest.MonkeyPatch) -> Iterator[LambdaLocal]:
         """A service of this test's own: `start` starts it."""
         service = LambdaLocal(patches=monkeypatch)
+        service.storm = storm_over(request.config, request.node.nodeid)
         request.node.lambda_local = (service, tmp_path_factory)
         yield service
         service.stop()
@@ -45,6 +75,7 @@ if pytest:
                              tmp_path_factory: pytest.TempPathFactory) -> Iterator[LambdaLocal]:
         """One service for the session: `start` starts it, once."""
         service = LambdaLocal()
+        service.storm = storm_over(request.config, "")
         setattr(request.session, "lambda_local", (service, tmp_path_factory))
         yield service
         service.stop()

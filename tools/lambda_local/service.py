@@ -26,6 +26,7 @@ from .paths import LIMITS
 from .program import Fault as Fault, place_of_fault, program_path as program_path
 
 RUNTIME = "/2018-06-01/runtime/"
+AGAIN = "Lambda-Local-Again"  # a header: this has been sent before, so a storm spares it
 EXTENSION = "/2020-01-01/extension/"
 TAKEN_SECONDS = 5.0  # for the status of a process that has ended
 NO_NETWORK = "network: failed"  # the program's line if it cannot listen on a port
@@ -193,6 +194,7 @@ class Service:
             function["ports"] = [port or next(ports) for port in function["ports"]]
         self.configuration, self.port = configuration, configuration["invokePort"]
         self.endpoint_url = f"http://127.0.0.1:{self.port}"
+        self.through = self.port  # by which queues and streams invoke: in a storm the front's
         return wanted
 
     def _start(self) -> bool:

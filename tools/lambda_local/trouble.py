@@ -4,17 +4,21 @@
   lambda_local trouble greet cold                 its idle environments end: the next invocation finds a new one
   lambda_local trouble greet crash [PAYLOAD]      invokes it; its runtime is killed in place of answering
   lambda_local trouble greet timeout [PAYLOAD]    invokes it; its time goes by, as the clock of the service is moved
+  lambda_local trouble greet init [PAYLOAD]       invokes it; the Init of a new environment fails
 
-What the caller gets is printed. `crash` and `timeout` need `lambda_local up`, and an environment that is idle. The
-service is that of AWS_ENDPOINT_URL_LAMBDA, which `lambda_local up` prints and sets, else http://127.0.0.1:9000.
+What the caller gets is printed. `crash`, `timeout` and `init` need `lambda_local up`; the first two need an idle
+environment. `lambda_local up --storm SEED` has all these at random. However a throttle's command ends, the reservation
+is as it was. The service is that of AWS_ENDPOINT_URL_LAMBDA, which `lambda_local up` prints and sets, else
+http://127.0.0.1:9000.
 
 Exit statuses: 0, it came about; 1, it did not; 2, a fault in the arguments; 3, the service has refused; 4, the service
 cannot be reached, or answers as another does."""
 import argparse
 import json
+import os
 import signal
 import threading
-from typing import Optional
+from typing import Callable, Optional
 from urllib.parse import quote, urlencode
 
 from .configuration import Members, is_whole
@@ -25,8 +29,8 @@ from .outgoing import tell
 from .program import Fault
 from .usage import parser_of
 
-KINDS = ("throttle", "cold", "crash", "timeout")
-REPORTS = {"crash": "Runtime.ExitError", "timeout": "Function.Timeout"}
+KINDS = ("throttle", "cold", "crash", "timeout", "init")
+REPORTS = {"crash": "Runtime.ExitError", "timeout": "Function.Timeout", "init": "Runtime.ExitError"}
 PATHS = {"get": "/2019-09-30/functions/{}/concurrency", "set": "/2017-10-31/functions/{}/concurrency",
          "invoke": "/2015-03-31/functions/{}/invocations"}
 LONGEST_SECONDS = 1000.0  # of an invocation: 900, and what it waits for
@@ -45,13 +49,46 @@ seconds_of.__name__ = "number of seconds, up to 86400"
 
 
 def parser() -> argparse.ArgumentParser:
-    made = parser_of("trouble", __doc__, "[OPTION..] NAME throttle | cold | crash [PAYLOAD] | timeout [PAYLOAD]")
+    made = parser_of("trouble", __doc__, "[OPTION..] NAME throttle | cold | KIND [PAYLOAD]")
     made.add_argument("name", metavar="NAME")
     made.add_argument("kind", metavar="KIND", help=", ".join(KINDS))
     made.add_argument("payload", metavar="PAYLOAD", nargs="?")
     made.add_argument("--seconds", type=seconds_of, help="how long it is throttled (until Ctrl-C)")
     add_option(made)
     return made
+
+
+class Afterwards:
+    """A process of its own, which does something once this one has ended, however that is: also by SIGKILL."""
+
+    def __init__(self, do: Callable[[], None]) -> None:
+        reading, self.writing = os.pipe()
+        self.child = os.fork()
+        if self.child == 0:
+            os.setsid()  # (what ends the group of this process does not end it)
+            os.close(self.writing)
+            os._exit(self._when_ended(reading, do))
+        os.close(reading)
+
+    @staticmethod
+    def _when_ended(reading: int, do: Callable[[], None]) -> int:
+        try:
+            os.read(reading, 1)
+            do()
+            return 0
+        except Fault as fault:
+            tell(f"trouble: {fault}")
+            return fault.status
+        except BaseException as fault:
+            tell(f"trouble: {type(fault).__name__}: {fault}")
+            return 1
+
+    def run(self) -> None:
+        """Has it done now. A fault in it ends this process with its status."""
+        os.close(self.writing)
+        status = os.waitstatus_to_exitcode(os.waitpid(self.child, 0)[1])
+        if status:
+            raise SystemExit(status if status > 0 else 1)  # (it was told)
 
 
 class Trouble:
@@ -91,7 +128,12 @@ class Trouble:
         ending = threading.Event()
         for number in (signal.SIGTERM, signal.SIGINT, signal.SIGHUP):
             signal.signal(number, lambda _number, _frame: ending.set())
-        self.reserve(0)
+        put_back = Afterwards(lambda: self.reserve(before))
+        try:
+            self.reserve(0)
+        except Fault:
+            put_back.run()
+            raise
         limit = "until Ctrl-C" if self.options.seconds is None else f"for {self.options.seconds:g} s"
         tell(f"trouble: {self.options.name} is throttled {limit}")
         try:
@@ -99,7 +141,7 @@ class Trouble:
             while not ending.wait(0.1 if left is None else min(0.1, left)) and left != 0:
                 left = None if left is None else max(0.0, left - 0.1)
         finally:
-            self.reserve(before)
+            put_back.run()
         return 0
 
     def reserve(self, count: Optional[int]) -> None:
@@ -157,7 +199,7 @@ def main() -> int:
         if options.kind not in KINDS:
             raise Fault(2, f"{options.kind[:80]}: write {', '.join(KINDS[:-1])} or {KINDS[-1]}")
         if options.payload is not None and options.kind not in REPORTS:
-            raise Fault(2, f"{options.kind} {options.payload[:80]}: only crash and timeout have a payload")
+            raise Fault(2, f"{options.kind} {options.payload[:80]}: only crash, timeout and init have a payload")
         if options.seconds is not None and options.kind != "throttle":
             raise Fault(2, f"--seconds {options.seconds:g}: only throttle has a time")
         if options.kind == "throttle":

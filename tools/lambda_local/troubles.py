@@ -114,8 +114,8 @@ class Troubled:
     def _end(self, name: str, number: int) -> bool:
         """Ends an environment once it is idle; whether it had begun."""
         end = time.monotonic() + PATIENCE
-        while (phase := self._phases()[number]["phase"]) != "starting":
-            if phase == "idle" and self._post(f"/_local/env/{number}/spindown")[0] == 202:
+        while (phase := self.phases()[number]["phase"]) != "starting":
+            if phase == "idle" and self.spin_down(number):
                 return True
             if time.monotonic() > end:
                 raise RuntimeError(f"{name} is {phase}, and cannot start anew: end what it works at first")
@@ -158,7 +158,7 @@ class Troubled:
         the time go by."""
         slow = self.slow_inits.get(name)
         while slow and not slow.is_over.is_set() and not self.has_ended():
-            if "bound" in self._phases()[number]:
+            if "bound" in self.phases()[number]:
                 if slow.begin():
                     self.clock.advance(seconds=slow.seconds)
                     self.slow_inits.pop(name, None)
@@ -171,10 +171,11 @@ class Troubled:
         status, _, answer = ask(urlsplit(str(self.endpoint_url)).port or 80, method, path, body or None)
         return status, answer
 
-    def _post(self, path: str) -> Tuple[int, bytes]:
-        return self._ask("POST", path)
+    def spin_down(self, number: int) -> bool:
+        """Ends an environment if it is idle; whether it was."""
+        return self._ask("POST", f"/_local/env/{number}/spindown")[0] == 202
 
-    def _phases(self) -> Dict[int, Dict[str, Any]]:
+    def phases(self) -> Dict[int, Dict[str, Any]]:
         status, body = self._ask("GET", "/_local/environments")
         if status != 200:
             raise RuntimeError("the service does not say what its environments do: its program is an older one")

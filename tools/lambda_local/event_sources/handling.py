@@ -8,7 +8,7 @@ from typing import Any, Dict, Optional, Sequence, Tuple
 from ..clock.followed import Clock
 from ..other_server import Destination, one_line
 from ..outgoing import Log, several
-from ..service import ask
+from ..service import AGAIN, ask
 from .batches import EXHAUSTED, TOO_OLD, After, Batch, after, failing_in, without_old
 from .failures import Invoked, record_of
 from .members import FOREVER, Stream
@@ -69,8 +69,8 @@ class Handling:
 
     def invoke(self, batch: Batch) -> Tuple[int, Dict[str, str], bytes]:
         event = json.dumps({"Records": [record.event for record in batch.records]}, ensure_ascii=False)
-        return ask(self.service.port, "POST", f"/2015-03-31/functions/{self.stream.function}/invocations",
-                   event.encode(errors="replace"), timeout=INVOKE_SECONDS)
+        return ask(self.service.through, "POST", f"/2015-03-31/functions/{self.stream.function}/invocations",
+                   event.encode(errors="replace"), {AGAIN: "1"} if batch.invocations else {}, timeout=INVOKE_SECONDS)
 
     def failing(self, has_failed: bool, body: bytes, batch: Batch) -> Tuple[Optional[int], str]:
         """The place of the first record that has failed, and how that is told."""

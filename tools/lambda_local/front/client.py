@@ -75,9 +75,11 @@ class Client:
 
     @contextlib.asynccontextmanager
     async def exchange(self, method: str, target: str, headers: Sequence[Tuple[str, str]] = (), length: int = 0,
-                       pieces: Optional[AsyncIterator[bytes]] = None, body: bytes = b"") -> AsyncIterator[Answer]:
+                       pieces: Optional[AsyncIterator[bytes]] = None, body: bytes = b"",
+                       is_again: bool = False) -> AsyncIterator[Answer]:
         """The answer to a request, while it is read. Its body of this length is there, or comes in pieces; if neither,
-        the service refuses it by its length. A request is never sent twice: it could be an invocation."""
+        the service refuses it by its length. A request is never sent twice: it could be an invocation. `is_again` is
+        for a storm: it has been sent before."""
         head = request_head(method, target, [("Host", f"127.0.0.1:{self.port}"), *headers,
                                              ("Content-Length", str(length))])
         wire = await self.connection()
@@ -123,8 +125,8 @@ class Client:
             wire.abort()  # (half a request must not be taken for a whole one)
             raise
 
-    async def ask(self, method: str, target: str, headers: Sequence[Tuple[str, str]] = (),
-                  body: bytes = b"") -> Tuple[int, Headers, bytes]:
+    async def ask(self, method: str, target: str, headers: Sequence[Tuple[str, str]] = (), body: bytes = b"",
+                  is_again: bool = False) -> Tuple[int, Headers, bytes]:
         """The status, headers and whole body of an answer."""
-        async with self.exchange(method, target, headers, len(body), None, body) as answer:
+        async with self.exchange(method, target, headers, len(body), None, body, is_again) as answer:
             return answer.status, answer.headers, await answer.body.whole(1 << 30)

@@ -10,6 +10,7 @@ from typing import Any, Callable, Dict, Iterator, List, Optional, Protocol, Sequ
 from ..clock.followed import Clock
 from ..outgoing import Log, several
 from ..service import Fault, Service, free_ports
+from ..storm import Maker, Storm
 from ..streaming.streams import Streams
 from .client import Client
 from .events import Identifiers
@@ -20,9 +21,11 @@ from .places import Places, places_for
 from .queue import Queue
 from .server import Server
 from .settings import Settings
+from .storm import Gate, StormyClient
 from .tail import Tails
 
 BETWEEN_TELLS = 60.0  # seconds, of the same fault
+Weather = Tuple[Storm, Maker]
 END_SECONDS = 20.0  # for its thread to end
 TRIES = 5  # for a free port, which another program can take between looking and listening
 
@@ -84,6 +87,7 @@ class Front(threading.Thread):
         super().__init__(name="front", daemon=True)
         self.settings, self.drain_seconds, self.log, self.outbox = settings, drain_seconds, log, outbox
         self.queue: Optional[Queue] = None
+        self.gate: Optional[Gate] = None  # of a storm
         self.invoke_listener = listener_at(settings.invoke_port, "invokePort", path)
         self.urls = {function: listener_at(address.port, f"url of function {function}", path)
                      for function, address in settings.urls.items()}
@@ -91,6 +95,10 @@ class Front(threading.Thread):
                               for name, api in settings.apis.items()}
         self.loop = asyncio.new_event_loop()
         self.last_told: Dict[str, float] = {}
+
+    @property
+    def invoke_port(self) -> int:
+        return int(self.invoke_listener.getsockname()[1])
 
     def addresses(self) -> Iterator[Tuple[Optional[str], str, str]]:
         """Each address, whose it is and in which words."""
@@ -113,13 +121,16 @@ class Front(threading.Thread):
     def serve(self, service: Service, tails: Optional[Tails] = None, others: Sequence[Other] = (),
               streams: Optional[Streams] = None,
               answered: Callable[[str, int], None] = lambda target, size: None,
-              clock: Optional[Clock] = None) -> None:
+              clock: Optional[Clock] = None, weather: Optional[Weather] = None) -> None:
         """Begins to answer, by this service; `tails` has what Invoke answers with the log type Tail, and `others` are
         further servers that its thread runs, which have the responses that are streamed. `answered` is told the target
         and the bytes of each answer of the service. `clock` is one that follows the service's trace, if there is one;
-        else the front asks for itself."""
+        else the front asks for itself. `weather` is a storm with what makes its trouble."""
         self.service, configuration = service, service.configuration
-        self.client, self.clock = Client(service.port, answered), clock or Clock(service.port, self.tell_of_clock)
+        self.clock, self.client = clock or Clock(service.port, self.tell_of_clock), Client(service.port, answered)
+        if weather is not None:
+            self.gate = Gate(*weather, service.port, self.log)
+            self.client = StormyClient(service.port, answered, self.gate)
         self.places = Places(places_for(sum(len(one["ports"]) for one in configuration["functions"]),
                                         sum(other.descriptors for other in others)))
         port = InvokePort(self.client, self.settings, configuration, self.drain_seconds, self.log, self.places,
@@ -192,7 +203,7 @@ class Front(threading.Thread):
         end = time.monotonic() + self.drain_seconds
         if not self.queue or not self.queue.count:
             return
-        self.log("up", f"{several(self.queue.count, 'event')} left: waits up to {self.drain_seconds:g} s",
+        self.log("up", f"waiting up to {self.drain_seconds:g} s for {several(self.queue.count, 'event')}",
                  kind="event")
         while self.queue.count and time.monotonic() < end and not is_over():
             time.sleep(0.01)

@@ -170,7 +170,8 @@ class Queue:
             return self.go_on(lane)
         event.is_running = True
         try:
-            status, headers, body = await self.client.ask("POST", event.target, event.headers, event.payload)
+            status, headers, body = await self.client.ask("POST", event.target, event.headers, event.payload,
+                                                          event.attempts + event.throttles > 0)
         except Unreachable:
             lane.running, event.is_running = lane.running - 1, False
             return self.postpone(lane, event, "cannot be sent, since the service takes no connection")

@@ -2,6 +2,7 @@
 import contextlib
 from typing import AsyncIterator, Optional, Tuple
 
+from ..service import AGAIN
 from ..streaming.streams import own_trace
 from .budget import Budget
 from .client import Client
@@ -54,8 +55,9 @@ async def relay(client: Client, request: Request, budget: Budget, has_root: bool
         sent = [*sent, (TRACE, own_root())]
     async with contextlib.AsyncExitStack() as stack:
         length, pieces, body = await body_to_send(request, budget, stack)
+        is_again = first(request.headers, AGAIN.lower()) is not None
         answer = await stack.enter_async_context(client.exchange(request.method, request.target, sent, length, pieces,
-                                                                 body))
+                                                                 body, is_again))
         headers = headers_to_return(answer.headers)
         if answer.body.is_here:
             content = await answer.body.whole(answer.body.length or 0)

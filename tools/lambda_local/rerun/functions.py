@@ -31,9 +31,9 @@ class Functions(Session):
     sends_on = False  # (to queues and topics, which got it when it was recorded)
 
     def __init__(self, path: str, recording: Recording, program: Optional[str], ready: float, verbose: bool) -> None:
-        options = argparse.Namespace(up=path, debug=None, salt=recording.salt, program=program, reload=False,
-                                     keep_credentials=False, ready=ready, command=["rerun"], history=None, only=None,
-                                     allow_unready=False, drain=5, patient=1, report=False)
+        options = argparse.Namespace(up=path, debug=None, storm=None, salt=recording.salt, program=program,
+                                     reload=False, keep_credentials=False, ready=ready, command=["rerun"],
+                                     history=None, only=None, allow_unready=False, drain=5, patient=1, report=False)
         log = Log() if verbose else Silent()
         project = project_of(path, say=lambda line: log("up", line, kind="template"))
         names = {member["name"] for member in project.whole["functions"]}

@@ -7,8 +7,9 @@
   lambda_local up -- pytest                 waits until all is ready, runs the command against it, saves the history
                                             if it fails, stops, and ends with the command's status
   lambda_local up --reload                  restarts a function's idle environments when its files change
-  lambda_local up --debug greet             a debugger may hold `greet` in its Init until it is invoked; a
-                                            command after -- is run once it has left it
+  lambda_local up --storm 7 -- pytest       some invocations have trouble, the same ones each time by this seed
+  lambda_local up --debug greet             starts `greet` with debugpy or Node's inspector, which may hold it: the
+                                            clock is paused; a command after -- is run once it has left its Init
 
 What a template does not say is written into lambda_local.json beside it, which has the members of UP.json and is merged
 over it. UP.json is a service's configuration (docs/formats.md) in which each function has more members:
@@ -51,6 +52,7 @@ from typing import List
 from ..from_template.options import add_options
 from ..outgoing import tell
 from ..service import Fault
+from ..storm import storm_of
 from ..usage import parser_of
 from .log import Log
 from .patience import times_of
@@ -93,7 +95,11 @@ def parser() -> argparse.ArgumentParser:
     made = parser_of("up", __doc__, USAGE)
     made.add_argument("up", metavar="FILE|FOLDER", nargs="?", help="what to serve (what is found in this folder)")
     made.add_argument("--reload", action="store_true", help="spin idle environments down when files change")
-    made.add_argument("--debug", metavar="F", help="let a debugger hold the function F in its Init")
+    made.add_argument("--debug", metavar="F[:PORT]", help="start the function F with a debugger, which may hold it as "
+                                                          "long as it likes: the clock is paused")
+    made.add_argument("--storm", metavar="SEED[:RATE]", type=storm_of,
+                      help="throttles, cold starts, timeouts, crashes and failed Inits at random, the same ones by the "
+                           "same SEED, for a share of the invocations (7 or 7:0.25; RATE is 0.1 by default)")
     made.add_argument("--history", metavar="FILE",
                       help="save the history there, payloads and all (if a command fails, it is saved as "
                                                         "lambda_local.history.txt by default)")

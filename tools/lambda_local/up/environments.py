@@ -9,7 +9,7 @@ import math
 import select
 import threading
 import time
-from typing import Dict, List, Optional, Tuple
+from typing import Callable, Dict, List, Optional, Tuple
 
 from ..clock.followed import STEP
 from ..life import Generation
@@ -55,6 +55,8 @@ class Environment(threading.Thread):
         # One beyond the function's least number is started once it is wanted, and its thread with it.
         self.is_extra = watch.environment(number).place > function.least
         self.is_started, self.wanted = not self.is_extra, threading.Event()
+        # Asked before each generation: waits while it is held, and says whether its Init is to fail.
+        self.holds: Callable[["Environment"], bool] = lambda environment: False
 
     def say(self, line: str, level: str = "info", kind: str = "up", **members: object) -> None:
         self.log(self.name, f"-- {line}", level, kind, False, **members)
@@ -91,11 +93,11 @@ class Environment(threading.Thread):
         """Whether another one follows."""
         self.wait_until_wanted()
         self.wait_out_pause()
-        self.identifier = None
+        self.identifier, is_to_fail = None, self.holds(self)
         self.look_beside()
         self.printed.divide()
         self.beside.begins()
-        if self.stopping.is_set() or self.begins_unseen and not self.begin_unseen():
+        if self.stopping.is_set() or self.begins_unseen and not is_to_fail and not self.begin_unseen():
             return not self.stopping.is_set()
         self.identifier = self.register()
         if self.identifier is None:
@@ -103,6 +105,8 @@ class Environment(threading.Thread):
         waiting = http.client.HTTPConnection("127.0.0.1", self.port)
         try:
             waiting.request("GET", EXTENSION + "event/next", headers=self.me())
+            if is_to_fail:
+                return self.fail()
             try:
                 self.start_extensions()
                 if not self.begins_unseen:
@@ -114,13 +118,20 @@ class Environment(threading.Thread):
         finally:
             waiting.close()
 
+    def fail(self) -> bool:
+        """Trouble that was called for: as a runtime that exits in its Init; the next generation is as any other."""
+        self.ended_by(reason_of(1), "Runtime.ExitError", str(self.identifier))
+        self.close(self.in_shutdown())
+        self.restarts.note(False)
+        return True
+
     def look_beside(self) -> None:
         """After a generation that ended early, what the service refuses of the next one is told."""
         if self.restarts.early:
             try:
                 self.sidecars.divide(self.number)
             except (OSError, Fault) as fault:
-                self.say(f"what the service refuses of it is not told: {fault}", level="warning")
+                self.say(f"refusals of its requests cannot be reported: {fault}", level="warning")
         self.beside = self.sidecars.of(self.number, self.port)
         self.variables.update(surroundings.address_of(self.function, self.beside.port))
 
@@ -137,9 +148,9 @@ class Environment(threading.Thread):
         self.wanted.clear()
         self.is_started = True
 
-    def begin(self) -> None:
-        """An invocation is bound to it."""
-        self.say("starting: all other environments are busy")
+    def begin(self, why: str = "all other environments are busy") -> None:
+        """An invocation is bound to it, or it is to be there for one."""
+        self.say(f"starting: {why}")
         self.is_started = True
         self.wanted.set()
         if self.ident is None:

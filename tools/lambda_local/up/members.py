@@ -16,7 +16,7 @@ from ..paths import bundled
 from ..service import Fault
 from ..variables import OF_FUNCTION as VARIABLES
 from ..variables import text_of
-from . import code, layers, programs, room, sources
+from . import code, debuggers, layers, programs, room, sources
 from .only import limited
 from .patience import told, with_patience
 from .processes import program_of
@@ -87,9 +87,12 @@ class Function:
     """A function of UP.json, and its part of the service's configuration. If it may be unready, what cannot be started
     is a note in place of a fault."""
 
-    def __init__(self, member: Members, path: str, debug: bool = False, may_be_unready: bool = False) -> None:
+    def __init__(self, member: Members, path: str, wanted: Optional[debuggers.Wanted] = None,
+                 may_be_unready: bool = False) -> None:
         self.name: str = member["name"]
-        self.debug, self.may_be_unready = debug, may_be_unready
+        self.wanted = wanted if wanted is not None and wanted.function == self.name else None  # a debugger
+        self.debug, self.may_be_unready = self.wanted is not None, may_be_unready
+        self.debugger: Optional[debuggers.Started] = None
         self.notes: List[str] = []
         self.notes_of_all: List[str] = []  # what is to be said of all functions
         self.where, base = f"{path}: function {self.name}", os.path.dirname(os.path.abspath(path))
@@ -110,7 +113,7 @@ class Function:
         self.watch = [*(os.path.join(self.directory, name) for name in member.get("watch", ["."])),
                       *filter(os.path.isdir, own)]
         # Whether its runtime is the bundled one of Python. (A debugger may look at the interpreter from its start.)
-        self.forks = programs.is_of_python(member.get("runtime")) and not debug
+        self.forks = programs.is_of_python(member.get("runtime")) and not self.debug
         self.is_bundled = "runtime" in member
         if self.is_bundled and "handler" not in member and not self._has_index():
             self.notes.append("there is no \"handler\", and no module index for index.handler, which is taken then: "
@@ -169,6 +172,10 @@ class Function:
         self.notes += [note] if note else []
         if not shutil.which(program_of(program, self.directory)):
             self._refuse(4, f"{what} needs the program {program}, which is not on PATH: install it, or write a command")
+        elif self.wanted:
+            self.debugger = debuggers.started(member["runtime"], (program, path), self.wanted.port,
+                                              self.variables.get("NODE_OPTIONS", ""))
+            return self.debugger.words
         return [program, path]
 
     def _versions(self, member: Members) -> Dict[str, str]:
@@ -279,11 +286,11 @@ def load(path: str, debug: Optional[str] = None, salt: Optional[int] = None, onl
         whole = limited(whole, only, path)
     placed, notes = room.with_environments(whole["functions"])
     whole = {**whole, "functions": placed}
-    functions = [Function(with_patience(member, times), path, member["name"] == debug, may_be_unready)
-                 for member in whole["functions"]]
+    wanted = debuggers.wanted_of(debug) if debug else None
+    functions = [Function(with_patience(member, times), path, wanted, may_be_unready) for member in whole["functions"]]
     functions[0].notes_of_all = [*([told(whole["functions"], times)] if times != 1 else []), *notes]
     if debug and not any(function.debug and function.command for function in functions):
-        raise Fault(2, f"--debug {debug}: {path} has no such function with a command")
+        raise Fault(2, f"--debug {debug[:100]}: {path} has no such function with a command")
     own = {name: value for name, value in whole.items() if name in OF_SERVICE}
     configuration: Members = {"account": "123456789012", "region": "us-east-1", **own,
                               "functions": [function.part for function in functions]}

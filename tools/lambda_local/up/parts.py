@@ -1,6 +1,7 @@
 """The parts of a run of lambda_local up, in the order in which they are made: the functions, what is in front of them,
 the service, what follows it, the environments, the sources of events."""
 import argparse
+import functools
 import os
 import signal
 import threading
@@ -60,6 +61,8 @@ class Parts:
         self.supervisor = Supervisor(log, self.happened.set)
         GUARD.adopt_orphans(self.guard_lost)
         self.has_guard = True
+        if options.storm and options.debug:
+            raise Fault(2, "--storm and --debug: a debugger would be in the midst of it: leave one of the two out")
         self.project = project or project_by(options, lambda line: log("up", line, kind="template"))
         options.up = self.project.path
         configuration, self.functions, self.settings = load(
@@ -129,17 +132,22 @@ class Parts:
 
     def serve(self) -> None:
         """Has the front answer, and the proxies with it."""
-        self.closer = Closer(self.sidecars, self.service, self.watch, self.log)
+        self.closer, storm = Closer(self.sidecars, self.service, self.watch, self.log), self.options.storm
+        self.troubles = Troubles(self.functions, self.watch, self.log)
         self.front.serve(self.service, Tails(self.invocations, self.watch, self.closer),
                          self.sidecars.serve(self.service.configuration, self.printed), self.sidecars.streams,
-                         self.limits.answered, self.watch.clock)
+                         self.limits.answered, self.watch.clock, (storm, self.troubles) if storm else None)
         self.watch.takers.append(self.sidecars.pairing(self.front.call).take)
         self.refused = RefusedCalls(self.service.configuration, self.sidecars, self.sidecars.tell)
         self.watch.takers.append(self.refused.take)
 
     def look_after_environments(self) -> None:
         """Says what is looked at again and again while the environments run."""
-        troubles = Troubles(self.environments, self.watch, self.log)
+        troubles = self.troubles
+        troubles.look_after(self.environments)
+        if gate := self.front.gate:
+            self.service.through = self.front.invoke_port
+            troubles.still, troubles.sent = functools.partial(gate.still, self.front.loop), lambda: gate.sent
         self.front.port.trouble = troubles.order
         self.watch.followers.append(troubles.take)
         self.closer.environments += self.environments
@@ -205,6 +213,9 @@ class Parts:
                 why = ("and the clock is paused, for the debugger: lambda_local clock resume lets it go on" if is_paused
                        else "and its timeout as it is, since the service's clock cannot be paused")
                 self.say(f"{function.name}: one environment, {why}", level="info" if is_paused else "warning")
+            if function.debugger:
+                self.say(f"{function.name}: {function.debugger.said}", always=True, kind="debugger",
+                         level="warning" if function.debugger.port is None else "info", port=function.debugger.port)
             for note in function.notes:
                 self.say(f"{function.name}: {note}", level="warning")
             for port in part["ports"]:

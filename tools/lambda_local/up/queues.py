@@ -14,7 +14,7 @@ from ..clock.followed import Clock
 from ..json_reader import NotJson, read_json
 from ..other_server import ANSWER_SECONDS, NoClient, client_of, one_line
 from ..outgoing import several
-from ..service import ask
+from ..service import AGAIN, ask
 from .log import Log
 from .sources import MOST_AT_ONCE, Queue
 
@@ -23,6 +23,7 @@ MOST_POLLERS = 5  # of a function (Lambda begins with as many)
 MOST_BYTES = 4 << 20  # of a batch's messages; an event has at most 6 MiB
 FIRST_PAUSE, LONGEST_PAUSE = 1.0, 30.0  # seconds, after a fault of the queue; each further one doubles it
 FIRST_RETRY, LONGEST_RETRY, MOST_THROTTLES = 0.05, 2.0, 30  # seconds; after that many throttles a batch is given back
+RECEIVED = "ApproximateReceiveCount"  # how often a message has come
 INVOKE_SECONDS = 1000  # longer than any invocation and its Init
 
 
@@ -107,9 +108,9 @@ class Poller(threading.Thread):
             self.client = client_of("sqs", self.queue.endpoint, self.region, self.keeps_credentials,
                                     POLL_SECONDS + ANSWER_SECONDS)
         except NoClient:
-            return self.say(f"it is not polled, since {sys.executable} has no boto3: pip install boto3", "error")
+            return self.say(f"not polled: {sys.executable} has no boto3: pip install boto3", "error")
         except Exception as fault:
-            return self.say(f"it is not polled: {one_line(fault)}", "error")
+            return self.say(f"not polled: {one_line(fault)}", "error")
         while not self.stopping.is_set():
             try:
                 batch = self.collected()
@@ -139,12 +140,12 @@ class Poller(threading.Thread):
 
     def works_again(self) -> None:
         if self.pause:
-            self.say("it is polled again")
+            self.say("polled again")
         self.pause = 0.0
 
     def wait_after(self, fault: Exception) -> None:
         if not self.pause:
-            self.say(f"it cannot be polled: {one_line(fault)}", "error")
+            self.say(f"cannot be polled: {one_line(fault)}", "error")
         self.pause = min(LONGEST_PAUSE, 2 * self.pause or FIRST_PAUSE)
         self.stopping.wait(self.pause)
 
@@ -205,7 +206,8 @@ class Poller(threading.Thread):
     def handle(self, batch: List[Dict[str, Any]]) -> None:
         identifiers = [str(message["MessageId"]) for message in batch]
         event = {"Records": [record_of(message, self.arn, self.region) for message in batch]}
-        invoked = self.invoke(json.dumps(event, ensure_ascii=False).encode(errors="replace"), identifiers)
+        is_again = any((message.get("Attributes") or {}).get(RECEIVED) not in (None, "1") for message in batch)
+        invoked = self.invoke(json.dumps(event, ensure_ascii=False).encode(errors="replace"), identifiers, is_again)
         what = f"a batch of {len(batch)}"
         if invoked.failed is None:
             if not self.stopping.is_set():
@@ -214,22 +216,24 @@ class Poller(threading.Thread):
         done = [message for message in batch if str(message["MessageId"]) not in invoked.failed]
         left = self.delete(done)
         if invoked.failed:
-            self.say(f"{what}: {len(invoked.failed)} failed and stay in the queue", "warning", messages=len(batch),
-                     failed=len(invoked.failed))
+            count = len(invoked.failed)
+            self.say(f"{what}: {count} failed and {'stays' if count == 1 else 'stay'} in the queue", "warning",
+                     messages=len(batch), failed=count)
         elif not left:
             self.say(f"{what} ok", "ok", messages=len(batch))
 
-    def invoke(self, event: bytes, identifiers: List[str]) -> Invoked:
+    def invoke(self, event: bytes, identifiers: List[str], is_again: bool) -> Invoked:
         pause = FIRST_RETRY
         for _ in range(MOST_THROTTLES):
             try:
-                status, headers, body = ask(self.service.port, "POST",
-                                            f"/2015-03-31/functions/{self.function}/invocations", event,
-                                            timeout=INVOKE_SECONDS)
+                path = f"/2015-03-31/functions/{self.function}/invocations"
+                status, headers, body = ask(self.service.through, "POST", path, event,
+                                            {AGAIN: "1"} if is_again else {}, timeout=INVOKE_SECONDS)
             except (OSError, http.client.HTTPException) as fault:
                 return Invoked(None, f"has no outcome: {one_line(fault)}")
             if status != 429:
                 break
+            is_again = True
             if self.clock.wait(self.stopping, pause):
                 return Invoked(None, "is not invoked, since all stops")
             pause = min(LONGEST_RETRY, 2 * pause)
@@ -253,7 +257,7 @@ class Poller(threading.Thread):
             except Exception as fault:
                 left, why = left + len(part), one_line(fault)
         if left:
-            self.say(f"{left} messages were handled and could not be deleted, and so come again: {why}", "error")
+            self.say(f"{several(left, 'handled message')} could not be deleted, and will come again: {why}", "error")
         return left
 
 

@@ -91,5 +91,5 @@ class Schedules:
                      kind="schedule", function=due.function, request=headers.get("x-amzn-requestid"))
         elif not self.stopping.is_set():
             why = why if status is None else f"{status} {body.decode(errors='replace')[:200]}"
-            self.log(due.function, f"schedule {due.schedule.text}: its event is not taken: {why}", level="error",
+            self.log(due.function, f"schedule {due.schedule.text}: its event was refused: {why}", level="error",
                      kind="schedule", function=due.function)

@@ -40,6 +40,8 @@ class Session(Parts):
         status = 0
         self.say(f"callers: AWS_ENDPOINT_URL_LAMBDA={self.service.endpoint_url}", kind="address",
                  always=not self.options.command, endpoint=self.service.endpoint_url)
+        if self.front.gate:
+            self.say(self.front.gate.tally.announcement(), "warning", "storm")
         for function, text, url in self.front.addresses():
             self.say(text, kind="address", always=not self.options.command, function=function, endpoint=url)
         for thread in [*self.threads, *([self.report] if self.report else [])]:
@@ -124,11 +126,11 @@ class Session(Parts):
         self.command = Run(self.options.command, variables, self.happened.set)
         self.wait()
         if not self.command.is_over() and self.signal_number == signal.SIGINT:
-            self.say("the command may take 10 s to end; Ctrl-C again ends it")
+            self.say("waiting up to 10 s for the command to end: press Ctrl-C again to kill it")
             self.command.interrupt(lambda: self.signals > 1)
         if not self.command.is_over():
-            self.say("ends the command" if self.signals or self.supervisor.is_broken
-                     else "the service has ended, and so the command is ended")
+            self.say("ending the command" + ("" if self.signals or self.supervisor.is_broken
+                                             else ": the service has ended"))
             self.command.end()
         return self.command.status
 
@@ -184,6 +186,8 @@ class Session(Parts):
         self.refused.end()
         if self.report:
             self.step("the end of the log", self.report.close)
+        if gate := self.front.gate:
+            self.say(gate.tally.summary(), "warning", "storm", **gate.tally.members())
         self.step("counting", lambda: self.watch.lines.tell_throttled(at_the_end=True))
         if status == 0 and gone:
             self.say("the service was stopped by POST /_local/stop")
@@ -203,4 +207,4 @@ class Session(Parts):
             if thread.ident is not None:
                 thread.join(max(0.0, end - time.monotonic()))
                 if thread.is_alive() and not getattr(thread, "is_held", False):
-                    self.say(f"the thread {thread.name} does not end, and is left", level="error", kind="fault")
+                    self.say(f"the thread {thread.name} did not end in time, and was left", level="error", kind="fault")

@@ -31,6 +31,6 @@ class Supervisor:
     def broken(self, why: str) -> None:
         self.is_broken = True
         try:
-            self.log("up", f"lambda_local up ends, since {why}", level="error", kind="fault")
+            self.log("up", f"stopping: {why}", level="error", kind="fault")
         finally:
             self.when_broken()

@@ -1,30 +1,32 @@
-"""Trouble that a request calls for (`lambda_local trouble`): the next invocation of a function finds a runtime that
-exits, or that takes too long. The function is as it is: its idle runtimes are stopped by a signal before the invocation
-comes, so that none of them answers."""
+"""Trouble that a request (`lambda_local trouble`) or a storm calls for: the next invocation of a function finds a
+runtime that exits, one that takes too long, a new environment, or one whose Init fails. The function is as it is: its
+runtimes are stopped by a signal before the invocation comes, so that none answers; or its idle environments end, and
+the next generation is held until the invocation is bound to it."""
+import contextlib
 import http.client
 import os
 import signal
 import threading
 import time
-from typing import Dict, Iterable, List, NamedTuple, Tuple
+from typing import Callable, ContextManager, Dict, Iterable, Iterator, List, Optional, Sequence, Set, Tuple
 
 from ..clock.asked import advance
-from ..life import Begun, Event
+from ..history.words import CLOSING, IDLE, STARTING
+from ..life import Begun, Ended, Event, Invocation, Throttled
 from ..service import ask
+from ..storm import COLD, CRASH, INIT, KINDS, THROTTLE, TIMEOUT, NotMade, Outcome, Progress
 from .environments import Environment
 from .log import Log
+from .members import Function
 from .supervised import told
 from .watch import Watch
 
-CRASH, TIMEOUT = "crash", "timeout"
+ASKED_FOR = (CRASH, TIMEOUT, INIT)  # by a request
 WAIT_SECONDS = 30.0  # for the invocation
-IDLE = "idle"
-
-
-class Order(NamedTuple):
-    kind: str
-    until: float
-    stopped: List[Environment]
+STORM_SECONDS = 10.0  # for one that a storm sends, and for a moment at which its time can go by
+ENDING_SECONDS = 5.0  # for environments that are to start anew, and for one to be idle
+REST = 0.005  # seconds between two looks
+INIT_MS = 10_000
 
 
 def signalled(environment: Environment, number: int) -> bool:
@@ -39,74 +41,279 @@ def signalled(environment: Environment, number: int) -> bool:
         return False
 
 
-class Troubles:
-    """The orders of a run: at most one for each function at a time. `take` and `look` are called by the watch and by
-    the looks, `order` by the front."""
+class Order:
+    """Trouble that waits for its invocation. A gentle one is a storm's: it spares all others."""
 
-    def __init__(self, environments: Iterable[Environment], watch: Watch, log: Log) -> None:
+    def __init__(self, owner: "Troubles", function: str, kind: str, progress: Progress, is_gentle: bool) -> None:
+        self.owner, self.function, self.kind, self.progress, self.is_gentle = owner, function, kind, progress, is_gentle
+        self.until = time.monotonic() + (STORM_SECONDS if is_gentle else WAIT_SECONDS)
+        self.stopped: List[Environment] = []
+        self.is_over = threading.Event()
+
+    def end(self, has_come: bool, request: str = "", why: str = "") -> None:
+        if not self.is_over.is_set():
+            self.progress(Outcome(has_come, request, why))
+            self.is_over.set()
+
+    def call_off(self, why: str) -> None:
+        self.owner.watch.refresh()  # (the invocation may have come)
+        if self.owner.withdraw(self):
+            self.end(False, why=why)
+        self.is_over.wait(ENDING_SECONDS)
+        self.end(False, why=why)
+
+
+class Troubles:
+    """The orders of a run: at most one for each function at a time. `take`, `look` and `holds` are called by the watch,
+    by the looks and by environments, the others by the front."""
+
+    def __init__(self, functions: Iterable[Function], watch: Watch, log: Log) -> None:
         self.watch, self.log, self.lock = watch, log, threading.Lock()
         self.orders: Dict[str, Order] = {}
-        self.environments: Dict[str, List[Environment]] = {}
+        self.functions = {function.name: function for function in functions}
+        self.environments: Dict[str, List[Environment]] = {name: [] for name, function in self.functions.items()
+                                                           if function.command}
+        self.beginning: Set[Environment] = set()  # whose Init may have begun
+        self.is_moving = False  # the clock, by this
+        self.still: Callable[[], ContextManager[object]] = contextlib.nullcontext  # while it lasts no invocation comes
+        self.sent: Callable[[], int] = lambda: 0  # invocations without an answer, as far as whoever sends them knows
+
+    def look_after(self, environments: Iterable[Environment]) -> None:
         for environment in environments:
-            self.environments.setdefault(environment.function.name, []).append(environment)
+            self.environments[environment.function.name].append(environment)
+            environment.holds = self.holds
+
+    # ---- what is asked -----------------------------------------------------------------------------------------------
 
     def order(self, function: str, kind: str) -> Tuple[int, str]:
-        """A status, and a sentence."""
-        if kind not in (CRASH, TIMEOUT):
-            return 400, f"kind is {CRASH} or {TIMEOUT}"
+        """By a request: a status, and a sentence."""
+        if kind not in ASKED_FOR:
+            return 400, f"kind is {', '.join(ASKED_FOR[:-1])} or {ASKED_FOR[-1]}"
         if function not in self.environments:
             return 404, "there is no such function whose runtime lambda_local up has started"
+        try:
+            self._arrange(Order(self, function, kind, lambda outcome: None, False))
+        except NotMade as why:
+            return 409, str(why)
+        return 202, "the next invocation is awaited"
+
+    def kinds_of(self, function: str) -> Sequence[str]:
+        return KINDS if function in self.environments else (THROTTLE,) if function in self.functions else ()
+
+    def working(self, function: str) -> int:
+        self.watch.refresh()
+        with self.watch.lock:
+            return sum(invocation.function == function and invocation.delivered is not None
+                       for invocation in self.watch.life.invocations.values())
+
+    def arrange(self, function: str, kind: str, progress: Progress) -> Order:
+        """For a storm, whose invocation comes at once."""
+        order = Order(self, function, kind, progress, True)
+        if kind in (CRASH, TIMEOUT):
+            self._warm(function)
+        self._arrange(order)
+        return order
+
+    def _warm(self, function: str) -> None:
+        """Sees to it that an environment of the function is idle."""
+        end = time.monotonic() + ENDING_SECONDS
+        while not self._in(function, IDLE):
+            if time.monotonic() > end:
+                raise NotMade("none of its environments is idle")
+            fresh = [one for one in self.environments[function] if one.is_extra and not one.is_started]
+            if fresh and not self._in(function, STARTING, CLOSING, started=True):
+                fresh[0].begin("the storm is to find one")
+            time.sleep(REST)
+
+    def _arrange(self, order: Order) -> None:
         self.watch.refresh()
         with self.lock:
-            if function in self.orders:
-                return 409, "such an invocation is awaited already"
-            idle = [environment for environment in self.environments[function]
-                    if self.watch.environment(environment.number).here.phase.name == IDLE]
-            stopped = [environment for environment in idle if signalled(environment, signal.SIGSTOP)]
-            if not stopped:
-                return 409, "it has no idle environment: wait until one is ready"
-            self.orders[function] = Order(kind, time.monotonic() + WAIT_SECONDS, stopped)
-        return 202, "the next invocation is awaited"
+            if order.function in self.orders:
+                raise NotMade("such an invocation is awaited already")
+            idle = self._in(order.function, IDLE)
+            if order.kind in (CRASH, TIMEOUT):
+                # (one that works now may be idle once the invocation comes, which is at once for a storm)
+                those = self.environments[order.function] if order.is_gentle and idle else idle
+                order.stopped = [environment for environment in those if signalled(environment, signal.SIGSTOP)]
+                if not order.stopped:
+                    raise NotMade("it has no idle environment: wait until one is ready")
+            self.orders[order.function] = order
+        if order.kind in (COLD, INIT):
+            self._start_anew(order)
+
+    def _in(self, function: str, *phases: str, started: bool = False) -> List[Environment]:
+        """Those of the function's environments that are in one of these phases."""
+        return [environment for environment in self.environments[function]
+                if self.watch.environment(environment.number).here.phase.name in phases
+                and (environment.is_started or not started)]
+
+    def _is_bound(self, function: str) -> bool:
+        return any(self.watch.environment(one.number).is_bound for one in self.environments[function])
+
+    def _start_anew(self, order: Order) -> None:
+        """Ends the idle environments of the function, and waits until their next generation is held."""
+        end = time.monotonic() + ENDING_SECONDS
+        try:
+            while (idle := self._in(order.function, IDLE, CLOSING)) or order.function in self._beginning():
+                for environment in idle:
+                    ask(self.watch.service.port, "POST", f"/_local/env/{environment.number}/spindown")
+                if time.monotonic() > end:
+                    raise NotMade("its environments do not end")
+                time.sleep(REST)
+                self.watch.refresh()
+        except (OSError, http.client.HTTPException, NotMade) as fault:
+            self.withdraw(order)
+            raise NotMade(told(fault) if not isinstance(fault, NotMade) else str(fault)) from None
+
+    # ---- what comes --------------------------------------------------------------------------------------------------
+
+    def withdraw(self, order: Order) -> bool:
+        """Whether it was still waiting; what it has stopped goes on."""
+        with self.lock:
+            if self.orders.get(order.function) is not order:
+                return False
+            del self.orders[order.function]
+        self._let_go(order, None)
+        return True
+
+    @staticmethod
+    def _let_go(order: Order, but: Optional[Environment]) -> None:
+        for environment in order.stopped:
+            if environment is not but:
+                signalled(environment, signal.SIGCONT)
 
     def take(self, event: Event) -> None:
         """From the watch, event by event."""
-        if not isinstance(event, Begun):
-            return
-        with self.lock:
-            order = self.orders.pop(event.invocation.function, None)
-        if order is None:
-            return
-        here = event.environment.number
-        for environment in order.stopped:
-            if environment.number != here:
-                signalled(environment, signal.SIGCONT)
-        for environment in self.environments[event.invocation.function]:
-            if environment.number == here and order.kind == CRASH:
-                signalled(environment, signal.SIGKILL)
-            elif environment.number == here:
-                seconds = int(environment.function.part.get("timeout", 3))
-                threading.Thread(target=self._time_out, args=(event.environment.name, seconds), daemon=True,
-                                 name=f"timeout of {environment.name}").start()
+        if isinstance(event, Begun):
+            if order := self._popped(event.invocation.function):
+                self._begun(order, event)
+        elif isinstance(event, Ended) and event.invocation.delivered is None:
+            if order := self._popped(event.invocation.function):
+                self._let_go(order, None)
+                order.end(order.kind == INIT, event.invocation.identifier, "its Init has failed")
+        elif isinstance(event, Throttled) and event.function in self.orders:
+            if order := self._popped(event.function):
+                self._let_go(order, None)
+                order.end(False, why=f"it was throttled, {event.reason}")
 
-    def _time_out(self, name: str, seconds: int) -> None:
-        """Moves the clock by the time that the invocation has."""
-        try:
-            status, _, body = ask(self.watch.service.port, *advance(1000 * seconds))
-            why = "" if status == 200 else f"{status} {body[:200].decode(errors='replace')}"
-        except (OSError, http.client.HTTPException) as fault:
-            why = told(fault)
-        if why:
-            self.log("up", f"trouble: the time of {name} does not go by: {why}", level="error", kind="trouble")
-        self.watch.clock.ask()
+    def _popped(self, function: str) -> Optional[Order]:
+        with self.lock:
+            return self.orders.pop(function, None)
+
+    def _begun(self, order: Order, event: Begun) -> None:
+        order.progress(None)
+        here = next((one for one in self.environments[order.function] if one.number == event.environment.number), None)
+        self._let_go(order, here)
+        request = event.invocation.identifier
+        if here is None or order.kind in (COLD, INIT):
+            is_new = order.kind == COLD and event.environment.generation.deliveries == 1
+            return order.end(is_new, request, "an environment that worked was idle first")
+        if order.is_gentle and here not in order.stopped:
+            return order.end(False, request, "an environment that worked was idle first")
+        if order.kind == CRASH:
+            signalled(here, signal.SIGKILL)
+            return order.end(True, request)
+        target = self._time_out_gently if order.is_gentle else self._time_out
+        threading.Thread(target=target, args=(order, here, event.invocation, event.moment), daemon=True,
+                         name=f"timeout of {here.name}").start()
 
     def look(self) -> None:
         """Gives up what no invocation has come for."""
         now = time.monotonic()
         with self.lock:
-            late = [function for function, order in self.orders.items() if order.until < now]
-            orders = [(function, self.orders.pop(function)) for function in late]
-        for function, order in orders:
-            for environment in order.stopped:
-                signalled(environment, signal.SIGCONT)
-            self.log("up", f"trouble: no invocation of {function} has come within {WAIT_SECONDS:g} s: its runtimes go "
-                     "on", level="warning", kind="trouble")
+            late = [order for order in self.orders.values() if order.until < now and not (
+                order.kind in (COLD, INIT) and self._is_bound(order.function))]
+        for order in late:
+            if self.withdraw(order):
+                seconds = STORM_SECONDS if order.is_gentle else WAIT_SECONDS
+                self.log("up", f"trouble: {order.function} was not invoked within {seconds:g} s: its runtimes go on",
+                         level="warning", kind="trouble")
+                order.end(False, why="it did not come")
+
+    # ---- a timeout ---------------------------------------------------------------------------------------------------
+
+    def _move(self, milliseconds: int, name: str) -> bool:
+        """Moves the clock; whether it was moved."""
+        try:
+            status, _, body = ask(self.watch.service.port, *advance(milliseconds))
+            why = "" if status == 200 else f"{status} {body[:200].decode(errors='replace')}"
+        except (OSError, http.client.HTTPException) as fault:
+            why = told(fault)
+        if why:
+            self.log("up", f"trouble: {name} does not time out: {why}", level="error", kind="trouble")
+        self.watch.clock.ask()
+        return not why
+
+    def _timeout_of(self, function: str) -> int:
+        """In milliseconds."""
+        return 1000 * int(self.functions[function].part.get("timeout", 3))
+
+    def _time_out(self, order: Order, here: Environment, invocation: Invocation, begun: int) -> None:
+        has_moved = self._move(self._timeout_of(order.function), here.name)
+        order.end(has_moved, invocation.identifier, "the clock is not moved")
+
+    def _time_out_gently(self, order: Order, here: Environment, invocation: Invocation, begun: int) -> None:
+        """The clock moves to the deadline once no other invocation loses more than half of its time by it and no Init
+        goes on; till then it comes nearer by itself."""
+        deadline, end = begun + self._timeout_of(order.function), time.monotonic() + STORM_SECONDS
+        while not invocation.is_over:
+            if time.monotonic() > end and not self.watch.clock.reached(deadline - INIT_MS):
+                signalled(here, signal.SIGCONT)
+                return order.end(False, invocation.identifier, "others would have run out of time too")
+            if self._spares(deadline, invocation):
+                with self.still(), self._moving():
+                    self.watch.refresh()
+                    left = deadline - self.watch.clock.now()
+                    if left > 0 and self._spares(deadline, invocation) and not self._move(left, here.name):
+                        signalled(here, signal.SIGCONT)
+                        return order.end(False, invocation.identifier, "the clock is not moved")
+                self.watch.refresh()
+            time.sleep(4 * REST)
+        order.end(True, invocation.identifier)
+
+    @contextlib.contextmanager
+    def _moving(self) -> Iterator[None]:
+        """While this lasts no Init begins."""
+        with self.lock:
+            self.is_moving = True
+        try:
+            yield
+        finally:
+            self.is_moving = False
+
+    def _spares(self, deadline: int, but: Invocation) -> bool:
+        with self.watch.lock:
+            others = [one for one in self.watch.life.invocations.values() if one is not but]
+            if self.sent() > len(self.watch.life.invocations):
+                return False  # (one is on its way)
+        for one in others:
+            timeout = self._timeout_of(one.function)
+            if one.delivered is None or one.delivered + timeout - deadline < timeout / 2:
+                return False
+        return not self._beginning()
+
+    def _beginning(self) -> Set[str]:
+        """The functions of which an environment is in its Init."""
+        with self.lock:
+            self.beginning = {one for one in self.beginning if one.is_started and not self.watch.environment(
+                one.number).generation.is_ready}
+            return {one.function.name for one in self.beginning}
+
+    # ---- a new environment -------------------------------------------------------------------------------------------
+
+    def holds(self, environment: Environment) -> bool:
+        """Before a generation begins: waits while one that is to be new, or to fail, waits for its invocation; whether
+        it is bound to this environment, and is to find an Init that fails."""
+        fails = False
+        while not environment.stopping.is_set():
+            with self.lock:
+                order = self.orders.get(environment.function.name)
+                is_held = order is not None and order.kind in (COLD, INIT)
+                is_bound = self.watch.environment(environment.number).is_bound
+                self.beginning.discard(environment)  # (that was the generation before)
+                if not self.is_moving and (is_bound or not is_held):
+                    fails = order is not None and order.kind == INIT and is_bound
+                    self.beginning.add(environment)
+                    break
+            time.sleep(REST)
+        return fails

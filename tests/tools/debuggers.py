@@ -1,0 +1,213 @@
+"""Checks that a debugger may stand: the clock is paused at a breakpoint of a test or a handler and goes on after it,
+and `lambda_local up --debug` starts Node's inspector, or debugpy where it is installed. The program is
+LAMBDA_LOCAL_PROGRAM, else ./lambda_local."""
+import base64
+import importlib.util
+import json
+import os
+import shutil
+import socket
+import struct
+import subprocess
+import sys
+import tempfile
+import threading
+import unittest
+import urllib.request
+
+from lambda_local.service import free_ports
+from tests import TOOLS
+from tests.library.cases import Case
+from tests.library.up_kit import LAUNCHER, Up, until
+
+SCRIPT = '''import time
+from lambda_local.in_process import FunctionError, LambdaLocal
+def f(event):
+    breakpoint()
+    return "done"
+with LambdaLocal({"f": {"timeout": 60}}, f=f) as service:
+    for _ in range(2):
+        try:
+            print("result", service.invoke("f"))
+        except FunctionError as fault:
+            print("result", fault.report["errorType"])
+        print("paused after it", service.clock.is_paused)
+'''
+TEST = '''import time
+def f(event):
+    breakpoint()
+    return "done"
+def test_f(lambda_local):
+    lambda_local.start({"f": {"timeout": 60}}, f=f)
+    f.service = lambda_local
+    assert lambda_local.invoke("f") == "done"
+    assert not lambda_local.clock.is_paused
+'''
+APP = "def run(event):\n    return 'done'\n"
+
+
+def run(words, text, **given):
+    """What a program prints that is given this text."""
+    done = subprocess.run(words, input=text, stdout=subprocess.PIPE, stderr=subprocess.STDOUT, text=True, timeout=240,
+                          env={**os.environ, "PYTHONPATH": os.pathsep.join([TOOLS, os.environ.get("PYTHONPATH", "")])},
+                          **given)
+    return done.returncode, done.stdout
+
+
+class Inspector:
+    """A client of Node's inspector: WebSocket, as much as it takes."""
+
+    def __init__(self, port):
+        with urllib.request.urlopen(f"http://127.0.0.1:{port}/json/list", timeout=30) as answer:
+            path = json.load(answer)[0]["webSocketDebuggerUrl"].partition(f":{port}")[2]
+        self.socket = socket.create_connection(("127.0.0.1", port), 30)
+        self.socket.sendall((f"GET {path} HTTP/1.1\r\nHost: 127.0.0.1:{port}\r\nUpgrade: websocket\r\nConnection: "
+                             f"Upgrade\r\nSec-WebSocket-Key: {base64.b64encode(bytes(16)).decode()}\r\n"
+                             "Sec-WebSocket-Version: 13\r\n\r\n").encode())
+        self.count = 0
+
+    def send(self, method):
+        self.count += 1
+        text = json.dumps({"id": self.count, "method": method}).encode()
+        self.socket.sendall(b"\x81" + struct.pack("!B", 0x80 | len(text)) + bytes(4) + text)
+
+    def close(self):
+        self.socket.close()
+
+
+class Adapter:
+    """A client of debugpy: attaches, and says that it has no breakpoints."""
+
+    def __init__(self, port):
+        self.socket = socket.create_connection(("127.0.0.1", port), 30)
+        self.count, self.seen = 0, b""
+        threading.Thread(target=self.read, daemon=True).start()
+        self.send("initialize", {"adapterID": "python", "clientID": "test"})
+        self.send("attach", {"justMyCode": False})
+        self.is_attached = until(lambda: b'"initialized"' in self.seen, 60)
+        self.send("configurationDone", {})
+
+    def send(self, command, arguments):
+        self.count += 1
+        body = json.dumps({"seq": self.count, "type": "request", "command": command, "arguments": arguments}).encode()
+        self.socket.sendall(b"Content-Length: %d\r\n\r\n%b" % (len(body), body))
+
+    def read(self):
+        try:
+            while data := self.socket.recv(65536):
+                self.seen += data
+        except OSError:
+            pass
+
+    def close(self):
+        self.socket.close()
+
+
+class Breakpoints(Case):
+    def check_pauses(self, name, words, **given):
+        steps = "p 'at it', {0}.clock.is_paused, {0}.clock.now() - {0}.clock.now()\nc\n"
+        return run(words, steps.format(name) + steps.format(name), **given)
+
+    def test_without_pytest(self):
+        status, output = self.check_pauses("service", [sys.executable, "-c", SCRIPT])
+        self.check("at each breakpoint the clock is paused", (status, output.count("('at it', True, 0)")), (0, 2),
+                   shown=output)
+        self.check("nothing times out", output.count("result done"), 2)
+        self.check("and it goes on after it", output.count("paused after it False"), 2)
+        status, output = run([sys.executable, "-c", SCRIPT], "q\nq\n")
+        self.check("also if the debugger is left", (status, output.count("result BdbQuit"), output.count(
+            "paused after it False")), (0, 2, 2), shown=output)
+        status, output = run([sys.executable, "-c", SCRIPT.replace(
+            "with Lambda", "other = LambdaLocal(g=f)\nother.clock.pause()\nwith Lambda") + (
+            "print('the other', other.clock.is_paused)\nother.stop()\n")], "c\nc\n")
+        self.check("one that was paused stays so", (status, "the other True" in output), (0, True), shown=output)
+
+    @unittest.skipUnless(importlib.util.find_spec("pytest"), "pytest is not here")
+    def test_under_pytest(self):
+        with tempfile.TemporaryDirectory() as folder:
+            with open(os.path.join(folder, "test_f.py"), "w") as file:
+                file.write(TEST)
+            words = [sys.executable, "-m", "pytest", "-q", "-p", "no:cacheprovider", "-p", "pytest_lambda_local",
+                     "test_f.py"]
+            status, output = self.check_pauses("f.service", words, cwd=folder)
+            self.check("at a breakpoint in a handler the clock is paused", (status, "('at it', True, 0)" in output,
+                                                                            "1 passed" in output), (0, True, True),
+                       shown=output)
+            with open(os.path.join(folder, "test_f.py"), "w") as file:
+                file.write(TEST.replace("    breakpoint()\n", "").replace('== "done"', '== "failed"'))
+            status, output = run([*words, "--pdb"], "p 'at it', lambda_local.clock.is_paused\nq\n", cwd=folder)
+            self.check("and with --pdb", (status, "('at it', True)" in output), (2, True), shown=output)
+
+
+class OfUp(Case):
+    def attached(self, up, client_at, language):
+        self.check("where it is is said", up.until(f"f: attach a debugger of {language} at 127.0.0.1:"))
+        self.check("it waits", up.until("waiting for a debugger: Init has no time limit until f is invoked"))
+        port = int(up.told(r"attach a debugger of \w+ at 127\.0\.0\.1:(\d+)"))
+        seen = []
+
+        def attach():
+            try:
+                seen.append(client_at(port))
+            except OSError:
+                return False
+            return True
+        self.check("a client attaches", until(attach, 60))
+        return seen[0]
+
+    def function(self, runtime, handler):
+        return {"name": "f", "runtime": runtime, "handler": handler, "timeout": 1}
+
+    @unittest.skipUnless(shutil.which("node"), "there is no Node here")
+    def test_node(self):
+        port = free_ports(1, ())[0]
+        up = Up("--debug", f"f:{port}", functions=[self.function("node", "index.run")],
+                files={"index.js": "exports.run = async () => 'done';\n"})
+        client = self.attached(up, Inspector, "Node")
+        for method in ("Debugger.enable", "Runtime.runIfWaitingForDebugger"):
+            client.send(method)
+
+        def goes_on():
+            client.send("Debugger.resume")  # (of use once it has stopped at its first line)
+            return '"idle"' in up.get("/_local/environments")
+        self.check("it is ready then", until(goes_on, 60))
+        self.check("and answers", up.invoke()[0], "done")
+        self.check("at the port that was given", up.has(f"127.0.0.1:{port} "))
+        client.close()
+        self.check("it ends", up.end(), (0, []))
+
+    @unittest.skipUnless(importlib.util.find_spec("debugpy"), "debugpy is not here")
+    def test_python(self):
+        up = Up("--debug", "f", functions=[self.function("python", "app.run")], app=APP, environ={
+            **os.environ, "LAMBDA_LOCAL_PROGRAM": os.environ.get("LAMBDA_LOCAL_PROGRAM", "")})
+        client = self.attached(up, Adapter, "Python")
+        self.check("it is attached", client.is_attached)
+        self.check("it is ready then", until(lambda: '"idle"' in up.get("/_local/environments"), 60))
+        self.check("and answers", up.invoke()[0], "done")
+        client.close()
+        self.check("it ends", up.end(), (0, []))
+
+    def test_without(self):
+        """An interpreter that has no debugpy: what to do is said, and it is there all the same."""
+        with tempfile.TemporaryDirectory() as folder:
+            python = os.path.join(folder, "python")
+            with open(python, "w") as file:
+                file.write(f'#!/bin/sh\ncase "$*" in *"import debugpy"*) exit 1;; esac\nexec {sys.executable} "$@"\n')
+            os.chmod(python, 0o755)
+            up = Up("--debug", "f", functions=[{**self.function("python", "app.run"), "python": python}], app=APP)
+            self.check("what to install is said", up.until(
+                f"f: no debugger is started, since {python} has no debugpy: `{python} -m pip install debugpy`"))
+            self.check("it begins", until(lambda: '"idle"' in up.get("/_local/environments"), 60))
+            self.check("and answers", up.invoke()[0], "done")
+            self.check("it ends", up.end(), (0, []))
+
+    def test_faults(self):
+        with tempfile.TemporaryDirectory() as folder:
+            with open(os.path.join(folder, "up.json"), "w") as file:
+                json.dump({"functions": [self.function("python", "app.run")]}, file)
+            for given, wanted in (("f:x", "write it as F or F:PORT"), ("f:0", "with a port from 1 to 65535"),
+                                  ("g:5678", "up.json has no such function with a command")):
+                done = subprocess.run([LAUNCHER, "up", "--debug", given, "up.json"], cwd=folder, capture_output=True,
+                                      text=True, timeout=60, stdin=subprocess.DEVNULL)
+                self.check(f"refused: {given}", (done.returncode, wanted in done.stderr), (2, True),
+                           shown=done.stderr)

@@ -1,0 +1,236 @@
+"""Checks storms: that a seed makes the same trouble again whatever the timing, within its bounds; what callers get of
+each kind, of lambda_local up and of handlers in a test's process; and who is spared. The program is
+LAMBDA_LOCAL_PROGRAM, else ./lambda_local."""
+import contextlib
+import io
+import re
+import subprocess
+import time
+
+from lambda_local.front.storm import root_of
+from lambda_local.in_process import FunctionError, LambdaLocal
+from lambda_local.storm import INIT, KINDS, SPARED, THROTTLE, Course, Storm, storm_of
+from tests.library.cases import Case
+from tests.library.clock_kit import EVENT, INVOKE, posted
+from tests.library.events_kit import READY, READY_SECONDS
+from tests.library.threads import together
+from tests.library.up_kit import LAUNCHER, Up, until
+
+LINE = re.compile(r"\[up\] storm (\d+): (\w+) #(\d+)(?:, ([0-9a-f-]{36}))?: "
+                  r"(throttle|cold start|timeout|crash|failed Init)( could not be made: .*)?$")
+SUMMARY = re.compile(r"storm \d+: (\d+) of (\d+) invocations had trouble")
+APP = """import os, time, urllib.request
+def run(event):
+    time.sleep(event.get("sleep", 0) if isinstance(event, dict) else 0)
+    return os.getpid()
+def outer(event):
+    inner = os.environ["AWS_ENDPOINT_URL_LAMBDA"] + "/2015-03-31/functions/f/invocations"
+    trace = {"X-Amzn-Trace-Id": os.environ["_X_AMZN_TRACE_ID"]}
+    seen = []
+    for _ in range(3):
+        try:
+            with urllib.request.urlopen(urllib.request.Request(inner, b"{}", trace, method="POST")) as answer:
+                seen.append(answer.headers.get("X-Amz-Function-Error") or answer.status)
+        except urllib.error.HTTPError as fault:
+            seen.append(fault.code)
+    return seen
+"""
+COUNT = 21  # invocations, of which seven meet each kind by this seed
+WHOLE = {"throttle": (429, "ReservedFunctionConcurrentInvocationLimitExceeded"),
+         "timeout": (200, "Task timed out after 900 seconds"),
+         "crash": (200, "Runtime exited with error: signal: killed"),
+         "failed Init": (200, "Runtime exited with error: exit status 1")}
+
+
+def function(name="f", handler="run", **members):
+    return {"name": name, "runtime": "python", "handler": f"app.{handler}", "timeout": 900,
+            "environments": {"min": 1, "max": 4}, **members}
+
+
+def told(up):
+    """What is told of each trouble: the function, its invocation's number, its identifier, the kind, and whether it
+    came about."""
+    found = [LINE.search(line) for line in list(up.lines)]
+    return [(one[2], int(one[3]), one[4], one[5], one[6] is None) for one in found if one]
+
+
+def outcome(up, name="f", body=b"{}", headers={}):
+    status, answer = posted(up.endpoint, INVOKE.format(name), body, headers)
+    return status, answer.decode()
+
+
+class Choices(Case):
+    def test_forms(self):
+        for text, wanted in (("7", Storm(7, 0.1)), ("0:1", Storm(0, 1.0)), ("18446744073709551615:0.25", Storm(
+                2 ** 64 - 1, 0.25)), ("7:0.001", Storm(7, 0.001))):
+            self.check(f"the storm {text}", storm_of(text), wanted)
+        for text in ("", "a", "-1", "+1", "7:", "7:0", "7:1.1", "7:0.0001", "7:1e-1", ":1", "7:.5", "7 ", "\u0667",
+                     "18446744073709551616", "7:0.5:1", "7:nan"):
+            with self.assertRaises(ValueError, msg=text):
+                storm_of(text)
+
+    def test_bounds(self):
+        for rate in (0.1, 0.5, 1.0):
+            courses = [Course(Storm(seed, rate), "f", KINDS) for seed in range(200)]
+            drawn = [[course.next()[1] for _ in range(120)] for course in courses]
+            again = [[course.next()[1] for _ in range(120)]
+                     for course in (Course(Storm(seed, rate), "f", KINDS) for seed in range(200))]
+            self.check(f"{rate}: the same seed draws the same", drawn == again)
+            self.check(f"{rate}: another seed, others", len(set(map(tuple, drawn))), 200)
+            apart = all(later - before > SPARED for one in drawn for before, later in zip(
+                [at for at, kind in enumerate(one) if kind], [at for at, kind in enumerate(one) if kind][1:]))
+            self.check(f"{rate}: whoever tries again is spared", apart)
+            found = [kind for one in drawn for kind in one if kind]
+            # (each one that may have trouble has it with this probability, and spares two)
+            share, wanted = len(found) / (120 * 200), rate / (1 + SPARED * rate)
+            self.check(f"{rate}: as often as it says", abs(share - wanted) < 0.1 * wanted, shown=(share, wanted))
+            self.check(f"{rate}: each kind as often as the others", all(
+                abs(found.count(kind) / len(found) - 1 / len(KINDS)) < 0.05 for kind in KINDS))
+        one, other = (Course(Storm(7, 0.5), name, KINDS) for name in ("f", "g"))
+        self.check("functions have storms of their own", [one.next() for _ in range(99)] != [
+            other.next() for _ in range(99)])
+        by_hand = Course(Storm(7, 1.0), "f", (THROTTLE,))
+        self.check("what cannot be made is not drawn", {by_hand.next()[1] for _ in range(30)}, {THROTTLE, None})
+
+    def test_roots(self):
+        for trace, wanted in (("Root=1-2-3;Parent=4;Sampled=1", "1-2-3"), ("Self=1-1-1;Root=1-2-3", "1-2-3"),
+                              ("Parent=4", None), ("", None), ("NotRoot=1", None)):
+            self.check(f"the root of {trace!r}", root_of([("X-Amzn-Trace-Id", trace)]), wanted)
+
+
+class OfUp(Case):
+    def started(self, *functions, storm="7:1", whole={}):
+        up = Up(*READY, "--storm", storm, functions=list(functions) or [function()], app=APP, whole=whole)
+        self.check("it is ready", up.until("[up] ready", READY_SECONDS))
+        return up
+
+    def test_again(self):
+        """One caller after the other, and three at once: the n-th invocation meets the same."""
+        seen, met = [], set()
+        for at_once in (1, 3):
+            up = self.started(storm="4:1")
+            if at_once == 1:
+                answers = [outcome(up) for _ in range(COUNT) if self.rests(up)]
+                for _, number, _, kind, has_come in told(up):
+                    status, text = answers[number - 1]
+                    met.add(kind)
+                    wanted = WHOLE.get(kind, (200, ""))
+                    self.quietly(f"#{number}: {kind}", has_come and status == wanted[0] and wanted[1] in text,
+                                 (kind, status, text))
+                had = [one[1] for one in told(up)]
+                self.check("all others get their result", [answer for number, answer in enumerate(answers, 1)
+                                                           if number not in had and not answer[1].isdigit()], [])
+            else:
+                for _ in range(COUNT // at_once):
+                    together(*at_once * [lambda: outcome(up)])
+            self.check("its end has a summary", up.end()[1], [])
+            lines = told(up)
+            seen.append(sorted((one[0], one[1], one[3]) for one in lines))
+            self.check("with as many as were told", [int(number) for number in SUMMARY.findall("\n".join(up.lines))[0]],
+                       [sum(one[4] for one in lines), COUNT])
+            # (among callers at once another's environment may be free first: that is told)
+            self.check("most came about", sum(one[4] for one in lines) >= (1.0 if at_once == 1 else 0.5) * len(lines),
+                       shown=lines)
+        self.check("the same for the same invocations", seen[1], seen[0])
+        self.check("of each kind", met, {"throttle", "cold start", "timeout", "crash", "failed Init"}, shown=seen[0])
+
+    def rests(self, up):
+        """An Init is over before the next invocation, which would wait for it, on a slow machine too."""
+        return until(lambda: '"idle"' in up.get("/_local/environments"), 60)
+
+    def quietly(self, name, holds, shown):
+        if not holds:
+            self.check(name, False, shown=shown)
+
+    def test_spared(self):
+        up = self.started(function(), function("g"), function("outer", "outer"),
+                          whole={"asynchronous": {"delays": [0.1]}})
+        for _ in range(8):
+            self.quietly("an event is taken", posted(up.endpoint, INVOKE.format("g"), b"{}", EVENT)[0] == 202, "")
+        self.check("each event comes through, since its retries are spared", until(
+            lambda: up.count(r"\[g\] event .* ok after") == 8, 60))
+        self.check("though some had trouble", bool([one for one in told(up) if one[0] == "g"]))
+        count = len(told(up))
+        self.check("who says so is spared", {outcome(up, headers={"Lambda-Local-Again": "1"})[0] for _ in range(8)},
+                   {200})
+        self.check("and not counted", len(told(up)), count)
+        came = []
+        for _ in range(6):
+            before = len([one for one in told(up) if one[0] == "f"])
+            outcome(up, "outer")
+            came.append(len([one for one in told(up) if one[0] == "f"]) - before)
+        self.check("what a function invokes has trouble once for each of its own at most",
+                   (max(came), sum(came) > 0), (1, True), shown=came)
+        self.check("a caller's reservation stays", [posted(up.endpoint, "/_local/stats")[0] > 0,
+                                                    up.get("/2019-09-30/functions/f/concurrency")], [True, "{}"])
+        self.check("it ends", up.end()[1], [])
+
+    def test_by_hand(self):
+        """What up has not started can only be throttled; a name that there is not is as ever."""
+        up = Up("--storm", "3:1", functions=[{"name": "f", "timeout": 900, "ports": [0]}], app=APP)
+        self.check("it is there", up.until("callers: "))
+        found = outcome(up)
+        self.check("a throttle", found[0] == 429 and "ReservedFunctionConcurrent" in found[1], shown=found)
+        self.check("no function", outcome(up, "h")[0], 404)
+        self.check("one line", [one[1:] for one in told(up)][:1], [(1, told(up)[0][2], "throttle", True)])
+        self.check("it ends", up.end()[1], [])
+
+    def test_faults(self):
+        for words, wanted in ((["--storm", "x"], "--storm: invalid SEED[:RATE]"),
+                              (["--storm", "7:2"], "--storm: invalid SEED[:RATE]"),
+                              (["--storm", "7", "--debug", "f"], "--storm and --debug: ")):
+            done = subprocess.run([LAUNCHER, "up", *words, "up.json"], capture_output=True, text=True, timeout=60,
+                                  stdin=subprocess.DEVNULL)
+            self.check(f"refused: {' '.join(words)}", (done.returncode, wanted in done.stderr), (2, True),
+                       shown=done.stderr)
+
+
+def storm_over(service, count):
+    """What each invocation comes to, and the lines on standard error."""
+    seen, lines = [], io.StringIO()
+    with contextlib.redirect_stderr(lines):
+        with service:
+            for number in range(count):
+                try:
+                    seen.append(service.invoke("f", number) == number)
+                except FunctionError as fault:
+                    seen.append(fault.report["errorType"])
+    return seen, lines.getvalue()
+
+
+class OfTest(Case):
+    def service(self, storm, **words):
+        service = LambdaLocal()
+        service.storm = storm
+        return service.start({"f": {"timeout": 900}}, f=lambda event: event, **words)
+
+    def test_in_process(self):
+        began = time.monotonic()
+        seen, lines = storm_over(self.service("4:1"), COUNT)
+        again, _ = storm_over(self.service("4:1", asynchronous=True), COUNT)
+        self.check("the same seed, the same course", again, seen)
+        self.check("timeouts of 900 s take none of it", time.monotonic() - began < 200)
+        self.check("each kind is in it", {"TooManyRequestsException", "Function.Timeout", "Runtime.ExitError",
+                                          True} <= set(seen), shown=seen)
+        drawn = Course(Storm(4, 1.0), "f", KINDS)
+        wanted = {"throttle": "TooManyRequestsException", "timeout": "Function.Timeout", "cold": True, None: True,
+                  "crash": "Runtime.ExitError", INIT: "Runtime.ExitError"}
+        self.check("in the order of lambda_local up", seen, [wanted[drawn.next()[1]] for _ in range(COUNT)])
+        self.check("the end says how many", SUMMARY.search(lines)[2], str(COUNT))
+        self.check("and each has a line", len(re.findall(r"storm 4: f #", lines)), int(SUMMARY.search(lines)[1]))
+        for storm in ("x", -1, True, 7.5, "7:2"):
+            try:
+                self.service(storm)
+                self.check(f"no storm: {storm}", False)
+            except ValueError as fault:
+                self.check(f"no storm: {storm}", str(fault).startswith("storm: "), shown=fault)
+
+    def test_events(self):
+        service = self.service("7:1", asynchronous={"delays": [0.01]})
+        with contextlib.redirect_stderr(io.StringIO()):
+            with service:
+                for _ in range(10):
+                    posted(service.endpoint_url, INVOKE.format("f"), b"1", EVENT)
+                    self.check("an event comes through", service.settled(30))
+                self.check("though some failed or were throttled", service.stats()["failed"] +
+                           service.stats()["throttled"] > 0)
