@@ -9,12 +9,12 @@ use Rattle.request_guard.specs.declared.refusal.Refusal.{Refusal}
 use Rattle.request_guard.specs.declared.refusal.Refusal.TheVariants.{MalformedHost, FromPage, ForeignHost}
 use Rattle.request_guard.specs.declared.refusal.Refusal.TheVariants.{ForeignCoding, BrokenBody, OutOfMemory}
 
--- Whether a refusal ends the connection after its reply, whatever is left of the request. (After a broken body, the
--- connection ends by itself.)
+-- Whether a refusal ends the connection after its reply, whatever is left of the request: what is refused by its head
+-- may have a body, which nobody reads. (After a broken body, the connection ends by itself.)
 abbrev pub closes : Refusal → Bool
-closes MalformedHost = false
-closes FromPage = false
-closes ForeignHost = false
+closes MalformedHost = true
+closes FromPage = true
+closes ForeignHost = true
 closes ForeignCoding = true
 closes BrokenBody = false
 closes OutOfMemory = true

@@ -29,16 +29,19 @@ pub enum Refusal {
 }
 
 impl Refusal {
-    /// Returns whether the connection ends after the reply, whatever is left of the request.
+    /// Returns whether the connection ends after the reply, whatever is left of the request. Each refusal by a head
+    /// ends it, and says so (RFC 9112, section 9.6): the body is left unread, so a further request could be lost
+    /// behind it.
     pub fn closes(self) -> bool
         ensures { result ≡ spec.closes self }
     {
         match self {
-            Refusal::ForeignCoding | Refusal::OutOfMemory => true,
             Refusal::MalformedHost
             | Refusal::FromPage
             | Refusal::ForeignHost
-            | Refusal::BrokenBody => false,
+            | Refusal::ForeignCoding
+            | Refusal::OutOfMemory => true,
+            Refusal::BrokenBody => false,
         }
     }
 }
