@@ -7,7 +7,9 @@ import subprocess
 import sys
 import threading
 import time
+from unittest import mock
 
+from lambda_local import endpoint
 from lambda_local.in_process import LambdaLocal
 from lambda_local.program import Fault
 from lambda_local.trouble import Trouble as Asking, parser
@@ -47,7 +49,7 @@ class Answers(http.server.BaseHTTPRequestHandler):
         self.send_response(status)
         self.send_header("Content-Length", str(len(body)))
         self.end_headers()
-        self.wfile.write(body)
+        self.wfile.write(body[:len(body) - self.server.cut])
 
     do_POST = do_PUT = do_DELETE = do_GET
 
@@ -143,6 +145,7 @@ class Trouble(Case):
     def test_other_answers(self):
         """A server that is none of lambda_local, or lies: one line."""
         server = http.server.ThreadingHTTPServer(("127.0.0.1", 0), Answers)
+        server.cut = 0
         thread = threading.Thread(target=server.serve_forever)
         thread.start()
         environment = b'{"environments":[{"function":"f","phase":"idle","environment":%b}]}'
@@ -156,6 +159,15 @@ class Trouble(Case):
                          b'{"ReservedConcurrentExecutions":1e999}', b'{"ReservedConcurrentExecutions":-1}'):
                 server.answer = 200, body
                 self.check(f"throttle: {body[:40]!r}", fault_of("throttle", server), (4, ODD))
+            server.answer = 200, b" " * 20
+            with mock.patch.object(endpoint, "MOST_ANSWER", 19):
+                self.check("an answer that is too long", fault_of("cold", server), (
+                    4, f"http://127.0.0.1:{server.server_port}: its answer has more than 19 bytes, so it is none of "
+                       "lambda_local"))
+            server.cut = 3
+            self.check("one that is cut short", fault_of("cold", server)[1].partition(": start")[0],
+                       f"http://127.0.0.1:{server.server_port}: IncompleteRead(17 bytes read, 3 more expected)")
+            server.cut = 0
             server.answer = 202, b"["
             self.check("crash", fault_of("crash", server)[0], 3)
             server.answer = 200, b"["

@@ -10,6 +10,7 @@ from urllib.parse import urlsplit
 from .service import Fault
 
 NOWHERE = "http://127.0.0.1:9000"
+MOST_ANSWER = 64 << 20  # bytes
 Answer = Tuple[int, Message, bytes]  # status, headers and body
 
 
@@ -40,7 +41,13 @@ def asked(endpoint: Optional[str], method: str, target: str, body: bytes = b"", 
     try:
         connection.request(method, path + target, body, dict(headers))
         answer = connection.getresponse()
-        return answer.status, answer.headers, answer.read()
+        content = answer.read(MOST_ANSWER + 1)
+        if len(content) > MOST_ANSWER:
+            raise Fault(4, f"http://{host}:{port}: its answer has more than {MOST_ANSWER:,} bytes, so it is none of "
+                           "lambda_local")
+        if answer.length:  # (it has ended before the length that it has said: a read of so many bytes does not tell)
+            raise http.client.IncompleteRead(content, answer.length)
+        return answer.status, answer.headers, content
     except (OSError, http.client.HTTPException) as fault:
         reason = getattr(fault, "strerror", None) or str(fault) or type(fault).__name__
         raise Fault(4, f"http://{host}:{port}: {reason}: start the service, for example by `lambda_local up UP.json`, "
