@@ -50,7 +50,8 @@ OF_FUNCTION: Dict[str, Tuple[Members, str]] = {
     "a command of numbers": ({"command": [1]}, "command must be a string, or a list of strings, not [1]"),
     "an empty command": ({"command": ""}, 'command must be a string, or a list of strings, not ""'),
     "an open quote": ({"command": "a 'b"}, 'command: "a \'b": No closing quotation'),
-    "another runtime": ({"runtime": "ruby"}, 'runtime must be "python" or "node", not "ruby"'),
+    "another runtime": ({"runtime": "ruby"}, 'runtime must be "python" or "node" (another language has a "command"), '
+                                             'not "ruby"'),
     "a runtime and a command": ({"runtime": "python"}, "it has a runtime and a command: leave one of the two out"),
     "an extension without a command": ({"extensions": {"x": 5}},
                                        "extensions must be an object: the name by which each registers, and its "

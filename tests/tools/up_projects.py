@@ -189,7 +189,8 @@ class UpProjects(Case):
     def test_wrong_members(self):
         base: Members = {"name": "f", "runtime": "python", "handler": "app.run"}
         mistakes: Tuple[Tuple[Members, str], ...] = (
-            ({"runtime": "ruby3.2"}, 'function f: runtime must be "python" or "node", not "ruby3.2"'),
+            ({"runtime": "ruby3.2"},
+             'function f: runtime must be "python" or "node" (another language has a "command"), not "ruby3.2"'),
             ({"init": 0}, "function f: init must be a whole number of seconds, from 1 to 900, not 0"),
             ({"layers": "x"}, 'function f: layers must be a list of folders and .zip files, not "x"'),
             ({"python": ""}, 'function f: python must be a string: a Python interpreter, not ""'),

@@ -54,7 +54,7 @@ OF_ENVIRONMENTS = {
 }
 OWN = {
     "command": Kind(is_command, "a string, or a list of strings"),
-    "runtime": Kind(programs.is_runtime, '"python" or "node"'),
+    "runtime": Kind(programs.is_runtime, '"python" or "node" (another language has a "command")'),
     "python": Kind(lambda value: is_text(value) and value != "", "a string: a Python interpreter"),
     "environments": Kind(lambda value: is_count(value) or isinstance(value, dict),
                          "a whole number from 1 to 256, or an object with \"min\" and \"max\""),
