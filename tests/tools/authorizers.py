@@ -263,7 +263,8 @@ class Authorizers(Case):
         for pattern, count in (("*" + "a" * 20 + "b", 250), ("*" + "a" * 20 + "b*", 250), ("*" + "a" * 20 + "?b*", 250),
                                ("*a" * 2000 + "b", 2), ("*" + "a" * 4000 + "?b*", 2)):
             begun = time.process_time()
-            verdict = verdict_of({"Statement": [{"Effect": "Allow", "Action": "*", "Resource": [pattern] * count}]}, arn)
+            statement = {"Effect": "Allow", "Action": "*", "Resource": [pattern] * count}
+            verdict = verdict_of({"Statement": [statement]}, arn)
             self.check(f"{pattern[:30]}: it allows nothing", verdict, Verdict.NOT_ALLOWED)
             took = time.process_time() - begun
             self.check("and takes no time", took < 5, shown=f"({took:.2f} s)")

@@ -118,8 +118,8 @@ class Files(Case):
             for name in ("clock", "clock.new"):
                 os.symlink("other", os.path.join(folder, name))
             renew(path, "1\n")
-            self.check("a link is replaced, and does not lead on", (os.path.islink(path), content(path), content(other)),
-                       (False, "1\n", "kept"))
+            self.check("a link is replaced, and does not lead on",
+                       (os.path.islink(path), content(path), content(other)), (False, "1\n", "kept"))
             for name in ("clock", "clock.new"):
                 os.unlink(os.path.join(folder, name))
                 os.mkfifo(os.path.join(folder, name))

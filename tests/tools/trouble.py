@@ -36,8 +36,8 @@ def trouble(*words, endpoint):
     return done.returncode, done.stdout, done.stderr
 
 
-ODD = ("f: the service answers something else than lambda_local does: name the address that `lambda_local up` prints by "
-       "--endpoint")
+ODD = ("f: the service answers something else than lambda_local does: name the address that `lambda_local up` prints "
+       "by --endpoint")
 
 
 class Answers(http.server.BaseHTTPRequestHandler):
