@@ -15,6 +15,8 @@ LIES: Dict[str, Tuple[str, str, str, str]] = {
     "ci_files": ("image", "tools/packages/folder.py", "launched(XDG_CACHE_HOME=folder)", "launched(HOME=folder) + 'x'"),
     "clock": ("times", OF_TOOLS + "clock/durations.py", "        if UNITS[unit] >= before:\n", "        if False:\n"),
     "trouble": ("faults", OF_TOOLS + "trouble.py", 'options.kind not in REPORTS:', 'options.kind in REPORTS:'),
+    "storm": ("bounds", OF_TOOLS + "storm.py", "            self.spared = SPARED\n", "            self.spared = 0\n"),
+    "debuggers": ("without_pytest", OF_TOOLS + "held.py", "        HELD.enter()\n", "        pass\n"),
     "up_clock": ("age", OF_TOOLS + "front/queue.py", "        if self.age(event) > (oldest",
                  "        if self.age(event) > 9 * (oldest"),
     "troubles": ("crashes", OF_TOOLS + "in_process.py",

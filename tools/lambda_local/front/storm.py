@@ -51,7 +51,8 @@ class Trouble:
         self.is_over = self.is_released = self.is_reserved = False
         self.reserved: Optional[int] = None  # what the reservation was, if it has to be put back
         self.order: Optional[Order] = None
-        self.outcome: Optional[Outcome] = None  # that waits for the answer, which has the invocation's identifier
+        self.identifier = ""  # the invocation's, once its answer has come
+        self.outcome: Optional[Outcome] = None  # that waits for it
 
     def release(self) -> None:
         """Others of the function may be sent."""
@@ -176,12 +177,13 @@ class Gate:
 
     async def answered(self, trouble: Trouble, answer: Answer) -> None:
         """The head of the answer has come."""
-        identifier, said = first(answer.headers, "x-amzn-requestid") or "", f"it was answered {answer.status}"
+        trouble.identifier = identifier = first(answer.headers, "x-amzn-requestid") or ""
+        said = f"it was answered {answer.status}"
         if trouble.kind == THROTTLE or answer.status != 200:
             has_come = trouble.kind == THROTTLE and trouble.is_reserved and answer.status == 429
             await self.end(trouble, Outcome(has_come, identifier, said))
         elif trouble.outcome:
-            self.over(trouble, trouble.outcome._replace(request=identifier))
+            self.over(trouble, trouble.outcome)
 
     async def end(self, trouble: Trouble, outcome: Outcome) -> None:
         """Nothing of it is left after this."""
@@ -195,7 +197,7 @@ class Gate:
             self.over(trouble, trouble.outcome or outcome)
 
     def progress(self, trouble: Trouble, outcome: Optional[Outcome]) -> None:
-        if outcome is None or outcome.has_come and not outcome.request:
+        if outcome is None or outcome.has_come and not (outcome.request or trouble.identifier):
             trouble.outcome = outcome
             trouble.release()
         else:
@@ -211,12 +213,12 @@ class Gate:
             self.tally.made[trouble.kind] += 1
         else:
             self.tally.passed_over += 1
-        which = f"{self.storm.name}: {trouble.function} #{trouble.number}" + f", {outcome.request}" * bool(
-            outcome.request)
+        request = outcome.request or trouble.identifier
+        which = f"{self.storm.name}: {trouble.function} #{trouble.number}{', ' if request else ''}{request}"
         why = "" if outcome.has_come else f" could not be made: {outcome.why}"
         self.log("up", f"{which}: {WORDS[trouble.kind]}{why}", level="warning", kind="storm", function=trouble.function,
                  number=trouble.number, trouble=trouble.kind, seed=self.storm.seed, rate=self.storm.rate,
-                 request=outcome.request or None, made=outcome.has_come)
+                 request=request or None, made=outcome.has_come)
 
     # ---- for what moves the clock ------------------------------------------------------------------------------------
 
