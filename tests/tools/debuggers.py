@@ -1,17 +1,14 @@
 """Checks that a debugger may stand: the clock is paused at a breakpoint of a test or a handler and goes on after it,
 and `lambda_local up --debug` starts Node's inspector, or debugpy where it is installed. The program is
 LAMBDA_LOCAL_PROGRAM, else ./lambda_local."""
-import base64
 import importlib.util
 import json
 import os
 import shutil
 import socket
-import struct
 import subprocess
 import sys
 import tempfile
-import threading
 import unittest
 import urllib.request
 
@@ -54,53 +51,16 @@ def run(words, text, **given):
     return done.returncode, done.stdout
 
 
-class Inspector:
-    """A client of Node's inspector: WebSocket, as much as it takes."""
-
-    def __init__(self, port):
-        with urllib.request.urlopen(f"http://127.0.0.1:{port}/json/list", timeout=30) as answer:
-            path = json.load(answer)[0]["webSocketDebuggerUrl"].partition(f":{port}")[2]
-        self.socket = socket.create_connection(("127.0.0.1", port), 30)
-        self.socket.sendall((f"GET {path} HTTP/1.1\r\nHost: 127.0.0.1:{port}\r\nUpgrade: websocket\r\nConnection: "
-                             f"Upgrade\r\nSec-WebSocket-Key: {base64.b64encode(bytes(16)).decode()}\r\n"
-                             "Sec-WebSocket-Version: 13\r\n\r\n").encode())
-        self.count = 0
-
-    def send(self, method):
-        self.count += 1
-        text = json.dumps({"id": self.count, "method": method}).encode()
-        self.socket.sendall(b"\x81" + struct.pack("!B", 0x80 | len(text)) + bytes(4) + text)
-
-    def close(self):
-        self.socket.close()
+def inspected(port):
+    """What Node's inspector says of the program that it holds."""
+    with urllib.request.urlopen(f"http://127.0.0.1:{port}/json/list", timeout=30) as answer:
+        return json.load(answer)[0]
 
 
-class Adapter:
-    """A client of debugpy: attaches, and says that it has no breakpoints."""
-
-    def __init__(self, port):
-        self.socket = socket.create_connection(("127.0.0.1", port), 30)
-        self.count, self.seen = 0, b""
-        threading.Thread(target=self.read, daemon=True).start()
-        self.send("initialize", {"adapterID": "python", "clientID": "test"})
-        self.send("attach", {"justMyCode": False})
-        self.is_attached = until(lambda: b'"initialized"' in self.seen, 60)
-        self.send("configurationDone", {})
-
-    def send(self, command, arguments):
-        self.count += 1
-        body = json.dumps({"seq": self.count, "type": "request", "command": command, "arguments": arguments}).encode()
-        self.socket.sendall(b"Content-Length: %d\r\n\r\n%b" % (len(body), body))
-
-    def read(self):
-        try:
-            while data := self.socket.recv(65536):
-                self.seen += data
-        except OSError:
-            pass
-
-    def close(self):
-        self.socket.close()
+def connected(port):
+    """Whether somebody listens there."""
+    socket.create_connection(("127.0.0.1", port), 30).close()
+    return True
 
 
 class Breakpoints(Case):
@@ -163,28 +123,18 @@ class OfUp(Case):
         port = free_ports(1, ())[0]
         up = Up("--debug", f"f:{port}", functions=[self.function("node", "index.run")],
                 files={"index.js": "exports.run = async () => 'done';\n"})
-        client = self.attached(up, Inspector, "Node")
-        for method in ("Debugger.enable", "Runtime.runIfWaitingForDebugger"):
-            client.send(method)
-
-        def goes_on():
-            client.send("Debugger.resume")  # (of use once it has stopped at its first line)
-            return '"idle"' in up.get("/_local/environments")
-        self.check("it is ready then", until(goes_on, 60))
-        self.check("and answers", up.invoke()[0], "done")
+        held = self.attached(up, inspected, "Node")
+        self.check("it holds the runtime", held["url"].endswith("runtime.mjs"), shown=held)
+        self.check("which has not begun", '"idle"' in up.get("/_local/environments"), False)
         self.check("at the port that was given", up.has(f"127.0.0.1:{port} "))
-        client.close()
         self.check("it ends", up.end(), (0, []))
 
     @unittest.skipUnless(importlib.util.find_spec("debugpy"), "debugpy is not here")
     def test_python(self):
         up = Up("--debug", "f", functions=[self.function("python", "app.run")], app=APP, environ={
             **os.environ, "LAMBDA_LOCAL_PROGRAM": os.environ.get("LAMBDA_LOCAL_PROGRAM", "")})
-        client = self.attached(up, Adapter, "Python")
-        self.check("it is attached", client.is_attached)
-        self.check("it is ready then", until(lambda: '"idle"' in up.get("/_local/environments"), 60))
-        self.check("and answers", up.invoke()[0], "done")
-        client.close()
+        self.check("it listens", self.attached(up, connected, "Python"))
+        self.check("the runtime has not begun", '"idle"' in up.get("/_local/environments"), False)
         self.check("it ends", up.end(), (0, []))
 
     def test_without(self):
