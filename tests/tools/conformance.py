@@ -153,11 +153,21 @@ def in_shapes():
     if shutil.which("perl"):
         yield "a Perl client", ["perl", os.path.join(SHAPES, "perl_tiny.pl")]
         yield "a Node client by fetch", ["node", os.path.join(SHAPES, "fetch.mjs")]
+    yield from interpreted()
     tables: Tuple[Tuple[str, Iterable[str]], ...] = (
         ("shapes.py", shapes.SHAPES), ("clients.py", clients.CLIENTS), ("libraries.py", libraries.LIBRARIES))
     for file, names in tables:
         for name in names:
             yield f"a client in the shape of {name}", [*PYTHON, os.path.join(SHAPES, file), name]
+
+
+def interpreted():
+    """The runtimes of examples/conformance that need not be compiled."""
+    for file, language, *looks in (("runtime.tcl", "tclsh"), ("runtime.rb", "ruby"),
+                                   ("runtime.lua", "lua5.4", "-e", 'require "socket"')):
+        if shutil.which(language) and not (looks and subprocess.run([language, *looks], stderr=subprocess.DEVNULL,
+                                                                    timeout=60).returncode):
+            yield file, [language, os.path.join(HANDLERS, file)]
 
 
 def extensions_in_shapes():
@@ -187,11 +197,11 @@ def shipped_extension():
     return Run("extension", "--name", "extension.py", "--", sys.executable, os.path.join(EXAMPLES, "extension.py"))
 
 
-def in_go():
-    """The kit's runtime in Go."""
+def compiled(file, *compiler):
+    """A runtime of examples/conformance that is compiled first."""
     with tempfile.TemporaryDirectory() as folder:
         built = os.path.join(folder, "bootstrap")
-        subprocess.run(["go", "build", "-o", built, "conformance.go"], cwd=HANDLERS, check=True, timeout=300,
+        subprocess.run([*compiler, "-o", built, file], cwd=HANDLERS, check=True, timeout=300,
                        env={"GOCACHE": os.path.join(folder, "cache"), **os.environ})
         return Run("runtime", "--", built)
 
@@ -223,6 +233,9 @@ def jobs_of_shapes():
     if shutil.which("javac"):
         for kind, options in (("new", ("--invocations", "100")), ("old", ())):
             yield Job("sound", in_java, (kind, *options), "passes", (f"a Java client ({kind})",))
+    for file, *compiler in (("runtime.c", "cc", "-O2"), ("runtime.rs", "rustc", "-O")):
+        if shutil.which(compiler[0]):
+            yield Job("sound", compiled, (file, *compiler), "passes", (file,))
     for name, command in in_shapes():
         yield Job("sound", other_runtime, command, "passes", (name,))
     for name, command in extensions_in_shapes():
@@ -232,7 +245,7 @@ def jobs_of_shapes():
 def jobs():
     """All of them. First come those that take longest: so none of them is the last one to begin."""
     if shutil.which("go"):
-        yield Job("shipped", in_go, (), "passes", ("conformance.go",))
+        yield Job("shipped", compiled, ("conformance.go", "go", "build"), "passes", ("conformance.go",))
     for name, command in shipped():
         yield Job("shipped", shipped_runtime, command, "passes", (name,))
     yield Job("shipped", shipped_extension, (), "passes", ("extension.py",))
