@@ -40,7 +40,7 @@ function parsed(text) {
 }
 
 class Service {
-  // `host` is what serves: its endpointUrl, child and end(). `isOfFile` says that functions have processes of their own.
+  // `host` is what serves: its endpointUrl, child and end(). `isOfFile`: functions have processes of their own.
   constructor(host, options, leaveSandbox, isOfFile = false) {
     Object.assign(this, { endpointUrl: host.endpointUrl, urls: host.urls ?? {} });
     this.clock = new Clock((method, route) => {

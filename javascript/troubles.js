@@ -1,6 +1,6 @@
 "use strict";
-// Trouble that a test calls for by name (docs/trouble.md): what Lambda does if a function takes too long, ends or starts
-// anew. No handler is changed; what callers get is the service's.
+// Trouble that a test calls for by name (docs/trouble.md): what Lambda does if a function takes too long, ends or
+// starts anew. No handler is changed; what callers get is the service's.
 const { setTimeout: sleep } = require("node:timers/promises");
 const { FunctionError } = require("./function_error.js");
 
@@ -24,7 +24,8 @@ class Troubles {
     const all = await this.environments();
     const own = all.filter((one) => one.function === name).map((one) => one.environment);
     if (own.length) return own;
-    throw new Error(`there is no function ${name}: there are ${[...new Set(all.map((one) => one.function))].join(", ")}`);
+    const names = [...new Set(all.map((one) => one.function))];
+    throw new Error(`there is no function ${name}: there are ${names.join(", ")}`);
   }
 
   async environment(number) {

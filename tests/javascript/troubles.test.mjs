@@ -1,4 +1,4 @@
-// Trouble by name: timeouts, crashes, cold starts and slow Inits, of handlers in this process and of a file's functions.
+// Trouble by name: timeouts, crashes, cold starts and slow Inits, of handlers here and of a file's functions.
 import assert from "node:assert/strict";
 import fs from "node:fs";
 import os from "node:os";
