@@ -261,7 +261,7 @@ class LambdaLocal(Troubled):
             front.serve(self.service, weather=self.weather(storm, list(handlers)))
             self.front = front
             if (gate := front.gate) and self.maker:
-                self.maker.still, self.maker.sent = functools.partial(gate.still, front.loop), lambda: gate.sent
+                self.maker.still, self.maker.sent = functools.partial(gate.still, front.loop), gate.unanswered
         self.endpoint_url = self.service.endpoint_url
         self.sandbox = Sandbox(self.service, variables, keep_credentials, self.patches)
         for (_, memory), part in zip(parts, self.service.configuration["functions"]):

@@ -18,6 +18,11 @@ class Position(NamedTuple):
     is_over: bool = False  # a closed shard, of which all is done
 
 
+def _members(position: Position) -> Dict[str, object]:
+    over: Dict[str, object] = {"over": True} if position.is_over else {}
+    return {"after": position.after, **over}
+
+
 class Checkpoints:
     """Those of one stream. `positions` are of the stream with the identity; a fault of the file is a Fault."""
 
@@ -74,8 +79,7 @@ class Checkpoints:
         if not self.is_changed or not now and time.monotonic() - self.written_at < BETWEEN_WRITES:
             return
         whole = {"stream": self.identity, "shards": {
-            shard: {"after": position.after, **({"over": True} if position.is_over else {})}
-            for shard, position in sorted(self.positions.items())}}
+            shard: _members(position) for shard, position in sorted(self.positions.items())}}
         self.written_at = time.monotonic()
         with written(os.path.abspath(self.path), has_payloads=False) as file:
             json.dump(whole, file, indent=1)

@@ -96,7 +96,7 @@ def takes(pattern: Mapping[str, Any], event: object) -> bool:
 def fits(wanted: object, value: object) -> bool:
     """Whether a value is as one of a pattern's list says; of a list, one of its items."""
     if isinstance(wanted, dict) and "exists" in wanted:
-        return (value is not ABSENT and not isinstance(value, dict)) == wanted["exists"]
+        return (value is not ABSENT and not isinstance(value, dict)) is bool(wanted["exists"])
     if isinstance(value, list):
         return any(fits(wanted, one) for one in value)
     if not is_simple(value):
@@ -111,8 +111,8 @@ def fits(wanted: object, value: object) -> bool:
         return is_other(given, value)
     if not isinstance(value, str):
         return False
-    return (value.startswith(given) if name == "prefix" else value.endswith(given) if name == "suffix"
-            else value.casefold() == given.casefold())
+    return bool(value.startswith(given) if name == "prefix" else value.endswith(given) if name == "suffix"
+                else value.casefold() == given.casefold())
 
 
 def is_other(given: Any, value: object) -> bool:

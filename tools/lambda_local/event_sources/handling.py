@@ -37,7 +37,7 @@ class Handling:
 
     def say(self, text: str, level: str = "info", **members: object) -> None:
         self.log(self.stream.function, f"{self.name}: {text}", level=level, kind="stream",
-                 function=self.stream.function, **members)
+                 always=False, function=self.stream.function, **members)
 
     def note(self, shard: Shard) -> None:
         """Keeps a shard's position, if positions are kept."""

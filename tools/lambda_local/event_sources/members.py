@@ -39,7 +39,7 @@ OF_STREAM = {
     "partial": YES,
     "onFailure": Kind(lambda value: isinstance(value, str) and ARN.fullmatch(value) is not None,
                       f"a string: the ARN of an SQS queue or an SNS topic, such as \"{QUEUE}\""),
-    "checkpoint": Kind(lambda value: is_text(value) and value != "" and "\0" not in value,
+    "checkpoint": Kind(lambda value: isinstance(value, str) and is_text(value) and value != "" and "\0" not in value,
                        "a string: a file in which positions are kept"),
 }
 OF_TOPIC = {
@@ -132,7 +132,7 @@ def mistakes(whole: Dict[str, Any]) -> Iterator[str]:
                 if is_text(path) and path in kept:
                     yield (f"function {member['name']}: {name}: {place}checkpoint: {shown(path)} is that of "
                            f"{kept[path]}: each stream has a file of its own")
-                kept.update({path: f"function {member['name']}"} if is_text(path) else {})
+                kept.update({path: f"function {member['name']}"} if isinstance(path, str) else {})
         if "topic" in member and whole.get("asynchronous") is False:
             yield (f'function {member["name"]}: topic: it sends events, which "asynchronous": false refuses: leave one '
                    "of the two out")

@@ -249,5 +249,6 @@ class DynamoDb:
 
 
 def server_of(client: Any, stream: Stream, region: str, account: str) -> Server:
-    return (Kinesis(client, stream, region, account) if stream.service == KINESIS
-            else DynamoDb(client, stream, region))
+    if stream.service == KINESIS:
+        return Kinesis(client, stream, region, account)
+    return DynamoDb(client, stream, region)

@@ -52,7 +52,7 @@ class Subscriber(threading.Thread):
 
     def say(self, text: str, level: str = "info", **members: object) -> None:
         self.log(self.topic.function, f"topic {self.topic.name}: {text}", level=level, kind="topic",
-                 function=self.topic.function, **members)
+                 always=False, function=self.topic.function, **members)
 
     @property
     def is_held(self) -> bool:

@@ -140,9 +140,9 @@ def of_event(mapped: FunctionRoute, api: Members, function: str, names: Collecti
         tell(f"ignores the authorizer {excerpt(name)} of {mapped.key} of {function}, which takes each caller" + (
             "" if name == IAM else f": {where} has none of this name"))
         return None
-    scopes = [str(one) for one in scopes] if isinstance(scopes, list) else []
-    return once(f"the authorizer {name} of {where}", scopes, told, lambda at: of_sam(
-        Reader(listed[name], at, mapped.of.is_rest, names, scope), scopes))
+    wanted_scopes, raw = [str(one) for one in scopes] if isinstance(scopes, list) else [], listed[name]
+    return once(f"the authorizer {name} of {where}", wanted_scopes, told, lambda at: of_sam(
+        Reader(raw, at, mapped.of.is_rest, names, scope), wanted_scopes))
 
 
 def once(where: str, scopes: List[str], told: Dict[str, Optional[Members]],

@@ -148,7 +148,8 @@ def of_serverless(events: object, scope: Scope, tell: Tell) -> Iterator[Optional
             whole = event["stream"] if isinstance(event["stream"], dict) and "arn" in event["stream"] else {
                 "arn": event["stream"]}
             renamed: Dict[str, object] = {OF_SERVERLESS.get(name, name): value for name, value in whole.items()}
-            given = Object({"BatchSize": SERVERLESS_BATCH, **renamed}, "its event stream", scope, tell)
+            raw: Dict[str, object] = {"BatchSize": SERVERLESS_BATCH, **renamed}
+            given = Object(raw, "its event stream", scope, tell)
             given.without_meaning(["type", "batchWindow"])
             yield by_arn(given.raw("arn"), given, "kinesis", scope, tell)
 

@@ -60,11 +60,12 @@ class OfBalancer(OfHttpApi):
         headers, query = headers_of(request), parameters_of(request.query)
         kind = (first(request.headers, "content-type") or "").partition(";")[0].strip().lower()
         is_text = TEXTUAL.fullmatch(kind) is not None and not first(request.headers, "content-encoding")
+        given: Dict[str, object] = {"queryStringParameters": last_of_each(query), "headers": last_of_each(headers)}
+        if self.integration.is_multiple:
+            given = {"multiValueQueryStringParameters": query, "multiValueHeaders": headers}
         event: Dict[str, object] = {
             "requestContext": {"elb": {"targetGroupArn": arn}}, "httpMethod": request.method, "path": request.path,
-            **({"multiValueQueryStringParameters": query, "multiValueHeaders": headers} if self.integration.is_multiple
-               else {"queryStringParameters": last_of_each(query), "headers": last_of_each(headers)}),
-            "body": "", **body_of(request, body, is_text)}
+            **given, "body": "", **body_of(request, body, is_text)}
         return json.dumps(event, ensure_ascii=False).encode(errors="replace")
 
     def reply(self, result: bytes, request: Request, tell: Tell) -> Reply:

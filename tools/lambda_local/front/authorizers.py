@@ -1,7 +1,7 @@
 """The member `authorizer` of an API or a route: who a caller is, as its function is told (API Gateway Developer Guide,
 "Use API Gateway Lambda authorizers", "Control access to HTTP APIs with JWT authorizers")."""
 import re
-from typing import Iterator, List, NamedTuple, Optional, Tuple
+from typing import Dict, Iterator, List, NamedTuple, Optional, Tuple
 
 from ..configuration import Kind, Members, is_list_of, is_text, is_whole, mistakes_of, shown
 
@@ -53,8 +53,9 @@ OF_AUTHORIZER = {
     "simple": Kind(lambda value: isinstance(value, bool), "true or false"),
 }
 # Which members go with which of KINDS
-GOES_WITH = {"scopes": ("claims", "jwt"), "identity": ("jwt", "function"),
-             **dict.fromkeys(("type", "validation", "ttl", "payload", "simple"), ("function",))}
+GOES_WITH: Dict[str, Tuple[str, ...]] = {
+    "scopes": ("claims", "jwt"), "identity": ("jwt", "function"),
+    **{member: ("function",) for member in ("type", "validation", "ttl", "payload", "simple")}}
 
 
 class Authorizer(NamedTuple):

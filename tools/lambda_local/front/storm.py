@@ -72,6 +72,10 @@ class Gate:
         self.sent = 0  # invocations that were not answered yet
         self.opened: Optional[asyncio.Event] = None  # not set while none may be sent
 
+    def unanswered(self) -> int:
+        """How many invocations were sent and not answered yet."""
+        return self.sent
+
     # ---- what passes -------------------------------------------------------------------------------------------------
 
     @contextlib.asynccontextmanager

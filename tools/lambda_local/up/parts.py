@@ -147,7 +147,7 @@ class Parts:
         troubles.look_after(self.environments)
         if gate := self.front.gate:
             self.service.through = self.front.invoke_port
-            troubles.still, troubles.sent = functools.partial(gate.still, self.front.loop), lambda: gate.sent
+            troubles.still, troubles.sent = functools.partial(gate.still, self.front.loop), gate.unanswered
         self.front.port.trouble = troubles.order
         self.watch.followers.append(troubles.take)
         self.closer.environments += self.environments

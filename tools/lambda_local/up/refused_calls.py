@@ -4,7 +4,8 @@ from typing import Any, Callable, Dict, Mapping, Tuple
 
 from ..history.entries import Entry, request_identifier
 from ..history.words import FAILURE, NEXT, RESPONSE, RESPONSE_TOO_LARGE, Word
-from ..telemetry.refusals import RUNTIME, Refusals
+from ..service import RUNTIME
+from ..telemetry.refusals import Refusals
 from ..telemetry.sidecars import Sidecars
 
 # The statuses and types of the service's refusals (docs/formats.md).

@@ -187,7 +187,7 @@ class Session(Parts):
         if self.report:
             self.step("the end of the log", self.report.close)
         if gate := self.front.gate:
-            self.say(gate.tally.summary(), "warning", "storm", **gate.tally.members())
+            self.say(gate.tally.summary(), "warning", "storm", False, **gate.tally.members())
         self.step("counting", lambda: self.watch.lines.tell_throttled(at_the_end=True))
         if status == 0 and gone:
             self.say("the service was stopped by POST /_local/stop")

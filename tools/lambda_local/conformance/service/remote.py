@@ -58,9 +58,9 @@ class Endpoint(NamedTuple):
 def signed(url: str, headers: Dict[str, str], body: bytes, region: str) -> Dict[str, str]:
     """The headers with a signature, by the credentials that boto3 finds (Signature Version 4)."""
     try:
-        import boto3
-        from botocore.auth import SigV4Auth
-        from botocore.awsrequest import AWSRequest
+        import boto3  # type: ignore[import]
+        from botocore.auth import SigV4Auth  # type: ignore[import]
+        from botocore.awsrequest import AWSRequest  # type: ignore[import]
     except ImportError:
         raise Fault(2, "--region: requests are signed by boto3, which is not installed: pip install boto3, or leave "
                        "--region out") from None
