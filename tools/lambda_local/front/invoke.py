@@ -149,11 +149,13 @@ class InvokePort:
 
 
 def reply_of(refusal: Refusal) -> Reply:
-    """The service's own answer to a request that it does not take."""
+    """The service's own answer to a request that it does not take. What is refused by its head ends its connection, as
+    there: another request behind its body is not lost."""
     if refusal is FOREIGN_CODING:
         body = of_json({"errorMessage": refusal.message, "errorType": refusal.kind})
         return Reply(refusal.status, [("content-type", "application/json"), CLOSES], body)
-    return of_user(refusal.status, refusal.kind, refusal.message)
+    reply = of_user(refusal.status, refusal.kind, refusal.message)
+    return reply if refusal is BROKEN_BODY else reply._replace(headers=[*reply.headers, CLOSES])
 
 
 def is_json(payload: bytes) -> bool:
