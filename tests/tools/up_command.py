@@ -86,7 +86,7 @@ class UpCommand(Case):
             self.check(f"if {name}, the command ends by itself", (up.end(None), torn_down), ((2, []), True))
         up = running(STUBBORN)
         up.process.send_signal(signal.SIGINT)
-        up.until("Ctrl-C again ends it")
+        up.until("Ctrl-C again to kill it")
         time.sleep(0.5)
         self.check("a command that goes on is waited for", up.process.poll(), None)
         self.check("a second Ctrl-C ends it", up.end(signal.SIGINT), (128 + signal.SIGTERM, []))
