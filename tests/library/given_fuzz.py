@@ -1,4 +1,4 @@
-"""For tests/tools/fuzz.py: files that users give for a template (.env, samconfig.toml, --parameters, --env-vars,
+"""For tests/tools/test_fuzz.py: files that users give for a template (.env, samconfig.toml, --parameters, --env-vars,
 lambda_local.json) and projects of several files, one of which is hostile. Each reader takes bytes, goes the whole way
 to the members of UP.json, and may refuse by its own fault; what it takes, the system and the JSON that is made of it
 take too. TOML is compared with Python's own reader, from 3.11 on."""

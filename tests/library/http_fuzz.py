@@ -1,4 +1,4 @@
-"""HTTP/1.1 for tests/tools/fuzz.py: heads, framings and bodies that go through `lambda_local.http1` whole and in
+"""HTTP/1.1 for tests/tools/test_fuzz.py: heads, framings and bodies that go through `lambda_local.http1` whole and in
 pieces, and through `h11` where it is installed; bodies in chunks beside a reading that looks at one line after the
 other; and heads that are written and read again. Each reader takes bytes; a difference is an AssertionError."""
 import random

@@ -1,5 +1,5 @@
-"""For tests/tools/fuzz.py: who a caller is: authorizers of UP.json, tokens, what functions that authorize answer, and
-results behind a load balancer; and routes, authorizers and rules of templates. Each reader may refuse by its own
+"""For tests/tools/test_fuzz.py: who a caller is: authorizers of UP.json, tokens, what functions that authorize answer,
+and results behind a load balancer; and routes, authorizers and rules of templates. Each reader may refuse by its own
 fault."""
 import base64
 import json

@@ -1,10 +1,11 @@
-"""For each file of tests/tools a deliberate fault at which it has to fail: its own words (the parts that are run, else
-all, and variables), the file with the fault, what stands there, and the fault."""
+"""For each file of tests/tools a deliberate fault at which it has to fail: its own words (pieces of the names of the
+tests that are run, else all, and variables), the file with the fault, what stands there, and the fault."""
 import ast
-import glob
 import os
 import re
 from typing import Dict, Iterator, Tuple
+
+from tests.library import tool_tests
 
 NOTED = os.path.join("tests", "library", "lies.noted")
 OF_TOOLS = "tools/lambda_local/"
@@ -172,12 +173,11 @@ def notes(root: str) -> Dict[str, str]:
 def untried(root: str) -> Iterator[str]:
     """What files of tests/tools have no lie, or one that was not found yet."""
     found = notes(root)
-    for path in sorted(glob.glob(os.path.join(root, "tests", "tools", "[!_]*.py"))):
-        name = os.path.basename(path)[:-len(".py")]
+    for name, module in tool_tests.files(root).items():
         if name not in LIES:
-            yield f"{name}.py has no lie in tests/library/lies_table.py"
+            yield f"{module} has no lie in tests/library/lies_table.py"
         elif name not in found:
-            yield f"the lie of {name}.py was not found yet: tests/lies {name}"
+            yield f"the lie of {module} was not found yet: tests/lies {name}"
 
 
 TABLE = re.compile(r'^    "(\w+)": \("[^"]*",\s+(OF_TOOLS \+ )?"([^"]*)",\s+'

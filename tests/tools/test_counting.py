@@ -1,11 +1,10 @@
 """Checks tests/library/counted.py and cases.py, by which all other tests check: what they must not take for a success,
 what they say then, and that a check which fails hides none of the next."""
-import glob
-import os
 import subprocess
 import sys
 
 from tests import ROOT
+from tests.library import tool_tests
 from tests.library.cases import Case
 
 # Arguments of a check, the last line of a run of it alone, and words of what it prints.
@@ -88,9 +87,9 @@ class Counting(Case):
         status, last, printed = run(BARE)
         self.check("a case needs no lists of its result", (status, last), (0, ["1 passed, 0 failed"]), shown=printed)
 
-    def test_discover(self) -> None:
-        """`python3 -m unittest discover` at the root finds each file of tests/tools that has tests."""
+    def test_unittest_discover_finds_each_file_of_tests(self) -> None:
         printed = run(FOUND)[2]
         found = {name for line in printed.splitlines() if line.startswith("found ") for name in line.split()}
-        names = {os.path.basename(path)[:-len(".py")] for path in glob.glob(f"{ROOT}/tests/tools/[!_]*.py")}
-        self.check("all files are found", sorted(names - found), [], shown=printed)
+        names = {module.rpartition(".")[2] for module in tool_tests.files(ROOT).values()}
+        self.check("all files are found", sorted(it for it in names - found if it.startswith("test_")), [],
+                   shown=printed)

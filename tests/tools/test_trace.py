@@ -9,7 +9,7 @@ import subprocess
 
 from tests.library.timelines import ONE, PROGRAM, TimelineCase, events, phases, run
 from tests.library.traces import entries_in
-from tests.tools.timeline import random_script
+from tests.tools.test_timeline import random_script
 
 # What the words of a line of a script are for, by kind: members of the call's object.
 FIELDS = {

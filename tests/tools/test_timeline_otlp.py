@@ -8,7 +8,7 @@ import tempfile
 from typing import Dict
 
 from tests.library.timelines import ONE, TimelineCase, run
-from tests.tools.timeline import random_script
+from tests.tools.test_timeline import random_script
 
 # The members of each message that are used, with the JSON type of each.
 MEMBERS: Dict[str, Dict[str, type]] = {

@@ -113,7 +113,7 @@ class Samples(Case):
         message = {"MessageId": "m", "ReceiptHandle": "r", "Body": "b", "MD5OfBody": "x"}
         self.check("a message is one", is_message(message))
         self.check("sqs", set(record_of(message, "arn", "region")), set(event("sqs")["Records"][0]))
-        from tests.tools.stream_parts import MOMENT, DynamoDb, Kinesis, notifications
+        from tests.tools.test_stream_parts import MOMENT, DynamoDb, Kinesis, notifications
         stream = members.stream_of("f", {"url": "http://a", "kinesis": "s"})
         made = Kinesis(None, stream, "us-east-1", "123456789012").record_of(
             {"Data": b"", "PartitionKey": "k", "SequenceNumber": "1", "ApproximateArrivalTimestamp": MOMENT}, "s")

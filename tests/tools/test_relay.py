@@ -22,7 +22,7 @@ from lambda_local.up.passing import MOST_HELD, Passing
 from tests.library import http_mutants
 from tests.library.cases import Case
 from tests.library.up_kit import RUNTIME, Up, children, command_of, lives, until
-from tests.tools.invocation_log import parts, tail_of
+from tests.tools.test_invocation_log import parts, tail_of
 
 SEED, MUTANTS = 20261129, 3000
 IDENTIFIERS = [f"01a228d3-ff4a-8000-8001-{number:012d}" for number in range(1, 10)]

@@ -17,7 +17,7 @@ from lambda_local.streaming.pairing import Pairing
 from lambda_local.streaming.streams import Streams, token_in
 from tests.library.cases import Case
 from tests.library.up_kit import Up, until
-from tests.tools.streaming import ask, messages, quoted
+from tests.tools.test_streaming import ask, messages, quoted
 
 # A runtime whose events say, step by step, what it does before its response: it invokes another function with its own
 # trace, posts at its own address a streamed response for another identifier, notes its identifier, waits for a file,

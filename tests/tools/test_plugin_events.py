@@ -11,7 +11,7 @@ from typing import List
 from lambda_local.configuration import Members
 from pytest_lambda_local import LambdaLocal
 from tests.library.cases import Case
-from tests.tools.plugin import fault_of
+from tests.tools.test_plugin import fault_of
 
 
 def send(service, name, body=b"{}"):

@@ -16,7 +16,7 @@ from lambda_local.front.wire import Gone
 from lambda_local.http1 import RequestReader
 from tests.library.cases import Case
 from tests.library.up_kit import Up
-from tests.tools.streaming import STREAMING, quoted
+from tests.tools.test_streaming import STREAMING, quoted
 
 METHODS = ("GET", "HEAD", "POST", "PUT", "PATCH", "DELETE", "OPTIONS", "TRACE", "CONNECT")
 STATUSES = (200, 201, 204, 205, 206, 301, 304, 400, 404, 500, 599)
