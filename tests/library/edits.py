@@ -43,30 +43,42 @@ def function_of(edit):
     return next((value.strip() for key, value in WORDS.findall(read(edit)) if key == "gate"), "")
 
 
+def files_of(edit: str) -> List[str]:
+    """The files that an edit changes, by their paths below its crate."""
+    return [*dict.fromkeys(value.strip() for key, value in WORDS.findall(read(edit)) if key == "file")]
+
+
 def functions_of(edit, crate):
     """The functions that an edit changes, each by its name and, if it has one, its type's; nothing if it changes
     something outside them. So the prover finds a method by `TYPE::NAME`, or by `NAME` if its block is a trait's."""
-    found, path = [], ""
+    return sorted(bodies_of(edit, crate))
+
+
+def bodies_of(edit: str, crate: str) -> Dict[str, str]:
+    """The functions that an edit changes, with their texts before it."""
+    found: Dict[str, str] = {}
+    path = ""
     for key, value in WORDS.findall(read(edit)):
         if key == "file":
             path = value.strip()
         elif key == "old":
             text = read(f"{crate}/{path}")
-            name = _around(text, text.find(value)) if path.startswith("src/") and value in text else ""
+            name, body = _around(text, text.find(value)) if path.startswith("src/") and value in text else ("", "")
             if not name:
-                return []
-            found.append(name)
-    return sorted({*found})
+                return {}
+            found[name] = body
+    return found
 
 
 def _around(text, place):
-    """The function around a place of a source, as the prover is told of it; nothing if there is none."""
+    """The function around a place of a source, as the prover is told of it, and its text; nothing if there is none."""
     head = next((it for it in reversed([*HEAD.finditer(text, 0, text.find("\n", place))])), None)
-    if not head or text.find(f"\n{head[1]}}}\n", head.end()) < place:
-        return ""
+    end = text.find(f"\n{head[1]}}}\n", head.end()) if head else -1
+    if end < place:
+        return "", ""
     block = next((it for it in reversed([*BLOCK.finditer(text, 0, head.start())])), None) if head[1] else None
     is_of_trait = block and " for " in text[block.start():text.find("{", block.start())]
-    return f"{block[1]}::{head[2]}" if block and not is_of_trait else head[2]
+    return f"{block[1]}::{head[2]}" if block and not is_of_trait else head[2], text[head.start():end]
 
 
 def edited(edit, crate, by="new"):
