@@ -1,5 +1,5 @@
 -- The table as the code reads it.
-mod Tests
+mod Cells
 -- The first stage of each call, as the code makes it.
 mod Turns
 mod Welcome

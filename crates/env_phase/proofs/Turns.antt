@@ -6,10 +6,22 @@ use Rattle.call_types.specs.declared.call.Call.{Call}
 use Rattle.call_model.specs.Generation.{Member, TheRuntime}
 use Rattle.call_model.specs.Stand.{Stand, RuntimePoll, ExtensionPoll, at_hand}
 use Rattle.environment_step.specs.After.{Fixed, Known, Step, cell_at, first_moves, first_stand, give, give_each, member_first, over_now, request_of, runtime_first, poll_gets}
-use Rattle.call_model.specs.Table.{to_waiting}
+use Rattle.call_model.specs.Table.{table, own_answer, closes, to_waiting}
 use Rattle.extension_set.specs.declared.turn.Turn.{Turn}
 use Rattle.extension_set.specs.Turns.{poll_gets_by_turn, member_after, next_after}
+use Rattle.env_phase.specs.declared.environment.cells.Cell.{Cell}
+use Rattle.env_phase.specs.Cells.{at_ticket, turn_at}
 use Rattle.env_phase.specs.First.{turn_of, polled, answers, joined, request_kept}
+
+-- The table's cell says what the call itself is answered, why the environment closes,
+pub of_cell : (step : Step) (s : Stand) (call : Call) (cell : Cell) → cell ≡ at_ticket step.ticket (table s call) → turn_at step cell ≡ turn_of step s call
+unfolding own_answer closes
+of_cell step s call cell q = ap (turn_at step) q
+
+-- and what the waiting call gets.
+pub waiting_of : (own : ℕ) (s : Stand) (call : Call) (cell : Cell) → cell ≡ at_ticket own (table s call) → cell.waiting ≡ to_waiting own s call
+unfolding to_waiting
+waiting_of own s call cell q = ap (λ (x : Cell). x.waiting) q
 
 extension_same : (step : Step) (s : Stand) (call : Call) (x : Member) (o : Option ℕ) → poll_gets_by_turn (turn_of step s call) call (ExtensionPoll x) o ≡ poll_gets step s call (ExtensionPoll x) o
 extension_same step s call x None = refl

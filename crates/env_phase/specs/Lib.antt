@@ -1,4 +1,4 @@
 pub mod Taking
 pub mod Meeting
 pub mod First
-pub mod Rows
+pub mod Cells

@@ -1,8 +1,9 @@
 //! One execution environment, and the calls that concern it.
 
 mod after;
-mod answers;
+mod cells;
 mod first;
+mod kept;
 mod table;
 
 ghost use Rattle.std.specs.Prelude.{◌≡◌, ◌+◌, ◌*◌, ◌<◌, ◌≤◌, ◌^◌, length, [], IfOk};

@@ -1,30 +1,15 @@
 //! Functions of phases: what a phase has at hand, and which phase comes after it.
 //! (Lambda Developer Guide: Understanding the Lambda execution environment lifecycle)
 
-ghost use Rattle.std.specs.Prelude.{◌≡◌, ◌+◌, ◌<◌, ◌^◌, ◌||◌, if◌then◌else◌};
+ghost use Rattle.std.specs.Prelude.{◌≡◌, ◌+◌, ◌<◌, ◌^◌};
 ghost use Rattle.call_model.specs.Polls.{begun};
-ghost use Rattle.call_model.specs.Stand.{at_hand, bound_of, is_starting, is_idle, is_busy, is_closing};
+ghost use Rattle.call_model.specs.Stand.{at_hand, bound_of, is_busy, is_closing};
 ghost use Rattle.call_model.specs.Table.{settled, reborn, clock_started, placed, unbound};
-ghost use Rattle.call_types.specs.declared.answer.Answer.TheVariants.{InitTimedOut, TimedOut};
 
-use call_model::{Answer, Phase, Ticket};
+use call_model::{Phase, Ticket};
 
 /// How long an Init lasts at most, in milliseconds. (life cycle: Init phase)
 const INIT_LIMIT: u64 = 10000;
-
-/// Whether the environment is in its Init phase.
-pub(crate) fn is_starting(phase: Phase) -> bool
-    ensures { result ≡ is_starting phase }
-{
-    matches!(phase, Phase::Starting { .. })
-}
-
-/// Whether the environment waits for an invocation.
-pub(crate) fn is_idle(phase: Phase) -> bool
-    ensures { result ≡ is_idle phase }
-{
-    matches!(phase, Phase::Idle)
-}
 
 /// Whether the environment serves an invocation.
 pub(crate) fn is_busy(phase: Phase) -> bool
@@ -38,24 +23,6 @@ pub(crate) fn is_closing(phase: Phase) -> bool
     ensures { result ≡ is_closing phase }
 {
     matches!(phase, Phase::Closing { .. })
-}
-
-/// Whether the environment is neither shutting down nor shut down.
-pub(crate) fn is_open(phase: Phase) -> bool
-    ensures { result ≡ (is_starting phase || is_idle phase || is_busy phase) }
-{
-    is_starting(phase) || is_idle(phase) || is_busy(phase)
-}
-
-/// The answer to the waiting call when the phase expires.
-pub(crate) fn timed_out(phase: Phase) -> Answer
-    ensures { result ≡ (if is_starting phase then InitTimedOut else TimedOut) }
-{
-    if is_starting(phase) {
-        Answer::InitTimedOut
-    } else {
-        Answer::TimedOut
-    }
 }
 
 /// The phase with no invocation bound to its Closing.

@@ -6,11 +6,13 @@ ghost use Rattle.call_model.specs.Stand.{at_hand, RuntimePoll};
 ghost use Rattle.environment_step.specs.After.{first_stand, first_moves, over_now};
 ghost use Rattle.call_model.specs.Polls.{replaced};
 ghost use Rattle.extension_set.specs.Turns.{next_after, poll_gets_by_turn};
+ghost use Rattle.env_phase.specs.Cells.{turn_at};
 ghost use Rattle.env_phase.specs.First.{polled, answers, joined, request_kept, IsWelcome};
 ghost use Rattle.env_phase.specs.Taking.{registered_name, IsShort, step_of};
 
 use super::Environment;
-use super::answers::is_registered;
+use super::cells::Cell;
+use super::kept::is_registered;
 use crate::Step;
 use crate::phases::at_hand;
 use call_model::{Answer, Call, Phase, Rejection, Ticket};
@@ -33,6 +35,19 @@ fn replaced(ticket: Ticket, call: &Call) -> Option<Answer>
     }
 }
 
+/// What a cell means for the parked Nexts.
+#[inline(always)]
+fn turn_of(step: Step, cell: Cell) -> Turn
+    ensures { result ≡ turn_at (step_of step) cell }
+{
+    Turn {
+        ticket: step.ticket,
+        now: step.now,
+        own: cell.own,
+        closes: cell.close,
+    }
+}
+
 impl Environment {
     /// Applies the table's cell for a call, and gives the answers that belong to it.
     pub(super) fn first(&mut self, step: Step, call: &Call, moves: &mut Moves)
@@ -47,12 +62,12 @@ impl Environment {
             } }
         ensures given { moves.new ≡ first_moves (step_of step) self.old.stand call.now }
     {
-        let turn = self.turn_of(step, call);
-        let caller = self.to_waiting(step.ticket, call, turn.closes);
-        let phase = self.cell(step, call, turn);
-        let request = self.request_after(step, phase, caller.is_some());
+        let cell = self.table(step.ticket, call);
+        let turn = turn_of(step, cell);
+        let phase = self.phase_after(step, call, turn);
+        let request = self.request_after(step, phase, cell.waiting.is_some());
         let stopped = self.is_over(call);
-        self.answer(turn, caller, call, moves);
+        self.answer(turn, cell.waiting, call, moves);
         self.add_extension(call, turn.own);
         self.enter(phase, request, stopped);
     }
