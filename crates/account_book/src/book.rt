@@ -15,7 +15,6 @@ ghost use Rattle.call_model.specs.Limits.{reservation};
 ghost use Rattle.call_model.specs.Next.{IsLegal, added, next, due, moment_at, first};
 ghost use Rattle.call_types.specs.Calls.{body_of};
 ghost use Rattle.script.specs.AnswerText.{entry_text};
-ghost use Rattle.call_model.specs.CallCounts.{call_counts};
 ghost use Rattle.call_types.specs.Within.{IsWithin};
 ghost use Rattle.env_phase.specs.Meeting.{known_at};
 ghost use Rattle.account_book.specs.Answering.{answers_in, most_answers, most_of_one};
@@ -188,14 +187,8 @@ fn bytes_fit(bytes: &[u8])
 fn body_fits(call: &Call)
     ensures { All (λ b. b < 256) (body_of call.now) }
 {
-    match call {
-        Call::Invoke { body, .. }
-        | Call::Response { body, .. }
-        | Call::Failure { body, .. }
-        | Call::InitFailure { body, .. }
-        | Call::ExtInitFailure { body, .. }
-        | Call::ExtExitFailure { body, .. } => bytes_fit(body.as_slice()),
-        _ => {}
+    if let Some(body) = call.body() {
+        bytes_fit(body.as_slice());
     }
 }
 
@@ -347,11 +340,18 @@ impl Book {
         self.journal.entries().get(ticket as usize)
     }
 
-    /// For each entry, the count in its request identifier: 0 unless its call is an Invoke.
-    pub fn counts(&self) -> &Blocks<u64>
-        ensures { reverse result.now.0 ≡ call_counts self.now.history }
+    /// The entries with all that is read of them: the configuration, the salt, and the count of each.
+    pub fn past(&self) -> Past<'_>
+        ensures config { result.config.now ≡ self.now.config }
+        ensures salt { result.salt ≡ self.now.salt }
+        ensures entries { result.entries.now.0 ≡ reverse self.now.history }
     {
-        self.journal.counts()
+        Past {
+            config: self.journal.config(),
+            salt: self.salt,
+            entries: self.journal.entries(),
+            counts: self.journal.counts(),
+        }
     }
 
     /// The answer to a ticket, if it was answered.
@@ -451,16 +451,7 @@ impl Book {
         if ticket >= self.len() {
             return Ok(None);
         }
-        let salt = self.salt();
-        let draft = draft_entry(
-            self.alloc,
-            self.journal.config(),
-            salt,
-            self.journal.entries(),
-            self.journal.counts(),
-            ticket as usize,
-        )?;
-        Ok(Some(draft))
+        Ok(Some(draft_entry(self.alloc, &self.past(), ticket as usize)?))
     }
 
     /// The reply to the client of the call with a ticket, if it was answered: status, headers and body.
@@ -476,13 +467,7 @@ impl Book {
             return Ok(None);
         };
         self.journal.facts();
-        let past = Past {
-            salt: self.salt,
-            entries: self.journal.entries(),
-            counts: self.journal.counts(),
-        };
-        let config = self.journal.config();
-        Ok(Some(render(self.alloc, config, &past, ticket, answer)?))
+        Ok(Some(render(self.alloc, &self.past(), ticket, answer)?))
     }
 
     /// The configuration.

@@ -7,7 +7,6 @@ ghost use Rattle.call_model.specs.Next.{IsLegal};
 ghost use Rattle.account_book.specs.ReplyText.{reply_text};
 ghost use Rattle.account_book.specs.Taking.{AllKnown};
 
-use arn_ids::Checked;
 use call_model::{Answer, Call, Past, Ticket};
 use lambda_wire::Reply;
 use replies::{Gist, reply};
@@ -35,16 +34,16 @@ fn call_at<'a>(past: &Past<'a>, ticket: Ticket) -> &'a Call
 /// The reply to a ticket with its answer. It fails only if an allocation fails.
 pub(crate) fn render(
     alloc: Global,
-    config: &Checked,
     past: &Past<'_>,
     ticket: Ticket,
     answer: Answer,
 ) -> Result<Reply, AllocError>
     requires answered { answer_of (reverse past.now.entries.now.0) ticket ≡ Some answer }
-    requires legal { IsLegal config.now (reverse past.now.entries.now.0) }
-    requires known { AllKnown config.now (reverse past.now.entries.now.0) }
+    requires legal { IsLegal past.now.config.now (reverse past.now.entries.now.0) }
+    requires known { AllKnown past.now.config.now (reverse past.now.entries.now.0) }
     ensures { IfOk result
-        (λ reply. Some reply ≡ reply_text config.now past.now.salt (reverse past.now.entries.now.0) ticket) }
+        (λ reply. Some reply
+        ≡ reply_text past.now.config.now past.now.salt (reverse past.now.entries.now.0) ticket) }
 {
     let source = source_of(ticket, answer);
     let gist = Gist {
@@ -54,5 +53,5 @@ pub(crate) fn render(
         source: call_at(past, source),
         source_count: past.count(source),
     };
-    reply(alloc, config, past.salt, &gist)
+    reply(alloc, past.config, past.salt, &gist)
 }

@@ -9,7 +9,7 @@ ghost use Rattle.account_lock.specs.Trails.{GoesOn};
 use crate::Identity;
 use account_book::Book;
 use arn_ids::Checked;
-use call_model::{Past, Ticket};
+use call_model::Ticket;
 use std::alloc::{AllocError, Global};
 use std::marker::Model;
 use trace::{Draft, Follower};
@@ -86,8 +86,7 @@ impl<S: Identity> Trail<S> {
         if self.next >= book.len() {
             return false;
         }
-        let entries = book.entries();
-        self.follower.follow(book.config(), entries, self.next);
+        self.follower.follow(&book.past(), self.next);
         self.next += 1;
         true
     }
@@ -109,11 +108,6 @@ impl<S: Identity> Trail<S> {
             ≡ object_tokens bodies S.config book.now.salt h (before h ticket)
             (slice_index_or (reverse h) ticket d)) }
     {
-        let past = Past {
-            salt: book.salt(),
-            entries: book.entries(),
-            counts: book.counts(),
-        };
-        self.follower.draft(book.config(), &past, bodies, ticket)
+        self.follower.draft(&book.past(), bodies, ticket)
     }
 }

@@ -55,7 +55,9 @@ mod OwnAnswers
 pub mod OwnLegal
 pub mod OwnTexts
 pub mod NamedTickets
--- The calls and the counts of a history, by ticket.
+-- The calls and the counts of a history, by ticket; what the configuration says beyond its functions.
 pub mod PastLemmas
+pub mod IdentifiersStay
+pub mod NoFunction
 -- Histories that show what the laws need.
 mod Witness

@@ -21,8 +21,9 @@ pub mod Laws
 -- Definitions for the laws of isolation by reservation.
 pub mod Own
 pub mod Isolation
--- The count in each request identifier.
+-- The count in each request identifier; the identifiers that answers show.
 pub mod CallCounts
+pub mod Identifiers
 -- Examples that are proved by computation: worked histories, each cell of the table, each refusal.
 pub mod Sample
 pub mod RowsInvoke

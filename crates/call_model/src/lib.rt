@@ -3,8 +3,10 @@
 
 pub mod laws;
 mod past;
+mod readers;
 
 pub use call_types::{
     Answer, Answers, Call, Entry, Head, Kind, Phase, Reason, Rejection, Stats, Throttle, Ticket,
 };
 pub use past::Past;
+pub use readers::{function_in, function_name, identifier};

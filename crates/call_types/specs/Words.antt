@@ -2,6 +2,9 @@
 use Rattle.std.specs.Prelude.{ℕ, List, codes}
 use Rattle.call_types.specs.declared.answer.Reason.{Reason}
 use Rattle.call_types.specs.declared.answer.Reason.TheVariants.{Timeout, Failure, Spindown}
+use Rattle.call_types.specs.declared.answer.Rejection.{Rejection}
+use Rattle.call_types.specs.declared.answer.Rejection.TheVariants.{State, Replaced, BadId, Unknown, TooLarge, Container}
+use Rattle.call_types.specs.declared.answer.Rejection.TheVariants.{NameInUse, TooMany, NotIdle, BadReservation}
 use Rattle.call_types.specs.declared.answer.Throttle.{Throttle}
 use Rattle.call_types.specs.declared.answer.Throttle.TheVariants.{Function, Account, Environments}
 
@@ -16,3 +19,16 @@ abbrev pub throttle_word : Throttle → List ℕ
 throttle_word Function = codes "ReservedFunctionConcurrentInvocationLimitExceeded"
 throttle_word Account = codes "ConcurrentInvocationLimitExceeded"
 throttle_word Environments = codes "LocalEnvironmentLimitExceeded"
+
+-- The word for the reason why a call is refused.
+abbrev pub refusal_word : Rejection → List ℕ
+refusal_word State = codes "State"
+refusal_word Replaced = codes "Replaced"
+refusal_word BadId = codes "BadId"
+refusal_word Unknown = codes "Unknown"
+refusal_word TooLarge = codes "TooLarge"
+refusal_word Container = codes "Container"
+refusal_word NameInUse = codes "NameInUse"
+refusal_word TooMany = codes "TooMany"
+refusal_word NotIdle = codes "NotIdle"
+refusal_word BadReservation = codes "BadReservation"

@@ -1,7 +1,7 @@
 //! Answers, reasons and phases.
 
 ghost use Rattle.std.specs.Prelude.{◌≡◌};
-ghost use Rattle.call_types.specs.Words.{reason_word, throttle_word};
+ghost use Rattle.call_types.specs.Words.{reason_word, refusal_word, throttle_word};
 
 use crate::Ticket;
 
@@ -79,6 +79,26 @@ pub enum Rejection {
     /// The reservation is above the function's environments, or leaves too little unreserved
     /// (PutFunctionConcurrency: `InvalidParameterValueException`).
     BadReservation,
+}
+
+impl Rejection {
+    /// Returns the reason's word.
+    pub fn as_str(self) -> &'static str
+        ensures { result.now ≡ refusal_word self }
+    {
+        match self {
+            Rejection::State => "State",
+            Rejection::Replaced => "Replaced",
+            Rejection::BadId => "BadId",
+            Rejection::Unknown => "Unknown",
+            Rejection::TooLarge => "TooLarge",
+            Rejection::Container => "Container",
+            Rejection::NameInUse => "NameInUse",
+            Rejection::TooMany => "TooMany",
+            Rejection::NotIdle => "NotIdle",
+            Rejection::BadReservation => "BadReservation",
+        }
+    }
 }
 
 /// The answer to a call. It holds no bytes: for a payload or an output it has the ticket of the

@@ -1,11 +1,12 @@
 //! What a call names, and the bytes that it carries.
 
-ghost use Rattle.std.specs.Prelude.{◌≡◌};
+ghost use Rattle.std.specs.Prelude.{◌≡◌, [], option_map, unwrap_or};
 ghost use Rattle.call_types.specs.Calls.{env_of};
 ghost use Rattle.call_types.specs.Calls as spec;
 
 use crate::Call;
 use arn_ids::{EnvNo, FnNo};
+use bytes::Bytes;
 
 impl Call {
     /// Whether the call is an Invoke of a caller.
@@ -48,18 +49,18 @@ impl Call {
         }
     }
 
-    /// Returns the call's payload, output or report, or no bytes if it carries none.
-    pub fn body(&self) -> &[u8]
-        ensures { result.now ≡ spec.body_of self.now }
+    /// Returns the call's payload, output or report, or `None` if it carries none.
+    pub fn body(&self) -> Option<&Bytes>
+        ensures { unwrap_or (option_map (λ body. body.now) result) [] ≡ spec.body_of self.now }
     {
         match self {
-            Call::Invoke { body, .. } => body.as_slice(),
-            Call::Response { body, .. } => body.as_slice(),
-            Call::Failure { body, .. } => body.as_slice(),
-            Call::InitFailure { body, .. } => body.as_slice(),
-            Call::ExtInitFailure { body, .. } => body.as_slice(),
-            Call::ExtExitFailure { body, .. } => body.as_slice(),
-            _ => &[],
+            Call::Invoke { body, .. } => Some(body),
+            Call::Response { body, .. } => Some(body),
+            Call::Failure { body, .. } => Some(body),
+            Call::InitFailure { body, .. } => Some(body),
+            Call::ExtInitFailure { body, .. } => Some(body),
+            Call::ExtExitFailure { body, .. } => Some(body),
+            _ => None,
         }
     }
 }

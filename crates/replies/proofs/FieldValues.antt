@@ -25,7 +25,7 @@ use Rattle.call_types.specs.declared.answer.Rejection.{Rejection}
 use Rattle.call_types.specs.declared.answer.Rejection.TheVariants.{State, Replaced, BadId, Unknown, TooLarge, Container, NameInUse, TooMany, NotIdle, BadReservation}
 use Rattle.replies.specs.Words.{function_number, invoked_function, is_qualified, arn_text}
 use Rattle.replies.specs.Refusals.{refusal_words}
-use Rattle.replies.proofs.NoFunction.{beyond}
+use Rattle.call_model.proofs.NoFunction.{beyond}
 
 -- a text is a value where each of its bytes passes a test that only bytes of values pass
 pub from_test : (p : ℕ → Bool) → ((b : ℕ) → p b ≡ true → is_value_byte b ≡ true) → (text : List ℕ) → list_all p text ≡ true → IsFieldValue text

@@ -1,2 +1,1 @@
 mod FieldValues
-mod NoFunction

@@ -62,13 +62,8 @@ pub(crate) fn wants_account(call: &Call) -> bool
 pub(crate) fn shared_body(call: &Call) -> Result<Bytes, AllocError>
     ensures { IfOk result (λ bytes. bytes ≡ body_of call.now) }
 {
-    match call {
-        Call::Invoke { body, .. } => body.clone(),
-        Call::Response { body, .. } => body.clone(),
-        Call::Failure { body, .. } => body.clone(),
-        Call::InitFailure { body, .. } => body.clone(),
-        Call::ExtInitFailure { body, .. } => body.clone(),
-        Call::ExtExitFailure { body, .. } => body.clone(),
-        _ => Ok(Bytes::new()),
+    match call.body() {
+        None => Ok(Bytes::new()),
+        Some(body) => body.clone(),
     }
 }

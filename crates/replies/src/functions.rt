@@ -1,35 +1,17 @@
 //! The configuration of a function, with empty values if there is no such function.
 
-ghost use Rattle.std.specs.Prelude.{◌≡◌, IfOk, MatchOption, None, string_bytes};
-ghost use Rattle.arn_ids.specs.Faults.{first_fault};
-ghost use Rattle.arn_ids.specs.Environments.{function_at, function_of as function_of_env, no_function};
+ghost use Rattle.std.specs.Prelude.{◌≡◌, IfOk, string_bytes};
+ghost use Rattle.arn_ids.specs.Environments.{function_of as function_of_env};
 ghost use Rattle.http_header.specs.FieldValue.{IsFieldValue};
 ghost use Rattle.replies.specs.Words as spec;
 
 use crate::calls::is_qualified;
-use arn_ids::{Checked, EnvNo, FnNo, Function};
-use call_model::Call;
+use arn_ids::{Checked, EnvNo, FnNo};
+use call_model::{Call, function_in, function_name};
 use std::alloc::{AllocError, Global};
 
-/// Returns the function with a number.
-#[tactic(auto, using(crate::proofs::NoFunction::beyond))]
-fn function_in(config: &Checked, number: FnNo) -> Option<&Function>
-    ensures there { MatchOption result (function_at config.now number ≡ no_function)
-        (λ f. f.now ≡ function_at config.now number) }
-    ensures sound { first_fault config.now ≡ None }
-{
-    let functions = config.functions();
-    if number == 0 {
-        return None;
-    }
-    if number as usize > functions.len() {
-        return None;
-    }
-    Some(config.function(number))
-}
-
 /// Returns the number of an environment's function.
-#[tactic(auto, using(crate::proofs::NoFunction::no_owner))]
+#[tactic(auto, using(call_model::proofs::NoFunction::no_owner))]
 fn function_of(config: &Checked, env: EnvNo) -> FnNo
     ensures { result ≡ function_of_env config.now env }
 {
@@ -40,17 +22,6 @@ fn function_of(config: &Checked, env: EnvNo) -> FnNo
         return 0;
     }
     config.function_of(env)
-}
-
-/// Returns the name of the function with a number.
-fn name_of(config: &Checked, number: FnNo) -> &str
-    ensures value { result.now ≡ (function_at config.now number).name }
-    ensures sound { first_fault config.now ≡ None }
-{
-    match function_in(config, number) {
-        Some(function) => function.name.as_str(),
-        None => "",
-    }
 }
 
 /// Returns the number of the function that a call invokes, 0 if it isn't an Invoke.
@@ -75,7 +46,7 @@ pub(crate) fn arn_text(alloc: Global, config: &Checked, call: &Call) -> Result<S
     ensures value { IfOk result (λ text. string_bytes text ≡ spec.arn_text config.now call.now) }
     ensures fits { IsFieldValue (spec.arn_text config.now call.now) }
 {
-    let name = name_of(config, function_number(call));
+    let name = function_name(config, function_number(call));
     arn_ids::arn_text(alloc, config.home(), name, is_qualified(call))
 }
 

@@ -7,27 +7,18 @@ ghost use Rattle.http_header.specs.FieldValue.{IsFieldValue};
 ghost use Rattle.replies.specs.Words as spec;
 
 use crate::functions::function_number;
-use arn_ids::{IdKind, event_id, extension_id, request_id};
-use call_model::Call;
+use arn_ids::IdKind;
+use call_model::{Call, identifier};
 
 /// Returns an identifier as text, or a dash if no identifier can have this number or count.
-#[tactic(auto, unfolding(arn_ids::specs::Identifiers::id_word), using(crate::proofs::FieldValues::id_fits))]
 fn id_word<'b>(buffer: &'b mut [u8], salt: u64, kind: IdKind, number: u32, count: u64) -> &'b str
     requires { 36 ≤ length buffer.old }
     ensures { result.now ≡ written salt kind number count }
 {
-    if number >= 4096 {
-        return "-";
+    match identifier(salt, kind, number, count) {
+        None => "-",
+        Some(id) => id.hyphenated().encode_lower(buffer),
     }
-    if count >= 1 << 48 {
-        return "-";
-    }
-    let id = match kind {
-        IdKind::Request => request_id(salt, number, count),
-        IdKind::Extension => extension_id(salt, number, count),
-        IdKind::Event => event_id(salt, number, count),
-    };
-    id.hyphenated().encode_lower(buffer)
 }
 
 /// Returns the request identifier of an Invoke, by its count among those of its function.

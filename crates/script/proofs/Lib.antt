@@ -1,7 +1,6 @@
 mod TextFieldLemmas
 mod FieldLemmas
 mod WritingLemmas
-mod CallLemmas
 mod WithinLemmas
 mod NumberLemmas
 mod SplitLemmas

@@ -25,8 +25,8 @@ use Rattle.call_types.specs.Within.{is_body, IsTrace, IsWithin}
 use Rattle.script.specs.TextFields.{text_field}
 use Rattle.script.specs.CallText.{line_of, or_dash, flag, events, reservation, call_words, before_moment, call_text}
 use Rattle.call_types.specs.Calls.{body_of}
-use Rattle.call_types.specs.Words.{reason_word, throttle_word}
-use Rattle.script.specs.AnswerText.{body_word, refusal_word, answer_words}
+use Rattle.call_types.specs.Words.{reason_word, refusal_word, throttle_word}
+use Rattle.script.specs.AnswerText.{body_word, answer_words}
 use Rattle.script.specs.Writing.{spaced}
 use Rattle.arn_ids.proofs.Printable.{both}
 use Rattle.script.proofs.WordBounds.{Fits, is_plain, fits_weaker, fits_append, fits_cons, fits_word, fits_decimal, fits_id, fits_text}

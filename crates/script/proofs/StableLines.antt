@@ -1,38 +1,24 @@
 -- The lines of answers stay as they are when entries are added.
-use Rattle.std.proofs.Common.{◌≡◌, ℕ, ◌<◌, true, nat_lt, List, [], ◌∷◌, ◌++◌, codes, length, unwrap_or, Some, decimal, refl, ap, ◌∙◌, arith}
+use Rattle.std.proofs.Common.{◌≡◌, ℕ, ◌<◌, List, [], ◌∷◌, ◌++◌, codes, length, Some, decimal, refl, ap, ◌∙◌, arith}
 use Rattle.std.specs.List.{flat_map}
-use Rattle.std.proofs.lemmas.Bool.Decides.{nat_tests}
-use Rattle.arn_ids.specs.declared.identifiers.IdKind.{IdKind}
-use Rattle.arn_ids.specs.declared.identifiers.IdKind.TheVariants.{Request, Extension, Event}
+use Rattle.arn_ids.specs.declared.identifiers.IdKind.TheVariants.{Extension, Event}
 use Rattle.call_types.specs.declared.call.Call.{Call}
 use Rattle.call_types.specs.declared.call.Entry.{Entry}
 use Rattle.call_types.specs.declared.answer.Answer.{Answer}
 use Rattle.call_types.specs.declared.answer.Answer.TheVariants.{Delivered, Told, Ending, Registered, Accepted, Done, Output, Error, TimedOut, InitTimedOut, OutputTooLarge, Throttled, Stopped, Withdrawn, Refused, Reserved, Unreserved}
-use Rattle.call_model.specs.History.{call_of, upto}
-use Rattle.call_types.specs.Calls.{env_of, invoked, body_of}
+use Rattle.call_model.specs.Identifiers.{request_word, env_word}
+use Rattle.call_types.specs.Calls.{body_of}
 use Rattle.call_model.specs.Isolation.{named}
 use Rattle.call_model.proofs.AfterEntry.{call_of_old}
+use Rattle.call_model.proofs.IdentifiersStay.{request_old, env_old}
 use Rattle.call_model.proofs.NamedTickets.{IsBounded}
 use Rattle.script.specs.CallText.{line_of}
-use Rattle.call_model.specs.CallCounts.{request_count}
 use Rattle.script.specs.TextFields.{text_field}
-use Rattle.arn_ids.specs.Identifiers.{id_word}
 use Rattle.call_types.specs.Words.{reason_word}
-use Rattle.script.specs.AnswerText.{body_word, request_word, env_word, answer_words, answer_line, answer_lines}
-
-upto_old : (e : Entry) (h : List Entry) (t : ℕ) → t < length h → upto (e ∷ h) t ≡ upto h t
-upto_old e h t lt = let is : nat_lt t (length h) ≡ true = grind (arith, nat_tests) in rw is refl
-
-request_old : (salt : ℕ) (e : Entry) (h : List Entry) (p : ℕ) → p < length h → request_word salt (e ∷ h) p ≡ request_word salt h p
-request_old salt e h p lt =
-    ap (λ (c : Call). id_word salt Request (unwrap_or (invoked c) 0) (request_count (upto (e ∷ h) p) c)) (call_of_old e h p lt)
-    ∙ ap (λ (k : List Entry). id_word salt Request (unwrap_or (invoked (call_of h p)) 0) (request_count k (call_of h p))) (upto_old e h p lt)
+use Rattle.script.specs.AnswerText.{body_word, answer_words, answer_line, answer_lines}
 
 body_old : (e : Entry) (h : List Entry) (p : ℕ) → p < length h → body_word (e ∷ h) p ≡ body_word h p
 body_old e h p lt = ap (λ (c : Call). text_field (body_of c)) (call_of_old e h p lt)
-
-env_old : (salt : ℕ) (kind : IdKind) (e : Entry) (h : List Entry) (t count : ℕ) → t < length h → env_word salt kind (e ∷ h) t count ≡ env_word salt kind h t count
-env_old salt kind e h t count lt = ap (λ (c : Call). id_word salt kind (unwrap_or (env_of c) 0) count) (call_of_old e h t lt)
 
 words_old : (salt : ℕ) (e : Entry) (h : List Entry) (t : ℕ) (a : Answer) → t < length h → ((p : ℕ) → named a ≡ Some p → p < length h) → answer_words salt (e ∷ h) t a ≡ answer_words salt h t a
 unfolding answer_words

@@ -1,9 +1,7 @@
 -- The text lines of answers.
-use Rattle.std.specs.Prelude.{ℕ, List, [], ◌∷◌, ◌++◌, codes, unwrap_or, decimal}
+use Rattle.std.specs.Prelude.{ℕ, List, [], ◌∷◌, ◌++◌, codes, decimal}
 use Rattle.std.specs.List.{flat_map}
-use Rattle.arn_ids.specs.Identifiers.{id_word}
-use Rattle.arn_ids.specs.declared.identifiers.IdKind.{IdKind}
-use Rattle.arn_ids.specs.declared.identifiers.IdKind.TheVariants.{Request, Extension, Event}
+use Rattle.arn_ids.specs.declared.identifiers.IdKind.TheVariants.{Extension, Event}
 use Rattle.arn_ids.specs.declared.config.Config.{Config}
 use Rattle.call_types.specs.declared.call.Entry.{Entry}
 use Rattle.call_types.specs.declared.answer.Answer.{Answer}
@@ -11,41 +9,16 @@ use Rattle.call_types.specs.declared.answer.Answer.TheVariants.{Delivered, Told,
 use Rattle.call_types.specs.declared.answer.Answer.TheVariants.{Output, Error, TimedOut, InitTimedOut, OutputTooLarge}
 use Rattle.call_types.specs.declared.answer.Answer.TheVariants.{Throttled, Stopped, Withdrawn, Refused}
 use Rattle.call_types.specs.declared.answer.Answer.TheVariants.{Reserved, Unreserved}
-use Rattle.call_types.specs.declared.answer.Rejection.{Rejection}
-use Rattle.call_types.specs.declared.answer.Rejection.TheVariants.{State, Replaced, BadId, Unknown, TooLarge, Container}
-use Rattle.call_types.specs.declared.answer.Rejection.TheVariants.{NameInUse, TooMany, NotIdle, BadReservation}
-use Rattle.call_model.specs.History.{call_of, upto}
-use Rattle.call_types.specs.Calls.{env_of, invoked, body_of}
-use Rattle.call_types.specs.Words.{reason_word, throttle_word}
+use Rattle.call_model.specs.History.{call_of}
+use Rattle.call_model.specs.Identifiers.{request_word, env_word}
+use Rattle.call_types.specs.Calls.{body_of}
+use Rattle.call_types.specs.Words.{reason_word, refusal_word, throttle_word}
 use Rattle.script.specs.CallText.{line_of, call_text}
-use Rattle.call_model.specs.CallCounts.{request_count}
 use Rattle.script.specs.TextFields.{text_field}
-
--- The request identifier of the Invoke with a ticket (Runtime API: Lambda-Runtime-Aws-Request-Id).
-abbrev pub request_word : ℕ → List Entry → ℕ → List ℕ
-request_word salt h p =
-    id_word salt Request (unwrap_or (invoked (call_of h p)) 0) (request_count (upto h p) (call_of h p))
-
--- The identifier of an event or an extension of the environment that the call with ticket `t` names.
-abbrev pub env_word : ℕ → IdKind → List Entry → ℕ → ℕ → List ℕ
-env_word salt kind h t count = id_word salt kind (unwrap_or (env_of (call_of h t)) 0) count
 
 -- The text field with the bytes of the call with a ticket.
 abbrev pub body_word : List Entry → ℕ → List ℕ
 body_word h t = text_field (body_of (call_of h t))
-
--- The word for the reason why a call is refused.
-abbrev pub refusal_word : Rejection → List ℕ
-refusal_word State = codes "State"
-refusal_word Replaced = codes "Replaced"
-refusal_word BadId = codes "BadId"
-refusal_word Unknown = codes "Unknown"
-refusal_word TooLarge = codes "TooLarge"
-refusal_word Container = codes "Container"
-refusal_word NameInUse = codes "NameInUse"
-refusal_word TooMany = codes "TooMany"
-refusal_word NotIdle = codes "NotIdle"
-refusal_word BadReservation = codes "BadReservation"
 
 -- The words of an answer to a ticket: its kind, then its arguments.
 unfoldable pub answer_words : ℕ → List Entry → ℕ → Answer → List (List ℕ)

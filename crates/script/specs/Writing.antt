@@ -1,11 +1,11 @@
 -- How words are appended to a text.
 use Rattle.std.specs.Prelude.{◌≡◌, ℕ, List, ◌∷◌, ◌++◌, length, take, Result, Ok, Err, decimal}
 use Rattle.std.specs.List.{flat_map}
-use Rattle.uuid.specs.Text.{hyphenated_text, lower}
 use Rattle.script.specs.declared.words.Word.{Word}
 use Rattle.script.specs.declared.words.Word.TheVariants as words
 use Rattle.script.specs.TextFields.{text_field}
 use Rattle.script.specs.AnswerText.{answer_line}
+use Rattle.call_model.specs.Identifiers.{id_text}
 use Rattle.call_types.specs.declared.call.Entry.{Entry}
 use Rattle.call_types.specs.declared.answer.Answer.{Answer}
 
@@ -13,7 +13,7 @@ use Rattle.call_types.specs.declared.answer.Answer.{Answer}
 abbrev pub word_text : Word → List ℕ
 word_text (words.Plain text) = text.now
 word_text (words.Number n) = decimal n
-word_text (words.Identifier id) = hyphenated_text lower id
+word_text (words.Identifier id) = id_text id
 word_text (words.Text bytes) = text_field bytes.now
 word_text (words.Body body) = text_field body.now
 

@@ -6,34 +6,25 @@ ghost use Rattle.arn_ids.specs.declared.identifiers.IdKind.TheVariants.{Event};
 ghost use Rattle.call_types.specs.declared.call.Entry.{Entry};
 ghost use Rattle.call_types.specs.Words.{reason_word};
 ghost use Rattle.script.specs.AnswerText as spec;
-ghost use Rattle.script.specs.AnswerText.{answer_words, answer_line, answer_lines, entry_text, refusal_word};
-ghost use Rattle.call_model.specs.CallCounts.{call_counts};
-ghost use Rattle.script.specs.Writing.{Adds, spaced, marked_lines};
+ghost use Rattle.script.specs.AnswerText.{answer_words, answer_line, answer_lines, entry_text};
+ghost use Rattle.call_model.specs.Identifiers.{request_word, env_word};
+ghost use Rattle.script.specs.Writing.{Adds, spaced, marked_lines, word_text};
 
 use crate::call_writer::push_call;
 use crate::draft::Draft;
-use crate::past_words::{body_word, env_word, request_word};
 use crate::sink::Sink;
 use crate::words::{Word, end_line, push_last, push_name, push_spaced, push_word, push_words};
-use arn_ids::{Checked, IdKind};
-use call_model::{Answer, Entry, Past, Reason, Rejection, Ticket};
-use entry_blocks::Blocks;
+use arn_ids::IdKind;
+use call_model::{Answer, Entry, Past, Reason, Ticket};
 use std::alloc::{AllocError, Global};
 
-fn refusal_text(refusal: Rejection) -> &'static str
-    ensures { result.now ≡ refusal_word refusal }
+/// Returns the bytes of the call with a ticket.
+fn body_word<'a>(past: &Past<'a>, ticket: Ticket) -> Word<'a>
+    ensures { word_text result ≡ spec.body_word (reverse past.now.entries.now.0) ticket }
 {
-    match refusal {
-        Rejection::State => "State",
-        Rejection::Replaced => "Replaced",
-        Rejection::BadId => "BadId",
-        Rejection::Unknown => "Unknown",
-        Rejection::TooLarge => "TooLarge",
-        Rejection::Container => "Container",
-        Rejection::NameInUse => "NameInUse",
-        Rejection::TooMany => "TooMany",
-        Rejection::NotIdle => "NotIdle",
-        Rejection::BadReservation => "BadReservation",
+    match past.body(ticket) {
+        None => Word::Text(&[]),
+        Some(body) => Word::Body(body),
     }
 }
 
@@ -70,11 +61,11 @@ fn push_delivery<W: Sink>(
     deadline: u64,
 ) -> Result<(), AllocError>
     ensures { let h = reverse past.now.entries.now.0 in
-        Adds result (spaced (spec.request_word past.now.salt h invoke ∷ decimal deadline
+        Adds result (spaced (request_word past.now.salt h invoke ∷ decimal deadline
         ∷ spec.body_word h invoke ∷ [])) (W.text out.old) (W.text out.new) }
 {
     let words = [
-        request_word(past, invoke),
+        Word::Identifier(past.request_id(invoke)),
         Word::Number(deadline),
         body_word(past, invoke),
     ];
@@ -90,12 +81,12 @@ fn push_event<W: Sink>(
     event: u64,
 ) -> Result<(), AllocError>
     ensures { let h = reverse past.now.entries.now.0 in
-        Adds result (spaced (spec.env_word past.now.salt Event h ticket event
-        ∷ spec.request_word past.now.salt h invoke ∷ decimal deadline ∷ [])) (W.text out.old) (W.text out.new) }
+        Adds result (spaced (env_word past.now.salt Event h ticket event
+        ∷ request_word past.now.salt h invoke ∷ decimal deadline ∷ [])) (W.text out.old) (W.text out.new) }
 {
     let words = [
-        env_word(past, IdKind::Event, ticket, event),
-        request_word(past, invoke),
+        Word::Identifier(past.environment_id(IdKind::Event, ticket, event)),
+        Word::Identifier(past.request_id(invoke)),
         Word::Number(deadline),
     ];
     push_words(out, &words)
@@ -110,11 +101,11 @@ fn push_ending<W: Sink>(
     event: u64,
 ) -> Result<(), AllocError>
     ensures { let h = reverse past.now.entries.now.0 in
-        Adds result (spaced (spec.env_word past.now.salt Event h ticket event
+        Adds result (spaced (env_word past.now.salt Event h ticket event
         ∷ reason_word reason ∷ decimal until ∷ [])) (W.text out.old) (W.text out.new) }
 {
     let words = [
-        env_word(past, IdKind::Event, ticket, event),
+        Word::Identifier(past.environment_id(IdKind::Event, ticket, event)),
         Word::Plain(reason.as_str()),
         Word::Number(until),
     ];
@@ -146,12 +137,15 @@ fn push_other_words<W: Sink>(
             event,
         } => push_ending(out, past, ticket, reason, until, event),
         Answer::Registered { count } => {
-            push_last(out, &env_word(past, IdKind::Extension, ticket, count))
+            push_last(
+                out,
+                &Word::Identifier(past.environment_id(IdKind::Extension, ticket, count)),
+            )
         }
         Answer::Output { source } => push_last(out, &body_word(past, source)),
         Answer::Error { source } => push_last(out, &body_word(past, source)),
         Answer::Throttled(reason) => push_name(out, reason.as_str()),
-        Answer::Refused(refusal) => push_name(out, refusal_text(refusal)),
+        Answer::Refused(refusal) => push_name(out, refusal.as_str()),
         Answer::Reserved { count } => push_last(out, &Word::Number(u64::from(count))),
         Answer::Accepted
         | Answer::Done
@@ -246,33 +240,20 @@ fn push_lines<W: Sink>(
 /// In a body, the bytes below 0x21, `%` and the bytes above 0x7E are percent-encoded. If an identifier
 /// cannot have its number or its count, a dash is written instead.
 ///
-/// `entries` are those of the whole history, the oldest first. `counts` has for each of them the count
-/// in its request identifier if it is an Invoke, and otherwise 0. Only the entries that the answers name
-/// are read.
+/// Only the entries that the answers name are read.
 ///
 /// # Errors
 /// Only if memory is refused; `out` is then as it was.
-pub fn push_answers(
-    out: &mut Vec<u8>,
-    salt: u64,
-    entries: &Blocks<Entry>,
-    counts: &Blocks<u64>,
-    number: usize,
-) -> Result<(), AllocError>
-    requires counted { reverse counts.now.0 ≡ call_counts (reverse entries.now.0) }
-    requires there { number < length entries.now.0 }
-    ensures ok { OnOk result ((d : Entry) → out.new.items
-        ≡ out.old.items ++ answer_lines salt (reverse entries.now.0) number (slice_index_or entries.now.0 number d)) }
+pub fn push_answers(out: &mut Vec<u8>, past: &Past, number: usize) -> Result<(), AllocError>
+    requires { number < length past.now.entries.now.0 }
+    ensures ok { OnOk result ((d : Entry) → out.new.items ≡ out.old.items
+        ++ answer_lines past.now.salt (reverse past.now.entries.now.0) number
+        (slice_index_or past.now.entries.now.0 number d)) }
     ensures err { OnErr result (out.new.items ≡ out.old.items) }
 {
     let start = out.len();
-    let past = Past {
-        salt,
-        entries,
-        counts,
-    };
-    let entry = entries.at(number);
-    match push_lines(out, &past, "", number, entry.answers.as_slice()) {
+    let entry = past.entries.at(number);
+    match push_lines(out, past, "", number, entry.answers.as_slice()) {
         Ok(()) => Ok(()),
         Err(error) => {
             out.truncate(start);
@@ -283,15 +264,14 @@ pub fn push_answers(
 
 fn push_whole_entry<W: Sink>(
     out: &mut W,
-    config: &Checked,
     past: &Past,
     number: usize,
     entry: &Entry,
 ) -> Result<(), AllocError>
-    ensures { Adds result (entry_text config.now past.now.salt (reverse past.now.entries.now.0) number entry.now)
-        (W.text out.old) (W.text out.new) }
+    ensures { Adds result (entry_text past.now.config.now past.now.salt (reverse past.now.entries.now.0) number
+        entry.now) (W.text out.old) (W.text out.new) }
 {
-    push_call(out, config, entry.moment, &entry.call)?;
+    push_call(out, past.config, entry.moment, &entry.call)?;
     end_line(out)?;
     push_lines(out, past, "# ", number, entry.answers.as_slice())
 }
@@ -300,29 +280,15 @@ fn push_whole_entry<W: Sink>(
 /// line of its call, as `read_call` reads it, and the lines of its answers as `push_answers` writes them,
 /// each after `# `. An expiry isn't a call: it is the comment `## M expire E`.
 ///
-/// `entries` and `counts` are as for `push_answers`.
-///
 /// # Errors
 /// Only if memory is refused.
-pub fn draft_entry(
-    alloc: Global,
-    config: &Checked,
-    salt: u64,
-    entries: &Blocks<Entry>,
-    counts: &Blocks<u64>,
-    number: usize,
-) -> Result<Draft, AllocError>
-    requires counted { reverse counts.now.0 ≡ call_counts (reverse entries.now.0) }
-    requires there { number < length entries.now.0 }
+pub fn draft_entry(alloc: Global, past: &Past, number: usize) -> Result<Draft, AllocError>
+    requires { number < length past.now.entries.now.0 }
     ensures { IfOk result (λ draft. (d : Entry) → draft
-        ≡ entry_text config.now salt (reverse entries.now.0) number (slice_index_or entries.now.0 number d)) }
+        ≡ entry_text past.now.config.now past.now.salt (reverse past.now.entries.now.0) number
+        (slice_index_or past.now.entries.now.0 number d)) }
 {
-    let past = Past {
-        salt,
-        entries,
-        counts,
-    };
     let mut draft = Draft::new(alloc);
-    push_whole_entry(&mut draft, config, &past, number, entries.at(number))?;
+    push_whole_entry(&mut draft, past, number, past.entries.at(number))?;
     Ok(draft)
 }

@@ -1,32 +1,16 @@
 //! The writer of a call's line in a history.
 
 ghost use Rattle.std.specs.Prelude.{◌≡◌, [], ◌∷◌, decimal, codes};
-ghost use Rattle.arn_ids.specs.Environments.{function_at};
 ghost use Rattle.script.specs.CallText.{before_moment, call_words, call_text, flag, or_dash, events, reservation};
 ghost use Rattle.script.specs.TextFields.{text_field};
 ghost use Rattle.script.specs.Writing.{Adds, spaced, word_text};
 
 use crate::sink::Sink;
 use crate::words::{Word, push_name, push_named, push_word, push_words};
-use arn_ids::{Checked, EnvNo, FnNo, Text};
+use arn_ids::{Checked, EnvNo, Text};
 use bytes::Bytes;
-use call_model::Call;
+use call_model::{Call, function_name};
 use std::alloc::AllocError;
-
-/// Returns the name of a function; an empty one if there is no function with this number.
-#[tactic(auto, using(crate::proofs::CallLemmas::no_name))]
-fn name_of(config: &Checked, function: FnNo) -> &str
-    ensures { result.now ≡ (function_at config.now function).name }
-{
-    let functions = config.functions();
-    if function == 0 {
-        return "";
-    }
-    if function as usize > functions.len() {
-        return "";
-    }
-    config.function(function).name.as_str()
-}
 
 fn flag_word(word: &'static str, set: bool) -> Word<'static>
     ensures { word_text result ≡ flag word.now set }
@@ -177,7 +161,15 @@ fn push_call_words<W: Sink>(out: &mut W, config: &Checked, call: &Call) -> Resul
             qualified,
             trace,
             body,
-        } => { push_invoke(out, name_of(config, *function), *qualified, trace, body) }
+        } => {
+            push_invoke(
+                out,
+                function_name(config, *function),
+                *qualified,
+                trace,
+                body,
+            )
+        }
         Call::RuntimeNext { env } => push_env(out, "next", *env),
         Call::Response { env, id, body } => push_report(out, "response", *env, *id, body),
         Call::ResponseTooLarge { env, id } => push_count(out, "response-too-large", *env, *id),
@@ -211,7 +203,7 @@ fn push_call_words<W: Sink>(out: &mut W, config: &Checked, call: &Call) -> Resul
         Call::Stop => push_name(out, "stop"),
         Call::Expire { env } => push_env(out, "expire", *env),
         Call::Reserve { function, count } => {
-            push_reserve(out, name_of(config, *function), *count)
+            push_reserve(out, function_name(config, *function), *count)
         }
     }
 }

@@ -8,7 +8,6 @@ mod coding;
 mod draft;
 mod fields;
 pub mod laws;
-mod past_words;
 mod sink;
 mod text_fields;
 mod words;

@@ -2,7 +2,7 @@
 
 ghost use Rattle.std.specs.Prelude.{[], ◌∷◌, map, decimal};
 ghost use Rattle.percent_encoding.specs.Iter.{encoded_text};
-ghost use Rattle.uuid.specs.Text.{hyphenated_text, lower};
+ghost use Rattle.call_model.specs.Identifiers.{id_text};
 ghost use Rattle.script.specs.TextFields.{escaped, text_field};
 ghost use Rattle.script.specs.Writing.{Adds, spaced, word_text};
 
@@ -22,8 +22,8 @@ pub(crate) enum Word<'a> {
     Plain(&'a str),
     /// A number in decimal.
     Number(u64),
-    /// An identifier, hyphenated and in lower case (RFC 9562, section 4).
-    Identifier(Uuid),
+    /// An identifier, hyphenated and in lower case (RFC 9562, section 4); a dash if there is none.
+    Identifier(Option<Uuid>),
     /// Bytes, percent-encoded after an equals sign.
     Text(&'a [u8]),
     /// A payload, an output or a report, percent-encoded after an equals sign.
@@ -53,9 +53,12 @@ fn push_number<W: Sink>(out: &mut W, number: u64) -> Result<(), AllocError>
     out.push_bytes(buffer.format(number).as_bytes())
 }
 
-fn push_identifier<W: Sink>(out: &mut W, id: Uuid) -> Result<(), AllocError>
-    ensures { Adds result (hyphenated_text lower id) (W.text out.old) (W.text out.new) }
+fn push_identifier<W: Sink>(out: &mut W, id: Option<Uuid>) -> Result<(), AllocError>
+    ensures { Adds result (id_text id) (W.text out.old) (W.text out.new) }
 {
+    let Some(id) = id else {
+        return out.push_bytes(b"-");
+    };
     let mut buffer = Uuid::encode_buffer();
     let text = id.hyphenated().encode_lower(&mut buffer);
     out.push_bytes(text.as_bytes())

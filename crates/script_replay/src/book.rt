@@ -44,12 +44,10 @@ fn push_from(book: &Book, from: usize, out: &mut Vec<u8>) -> Result<(), AllocErr
     ensures { OnOk result (out.new.items ≡ out.old.items
         ++ lines_from book.now.salt book.now.history from (drop from (reverse book.now.history))) }
 {
-    let entries = book.entries();
-    let counts = book.counts();
-    let salt = book.salt();
+    let past = book.past();
     let mut number = from;
-    while number < entries.len() {
-        script::push_answers(out, salt, entries, counts, number)?;
+    while number < past.entries.len() {
+        script::push_answers(out, &past, number)?;
         number += 1;
     }
     Ok(())

@@ -2,8 +2,6 @@
 mod Telling
 -- What is written in one go, and run by run.
 mod Runs
--- The names of functions.
-mod Names
 -- The history before an entry.
 mod Earlier
 -- The environments before any call and after an entry.

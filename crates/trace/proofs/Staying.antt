@@ -1,27 +1,22 @@
 -- An entry's line stays as it is when entries are added to the history.
-use Rattle.std.proofs.Common.{◌≡◌, ℕ, ◌<◌, Bool, true, nat_lt, List, [], ◌∷◌, ◌++◌, codes, length, unwrap_or, Some, refl, ap, ap₂, ◌∙◌, arith, length-append}
+use Rattle.std.proofs.Common.{◌≡◌, ℕ, ◌<◌, Bool, List, [], ◌∷◌, ◌++◌, codes, length, Some, refl, ap, ap₂, ◌∙◌, arith, length-append}
 use Rattle.std.specs.List.{flat_map}
-use Rattle.std.proofs.lemmas.Bool.Decides.{nat_tests}
-use Rattle.arn_ids.specs.Identifiers.{id_word}
 use Rattle.arn_ids.specs.declared.config.Config.{Config}
-use Rattle.arn_ids.specs.declared.identifiers.IdKind.{IdKind}
-use Rattle.arn_ids.specs.declared.identifiers.IdKind.TheVariants.{Request, Extension, Event}
-use Rattle.call_types.specs.Calls.{env_of, invoked, body_of}
+use Rattle.arn_ids.specs.declared.identifiers.IdKind.TheVariants.{Extension, Event}
+use Rattle.call_types.specs.Calls.{body_of}
 use Rattle.call_types.specs.Words.{reason_word}
 use Rattle.call_types.specs.declared.answer.Answer.{Answer}
 use Rattle.call_types.specs.declared.answer.Answer.TheVariants.{Delivered, Told, Ending, Registered, Accepted, Done, Output, Error, TimedOut, InitTimedOut, OutputTooLarge, Throttled, Stopped, Withdrawn, Refused, Reserved, Unreserved}
 use Rattle.call_types.specs.declared.call.Call.{Call}
 use Rattle.call_types.specs.declared.call.Call.TheVariants.{Invoke, RuntimeNext, Response, ResponseTooLarge, Failure, InitFailure, Register, ExtNext, ExtInitFailure, ExtExitFailure, Tick, Withdraw, Spindown, Stop, Expire, Reserve}
 use Rattle.call_types.specs.declared.call.Entry.{Entry}
-use Rattle.call_model.specs.CallCounts.{request_count}
-use Rattle.call_model.specs.History.{call_of, upto}
 use Rattle.call_model.specs.Isolation.{named}
 use Rattle.call_model.specs.Next.{IsLegal}
 use Rattle.call_model.proofs.AfterEntry.{call_of_old}
+use Rattle.call_model.proofs.IdentifiersStay.{env_old, request_old}
 use Rattle.call_model.proofs.NamedTickets.{IsBounded, entry_bounded}
 use Rattle.json.specs.Print.{print}
 use Rattle.json.specs.Token.{Token, key}
-use Rattle.script.specs.AnswerText.{request_word, env_word}
 use Rattle.trace.specs.Members.{body_member, object, number_if, number_member, text_member}
 use Rattle.trace.specs.CallObject.{call_object}
 use Rattle.trace.specs.AnswerObject.{answer, answer_object, body_at, ticket}
@@ -29,19 +24,8 @@ use Rattle.trace.specs.Object.{charged_at, expired, list_member, moved, object_t
 
 -- ---- what an answer refers to
 
-upto_old : (e : Entry) (h : List Entry) (t : ℕ) → t < length h → upto (e ∷ h) t ≡ upto h t
-upto_old e h t lt = let is : nat_lt t (length h) ≡ true = grind (arith, nat_tests) in rw is refl
-
-request_old : (salt : ℕ) (e : Entry) (h : List Entry) (p : ℕ) → p < length h → request_word salt (e ∷ h) p ≡ request_word salt h p
-request_old salt e h p lt =
-    ap (λ (c : Call). id_word salt Request (unwrap_or (invoked c) 0) (request_count (upto (e ∷ h) p) c)) (call_of_old e h p lt)
-    ∙ ap (λ (k : List Entry). id_word salt Request (unwrap_or (invoked (call_of h p)) 0) (request_count k (call_of h p))) (upto_old e h p lt)
-
 body_old : (bodies : Bool) (e : Entry) (h : List Entry) (p : ℕ) → p < length h → body_at bodies (e ∷ h) p ≡ body_at bodies h p
 body_old bodies e h p lt = ap (λ (c : Call). body_member bodies (body_of c)) (call_of_old e h p lt)
-
-env_old : (salt : ℕ) (kind : IdKind) (e : Entry) (h : List Entry) (t count : ℕ) → t < length h → env_word salt kind (e ∷ h) t count ≡ env_word salt kind h t count
-env_old salt kind e h t count lt = ap (λ (c : Call). id_word salt kind (unwrap_or (env_of c) 0) count) (call_of_old e h t lt)
 
 -- ---- its object
 

@@ -3,7 +3,7 @@
 use Rattle.std.specs.Prelude.{ℕ, Bool, List, [], ◌∷◌, codes}
 use Rattle.arn_ids.specs.declared.identifiers.IdKind.TheVariants.{Extension, Event}
 use Rattle.call_types.specs.Calls.{body_of}
-use Rattle.call_types.specs.Words.{reason_word, throttle_word}
+use Rattle.call_types.specs.Words.{reason_word, refusal_word, throttle_word}
 use Rattle.call_types.specs.declared.answer.Answer.{Answer}
 use Rattle.call_types.specs.declared.answer.Answer.TheVariants.{Delivered, Told, Ending, Registered, Accepted, Done}
 use Rattle.call_types.specs.declared.answer.Answer.TheVariants.{Output, Error, TimedOut, InitTimedOut, OutputTooLarge}
@@ -11,7 +11,7 @@ use Rattle.call_types.specs.declared.answer.Answer.TheVariants.{Throttled, Stopp
 use Rattle.call_types.specs.declared.answer.Answer.TheVariants.{Reserved, Unreserved}
 use Rattle.call_types.specs.declared.call.Entry.{Entry}
 use Rattle.call_model.specs.History.{call_of}
-use Rattle.script.specs.AnswerText.{request_word, env_word, refusal_word}
+use Rattle.call_model.specs.Identifiers.{request_word, env_word}
 use Rattle.json.specs.Token.{Token}
 use Rattle.trace.specs.Members.{object, text_member, number_member, body_member}
 

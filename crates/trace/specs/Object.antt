@@ -7,11 +7,11 @@ use Rattle.call_types.specs.declared.answer.Phase.{Phase}
 use Rattle.call_types.specs.declared.call.Call.{Call}
 use Rattle.call_types.specs.declared.call.Call.TheVariants.{Invoke, Expire}
 use Rattle.call_types.specs.declared.call.Entry.{Entry}
+use Rattle.call_model.specs.Identifiers.{request_word}
 use Rattle.call_model.specs.Laws.{ended_by}
 use Rattle.call_model.specs.Life.{phase}
 use Rattle.json.specs.Print.{print}
 use Rattle.json.specs.Token.{Token, begin_array, end_array, key, number}
-use Rattle.script.specs.AnswerText.{request_word}
 use Rattle.trace.specs.Members.{object, text_member, number_member, number_if}
 use Rattle.trace.specs.CallObject.{call_object}
 use Rattle.trace.specs.AnswerObject.{answer_object}

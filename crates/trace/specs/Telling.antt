@@ -1,7 +1,7 @@
 -- How an object is told, token by token, and how what was told is written.
-use Rattle.std.specs.Prelude.{◌≡◌, Bool, true, false, ℕ, List, [], ◌∷◌, ◌++◌, map, decimal, Option, Some, None, Result, OnOk}
+use Rattle.std.specs.Prelude.{◌≡◌, Bool, true, false, ℕ, List, [], ◌∷◌, ◌++◌, map, decimal, Result, OnOk}
 use Rattle.std.specs.List.{flat_map}
-use Rattle.uuid.specs.Text.{hyphenated_text, lower}
+use Rattle.call_model.specs.Identifiers.{id_text}
 use Rattle.json.specs.Token.{Token, begin_object, end_object, begin_array, end_array, key, string, number, boolean}
 use Rattle.json.specs.Written.{Written}
 use Rattle.trace.specs.Members.{body_member}
@@ -22,12 +22,7 @@ part_token (parts.Key name) = key name.now
 part_token (parts.Word word) = string word.now
 part_token (parts.Number n) = number (decimal n)
 part_token (parts.Flag set) = boolean set
-part_token (parts.Identifier id) = string (hyphenated_text lower id)
-
--- The bytes of a body; none if there is no body.
-abbrev pub bytes_of : Option (List ℕ) → List ℕ
-bytes_of None = []
-bytes_of (Some bytes) = bytes
+part_token (parts.Identifier id) = string (id_text id)
 
 -- The tokens of an inset.
 abbrev pub inset_tokens : Inset → List Token

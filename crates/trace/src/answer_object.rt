@@ -1,38 +1,18 @@
 //! The object of an answer.
 
-ghost use Rattle.std.specs.Prelude.{◌≡◌, ◌∷◌, [], codes, reverse};
+ghost use Rattle.std.specs.Prelude.{◌∷◌, [], codes, reverse};
 ghost use Rattle.arn_ids.specs.declared.identifiers.IdKind.TheVariants.{Extension, Event};
 ghost use Rattle.call_types.specs.Words.{reason_word};
-ghost use Rattle.script.specs.AnswerText.{refusal_word};
-ghost use Rattle.script.specs.AnswerText as words;
+ghost use Rattle.call_model.specs.Identifiers as words;
 ghost use Rattle.trace.specs.AnswerObject.{answer_object};
 ghost use Rattle.trace.specs.AnswerObject as spec;
 ghost use Rattle.trace.specs.Members.{object, number_member, text_member};
 ghost use Rattle.trace.specs.Telling.{Tells};
 
-use crate::bodies::body_of;
 use crate::part::Part;
-use crate::past_parts::{environment_part, request_part};
 use crate::teller::Teller;
 use arn_ids::IdKind;
-use call_model::{Answer, Past, Reason, Rejection, Ticket};
-
-fn refusal_text(refusal: Rejection) -> &'static str
-    ensures { result.now ≡ refusal_word refusal }
-{
-    match refusal {
-        Rejection::State => "State",
-        Rejection::Replaced => "Replaced",
-        Rejection::BadId => "BadId",
-        Rejection::Unknown => "Unknown",
-        Rejection::TooLarge => "TooLarge",
-        Rejection::Container => "Container",
-        Rejection::NameInUse => "NameInUse",
-        Rejection::TooMany => "TooMany",
-        Rejection::NotIdle => "NotIdle",
-        Rejection::BadReservation => "BadReservation",
-    }
-}
+use call_model::{Answer, Past, Reason, Ticket};
 
 fn say_bare(teller: &mut Teller, word: &'static str, ticket: Ticket)
     ensures { Tells (spec.bare word.now ticket) teller.old teller.new }
@@ -76,7 +56,7 @@ fn say_carried(
     teller.say_around(
         &[Part::Open, Part::Key("answer"), Part::Word(word)],
         bodies,
-        body_of(past, source),
+        past.body(source),
         &[
             Part::Key("source"),
             Part::Number(source),
@@ -104,14 +84,14 @@ fn say_delivery(
     teller.say_around(
         &[Part::Open, Part::Key("answer"), Part::Word("deliver")],
         bodies,
-        body_of(past, invoke),
+        past.body(invoke),
         &[
             Part::Key("deadline"),
             Part::Number(deadline),
             Part::Key("invoke"),
             Part::Number(invoke),
             Part::Key("request"),
-            request_part(past, invoke),
+            Part::Identifier(past.request_id(invoke)),
             Part::Key("ticket"),
             Part::Number(ticket),
             Part::Close,
@@ -141,11 +121,11 @@ fn say_notice(
         Part::Key("deadline"),
         Part::Number(deadline),
         Part::Key("event"),
-        environment_part(past, IdKind::Event, ticket, event),
+        Part::Identifier(past.environment_id(IdKind::Event, ticket, event)),
         Part::Key("invoke"),
         Part::Number(invoke),
         Part::Key("request"),
-        request_part(past, invoke),
+        Part::Identifier(past.request_id(invoke)),
         Part::Key("ticket"),
         Part::Number(ticket),
         Part::Close,
@@ -172,7 +152,7 @@ fn say_ending(
         Part::Key("deadline"),
         Part::Number(until),
         Part::Key("event"),
-        environment_part(past, IdKind::Event, ticket, event),
+        Part::Identifier(past.environment_id(IdKind::Event, ticket, event)),
         Part::Key("reason"),
         Part::Word(reason.as_str()),
         Part::Key("ticket"),
@@ -192,7 +172,7 @@ fn say_registered(teller: &mut Teller, past: &Past, count: u64, ticket: Ticket)
         Part::Key("answer"),
         Part::Word("registered"),
         Part::Key("extension"),
-        environment_part(past, IdKind::Extension, ticket, count),
+        Part::Identifier(past.environment_id(IdKind::Extension, ticket, count)),
         Part::Key("ticket"),
         Part::Number(ticket),
         Part::Close,
@@ -252,7 +232,7 @@ pub(crate) fn say_answer(
         Answer::Throttled(reason) => say_reasoned(teller, "throttled", reason.as_str(), ticket),
         Answer::Stopped => say_bare(teller, "stopped", ticket),
         Answer::Withdrawn => say_bare(teller, "withdrawn", ticket),
-        Answer::Refused(refusal) => say_reasoned(teller, "refused", refusal_text(refusal), ticket),
+        Answer::Refused(refusal) => say_reasoned(teller, "refused", refusal.as_str(), ticket),
         Answer::Reserved { count } => say_reserved(teller, count, ticket),
         Answer::Unreserved => say_bare(teller, "unreserved", ticket),
     }

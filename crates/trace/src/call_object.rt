@@ -1,7 +1,6 @@
 //! The object of a call.
 
-ghost use Rattle.std.specs.Prelude.{◌≡◌, ◌∷◌, [], codes};
-ghost use Rattle.arn_ids.specs.Environments.{function_at};
+ghost use Rattle.std.specs.Prelude.{◌∷◌, [], codes};
 ghost use Rattle.trace.specs.CallObject.{call_object, report};
 ghost use Rattle.trace.specs.CallObject as spec;
 ghost use Rattle.trace.specs.Members.{object, body_member, flag_member, number_member, text_member, number_if};
@@ -9,24 +8,9 @@ ghost use Rattle.trace.specs.Telling.{Tells};
 
 use crate::part::Part;
 use crate::teller::{Teller, widened};
-use arn_ids::{Checked, EnvNo, FnNo, Text};
+use arn_ids::{Checked, EnvNo, Text};
 use bytes::Bytes;
-use call_model::Call;
-
-/// Returns the name of a function; an empty one if there is no function with this number.
-#[tactic(auto, using(crate::proofs::Names::no_name))]
-fn name_of(config: &Checked, function: FnNo) -> &str
-    ensures { result.now ≡ (function_at config.now function).name }
-{
-    let functions = config.functions();
-    if function == 0 {
-        return "";
-    }
-    if function as usize > functions.len() {
-        return "";
-    }
-    config.function(function).name.as_str()
-}
+use call_model::{Call, function_name};
 
 /// Tells the header X-Amzn-Trace-Id that came with an Invoke, if one came.
 fn say_trace_if(teller: &mut Teller, trace: &Option<Text>)
@@ -209,7 +193,7 @@ pub(crate) fn say_call(teller: &mut Teller, config: &Checked, bodies: bool, call
             trace,
             body,
         } => {
-            let name = name_of(config, *function);
+            let name = function_name(config, *function);
             say_invoke(teller, name, *qualified, trace, bodies, body)
         }
         Call::RuntimeNext { env } => say_environment(teller, "next", *env),
@@ -256,7 +240,7 @@ pub(crate) fn say_call(teller: &mut Teller, config: &Checked, bodies: bool, call
         Call::Expire { env } => say_environment(teller, "expire", *env),
         Call::Reserve { function, count } => say_reserve(
             teller,
-            name_of(config, *function),
+            function_name(config, *function),
             *count,
         ),
     }

@@ -7,7 +7,7 @@ ghost use Rattle.base64.specs.GeneralPurpose.{encode_of};
 ghost use Rattle.json.specs.Lex.{tokens};
 ghost use Rattle.json.specs.Print.{print};
 ghost use Rattle.json.specs.Token.{string};
-ghost use Rattle.uuid.specs.Text.{hyphenated_text, lower};
+ghost use Rattle.call_model.specs.Identifiers.{id_text};
 ghost use Rattle.trace.specs.Members.{body_member, text_member};
 ghost use Rattle.trace.specs.Telling.{Adds, inset_tokens, part_token, run_tokens, tokens_of};
 
@@ -50,9 +50,12 @@ impl Model for Draft {
     ghost view = { λ d. tokens_of d.runs.items d.parts.items };
 }
 
-fn write_identifier(writer: &mut Writer, id: Uuid) -> Result<(), AllocError>
-    ensures { Adds result (string (hyphenated_text lower id) ∷ []) writer.old writer.new }
+fn write_identifier(writer: &mut Writer, id: Option<Uuid>) -> Result<(), AllocError>
+    ensures { Adds result (string (id_text id) ∷ []) writer.old writer.new }
 {
+    let Some(id) = id else {
+        return writer.string("-");
+    };
     let mut buffer = Uuid::encode_buffer();
     writer.string(id.hyphenated().encode_lower(&mut buffer))
 }

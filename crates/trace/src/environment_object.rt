@@ -8,10 +8,10 @@ ghost use Rattle.trace.specs.EnvironmentObject.{environment_object, extension_ob
 ghost use Rattle.trace.specs.Telling.{Tells};
 
 use crate::part::Part;
-use crate::past_parts::identifier;
 use crate::phase_object::{bound_of, phase_word, say_reason_if, served_by};
 use crate::teller::Teller;
 use arn_ids::{Checked, EnvNo, IdKind};
+use call_model::identifier;
 use env_phase::Environment;
 use extension_set::Member;
 
@@ -42,7 +42,7 @@ fn say_extension(teller: &mut Teller, salt: u64, env: EnvNo, extension: &Member)
     teller.say_all(&[
         Part::CloseList,
         Part::Key("extension"),
-        identifier(salt, IdKind::Extension, env, extension.count()),
+        Part::Identifier(identifier(salt, IdKind::Extension, env, extension.count())),
     ]);
     teller.say_text("name", extension.name());
     teller.say_number_if("poll", extension.parked());

@@ -4,7 +4,6 @@ ghost use Rattle.std.specs.Prelude.{◌≡◌, ◌+◌, ◌-◌, ◌<◌, ◌≤
 ghost use Rattle.std.specs.List.{flat_map};
 ghost use Rattle.arn_ids.specs.Environments.{owners};
 ghost use Rattle.arn_ids.specs.Faults.{first_fault};
-ghost use Rattle.call_types.specs.declared.call.Entry.{Entry};
 ghost use Rattle.call_model.specs.Next.{IsLegal};
 ghost use Rattle.env_phase.specs.Taking.{registered_name, IsShort};
 ghost use Rattle.json.specs.Token.{Token};
@@ -17,8 +16,7 @@ use crate::reach::Reach;
 use crate::reached::{count_all, take_within, within};
 use crate::site::Site;
 use arn_ids::{Checked, EnvNo};
-use call_model::{Entry, Phase, Ticket};
-use entry_blocks::Blocks;
+use call_model::{Past, Phase, Ticket};
 use env_phase::Environment;
 use extension_set::Moves;
 use std::alloc::{AllocError, Global};
@@ -98,19 +96,20 @@ impl Follower {
 
     /// Follows the entry with a ticket, after all entries before it. It allocates nothing, and looks at no
     /// entry but this one and, for a Withdraw, that of the Next.
-    pub fn follow(&mut self, config: &Checked, entries: &Blocks<Entry>, ticket: Ticket)
-        requires legal { IsLegal config.now (reverse entries.now.0) }
-        requires there { ticket < length entries.now.0 }
-        requires few { length entries.now.0 ≤ 2 ^ 32 }
-        requires fit { All IsFit entries.now.0 }
-        requires at { self.old ≡ sites_in config.now (before (reverse entries.now.0) ticket) }
-        ensures { self.new ≡ sites_in config.now (before (reverse entries.now.0) (ticket + 1)) }
+    pub fn follow(&mut self, past: &Past, ticket: Ticket)
+        requires legal { IsLegal past.now.config.now (reverse past.now.entries.now.0) }
+        requires there { ticket < length past.now.entries.now.0 }
+        requires few { length past.now.entries.now.0 ≤ 2 ^ 32 }
+        requires fit { All IsFit past.now.entries.now.0 }
+        requires at { self.old ≡ sites_in past.now.config.now (before (reverse past.now.entries.now.0) ticket) }
+        ensures { self.new
+            ≡ sites_in past.now.config.now (before (reverse past.now.entries.now.0) (ticket + 1)) }
     {
-        let entry = entries.at(ticket as usize);
+        let entry = past.entries.at(ticket as usize);
         let arrival = Arrival {
             ticket,
             moment: entry.moment,
-            reach: Reach::of(entries, ticket, entry.place, &entry.call),
+            reach: Reach::of(past.entries, ticket, entry.place, &entry.call),
             call: &entry.call,
         };
         self.take(&arrival);

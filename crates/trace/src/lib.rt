@@ -4,7 +4,6 @@
 
 mod answer_object;
 mod arrival;
-mod bodies;
 mod call_object;
 mod draft;
 mod environment_object;
@@ -14,7 +13,6 @@ mod line;
 mod listing;
 mod object;
 mod part;
-mod past_parts;
 mod phase_object;
 mod reach;
 mod reached;

@@ -4,7 +4,7 @@ ghost use Rattle.std.specs.Prelude.{◌≡◌, ◌+◌, ◌<◌, length, map, re
 ghost use Rattle.std.specs.List.{flat_map};
 ghost use Rattle.call_types.specs.declared.call.Entry.{Entry};
 ghost use Rattle.trace.specs.AnswerObject.{answer_object};
-ghost use Rattle.trace.specs.Members.{number_if, object};
+ghost use Rattle.trace.specs.Members.{object};
 ghost use Rattle.trace.specs.Object.{before, charged_at, expired, object_tokens};
 ghost use Rattle.trace.specs.Object.{released, request_if, told};
 ghost use Rattle.trace.specs.Sites.{sites as sites_in, turn_of};
@@ -15,11 +15,10 @@ use crate::call_object::say_call;
 use crate::draft::Draft;
 use crate::follower::Follower;
 use crate::part::Part;
-use crate::past_parts::request_part;
 use crate::phase_object::{say_all_released, say_phases};
 use crate::site::Site;
 use crate::teller::{Teller, widened};
-use arn_ids::{Checked, EnvNo};
+use arn_ids::EnvNo;
 use call_model::{Answer, Call, Entry, Past, Ticket};
 use std::alloc::AllocError;
 
@@ -55,7 +54,10 @@ fn say_request_if(teller: &mut Teller, past: &Past, ticket: Ticket, call: &Call)
         teller.old teller.new }
 {
     if call.is_invoke() {
-        teller.say_all(&[Part::Key("request"), request_part(past, ticket)]);
+        teller.say_all(&[
+            Part::Key("request"),
+            Part::Identifier(past.request_id(ticket)),
+        ]);
     }
 }
 
@@ -63,20 +65,19 @@ fn say_request_if(teller: &mut Teller, past: &Past, ticket: Ticket, call: &Call)
 #[tactic(auto, unfolding(crate::specs::Object::told))]
 fn say_entry(
     teller: &mut Teller,
-    config: &Checked,
     past: &Past,
     bodies: bool,
     ticket: Ticket,
     entry: &Entry,
     sites: &[Site],
 )
-    ensures { Tells (told bodies config.now past.now.salt (reverse past.now.entries.now.0) ticket entry.now
-        (map turn_of sites.now)) teller.old teller.new }
+    ensures { Tells (told bodies past.now.config.now past.now.salt (reverse past.now.entries.now.0) ticket
+        entry.now (map turn_of sites.now)) teller.old teller.new }
 {
     teller.say_all(&[Part::Open, Part::Key("answers"), Part::OpenList]);
     say_answers(teller, past, bodies, entry.answers.as_slice());
     teller.say_all(&[Part::CloseList, Part::Key("call")]);
-    say_call(teller, config, bodies, &entry.call);
+    say_call(teller, past.config, bodies, &entry.call);
     teller.say_number_if("charged", charged_at(ticket, entry.place));
     teller.say_number_if("expires", expired(&entry.call));
     teller.say_all(&[
@@ -102,30 +103,17 @@ impl Follower {
     ///
     /// # Errors
     /// Only if memory is refused.
-    pub fn draft(
-        &self,
-        config: &Checked,
-        past: &Past,
-        bodies: bool,
-        ticket: Ticket,
-    ) -> Result<Draft, AllocError>
+    pub fn draft(&self, past: &Past, bodies: bool, ticket: Ticket) -> Result<Draft, AllocError>
         requires there { ticket < length past.now.entries.now.0 }
-        requires at { self.now ≡ sites_in config.now (before (reverse past.now.entries.now.0) (ticket + 1)) }
+        requires at { self.now
+            ≡ sites_in past.now.config.now (before (reverse past.now.entries.now.0) (ticket + 1)) }
         ensures { let h = reverse past.now.entries.now.0 in IfOk result (λ draft. (d : Entry)
-            → draft ≡ object_tokens bodies config.now past.now.salt h (before h ticket)
+            → draft ≡ object_tokens bodies past.now.config.now past.now.salt h (before h ticket)
             (slice_index_or past.now.entries.now.0 ticket d)) }
     {
         let entry = past.entries.at(ticket as usize);
         let mut teller = Teller::new(self.alloc)?;
-        say_entry(
-            &mut teller,
-            config,
-            past,
-            bodies,
-            ticket,
-            entry,
-            self.reached(),
-        );
+        say_entry(&mut teller, past, bodies, ticket, entry, self.reached());
         teller.finish()
     }
 }

@@ -23,8 +23,8 @@ pub(crate) enum Part {
     Number(u64),
     /// True or false.
     Flag(bool),
-    /// An identifier, hyphenated and in lower case (RFC 9562, section 4).
-    Identifier(Uuid),
+    /// An identifier, hyphenated and in lower case (RFC 9562, section 4); a dash if there is none.
+    Identifier(Option<Uuid>),
 }
 
 /// What is no part, since it has memory of its own.

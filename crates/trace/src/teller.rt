@@ -1,9 +1,9 @@
 //! How an object is told, token by token.
 
-ghost use Rattle.std.specs.Prelude.{◌≡◌, ◌∷◌, [], true, false, List, map, option_map, IfOk};
+ghost use Rattle.std.specs.Prelude.{◌≡◌, ◌∷◌, ◌++◌, [], true, false, List, map, option_map, unwrap_or, IfOk};
 ghost use Rattle.json.specs.Token.{Token, string};
 ghost use Rattle.trace.specs.Members.{body_member, number_if, text_member};
-ghost use Rattle.trace.specs.Telling.{IsBegun, Tells, bytes_of, inset_tokens, part_token, tokens_of};
+ghost use Rattle.trace.specs.Telling.{IsBegun, Tells, inset_tokens, part_token, tokens_of};
 
 use crate::draft::Draft;
 use crate::part::{Inset, Part, Run};
@@ -121,7 +121,7 @@ impl Teller {
     /// Tells a body, if bodies are asked for: one without bytes if there is none.
     #[tactic(auto, unfolding(crate::specs::Members::body_member))]
     pub(crate) fn say_body(&mut self, bodies: bool, body: Option<&Bytes>)
-        ensures { Tells (body_member bodies (bytes_of (option_map (λ bytes. bytes.now) body.entry))) self.old self.new }
+        ensures { Tells (body_member bodies (unwrap_or (option_map (λ bytes. bytes.now) body.entry) [])) self.old self.new }
     {
         if bodies {
             match body {
@@ -139,5 +139,22 @@ impl Teller {
             Ok(body) => self.say_inset(Inset::Body(body)),
             Err(_) => self.cut(),
         }
+    }
+
+    /// Tells an object with a body among its members.
+    pub(crate) fn say_around(
+        &mut self,
+        front: &[Part],
+        bodies: bool,
+        body: Option<&Bytes>,
+        rest: &[Part],
+    )
+        ensures { Tells (map part_token front.now
+            ++ (body_member bodies (unwrap_or (option_map (λ bytes. bytes.now) body.entry) []) ++ map part_token rest.now))
+            self.old self.new }
+    {
+        self.say_all(front);
+        self.say_body(bodies, body);
+        self.say_all(rest);
     }
 }

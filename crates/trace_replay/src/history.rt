@@ -9,7 +9,7 @@ ghost use Rattle.trace_replay.specs.Lines.{Fails, Flushed, LineAdded};
 ghost use Rattle.trace_replay.specs.Traces.{CutShort, book_trace};
 
 use account_book::Book;
-use call_model::{Past, Ticket};
+use call_model::Ticket;
 use script_replay::{ReplayFault, write_whole};
 use std::alloc::{AllocError, Global};
 use std::io::Write;
@@ -34,13 +34,9 @@ fn push_line(
     ensures err { OnErr result (out.new.items ≡ out.old.items) }
 {
     book.facts();
-    let past = Past {
-        salt: book.salt(),
-        entries: book.entries(),
-        counts: book.counts(),
-    };
-    follower.follow(book.config(), past.entries, ticket);
-    let object = follower.draft(book.config(), &past, bodies, ticket)?;
+    let past = book.past();
+    follower.follow(&past, ticket);
+    let object = follower.draft(&past, bodies, ticket)?;
     object.push_to(out)
 }
 

@@ -3,13 +3,13 @@
 mod past;
 
 use crate::parts::configurations::setup_of;
-use crate::parts::histories::past::Past;
+use crate::parts::histories::past::Recorded;
 use crate::parts::lines::{Calls, LineFault, Words, make_calls};
 use crate::parts::script_calls::call_of;
 use crate::parts::written_answers::answer_of;
 use crate::shown::taken;
 use arn_ids::Checked;
-use call_model::{Answer, Answers, Entry, Ticket};
+use call_model::{Answer, Answers, Entry, Past, Ticket};
 use case_tables::{Case, CaseFault, Given};
 use script::{draft_entry, push_answers};
 use std::alloc::Global;
@@ -20,43 +20,28 @@ use std::mem;
 struct Account {
     config: Option<Checked>,
     salt: u64,
-    past: Past,
+    recorded: Recorded,
     answers: Vec<(Ticket, Answer)>,
 }
 
 /// Adds the entry with this number as the history's text has it.
-fn say_entry(
-    config: &Checked,
-    salt: u64,
-    past: &Past,
-    number: u64,
-    given: &mut Given,
-) -> Result<(), LineFault> {
-    let entries = past.entries();
-    if entries.len() as u64 <= number {
+fn say_entry(past: &Past, number: u64, given: &mut Given) -> Result<(), LineFault> {
+    if past.entries.len() as u64 <= number {
         return Err(LineFault::Malformed);
     }
-    let draft = draft_entry(
-        given.alloc(),
-        config,
-        salt,
-        entries,
-        past.counts(),
-        number as usize,
-    )?;
+    let draft = draft_entry(given.alloc(), past, number as usize)?;
     let written = taken(draft)?;
     given.push_bytes(written.as_slice());
     Ok(())
 }
 
 /// Adds the answers of the entry with this number.
-fn say_answers(salt: u64, past: &Past, number: u64, given: &mut Given) -> Result<(), LineFault> {
-    let entries = past.entries();
-    if entries.len() as u64 <= number {
+fn say_answers(past: &Past, number: u64, given: &mut Given) -> Result<(), LineFault> {
+    if past.entries.len() as u64 <= number {
         return Err(LineFault::Malformed);
     }
     let mut written = Vec::new(given.alloc());
-    push_answers(&mut written, salt, entries, past.counts(), number as usize)?;
+    push_answers(&mut written, past, number as usize)?;
     given.push_bytes(written.as_slice());
     Ok(())
 }
@@ -84,7 +69,7 @@ impl Account {
 fn add(
     alloc: Global,
     config: &Checked,
-    past: &mut Past,
+    recorded: &mut Recorded,
     answers: &mut Vec<(Ticket, Answer)>,
     line: &str,
 ) -> Result<(), LineFault> {
@@ -96,21 +81,14 @@ fn add(
         answers: Answers::new(answers),
         place: None,
     };
-    Ok(past.add(entry)?)
+    Ok(recorded.add(entry)?)
 }
 
 /// Adds what a word asks about the entry with this number.
-fn say(
-    config: &Checked,
-    salt: u64,
-    past: &Past,
-    word: &str,
-    number: u64,
-    given: &mut Given,
-) -> Result<(), LineFault> {
+fn say(past: &Past, word: &str, number: u64, given: &mut Given) -> Result<(), LineFault> {
     match word {
-        "text" => say_entry(config, salt, past, number, given),
-        "answers" => say_answers(salt, past, number, given),
+        "text" => say_entry(past, number, given),
+        "answers" => say_answers(past, number, given),
         _ => Err(LineFault::Malformed),
     }
 }
@@ -126,19 +104,13 @@ fn call_account(account: &mut Account, line: &str, given: &mut Given) -> Result<
         return add(
             given.alloc(),
             config,
-            &mut account.past,
+            &mut account.recorded,
             answers,
             words.rest(),
         );
     }
-    say(
-        config,
-        account.salt,
-        &account.past,
-        word,
-        words.last_number()?,
-        given,
-    )
+    let past = account.recorded.read(config, account.salt);
+    say(&past, word, words.last_number()?, given)
 }
 
 impl Calls for Account {
@@ -167,7 +139,7 @@ pub fn give(case: &Case, given: &mut Given) -> Result<(), CaseFault> {
     let mut account = Account {
         config: None,
         salt: 0,
-        past: Past::new(alloc),
+        recorded: Recorded::new(alloc),
         answers: Vec::new(alloc),
     };
     make_calls(case, &mut account, given)

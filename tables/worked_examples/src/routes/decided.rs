@@ -7,7 +7,7 @@ use crate::routes::port::PortOfCase;
 use crate::shown::taken;
 use arn_ids::Checked;
 use bytes::Bytes;
-use call_model::{Answers, Call, Entry, Ticket};
+use call_model::{Answers, Call, Entry, Past, Ticket};
 use case_tables::Given;
 use entry_blocks::Blocks;
 use http::request::Parts;
@@ -62,7 +62,13 @@ fn line_of(alloc: Global, config: &Checked, call: Call) -> Result<Vec<u8>, Alloc
     let count = count_of(&entry);
     let entries = row_of(alloc, entry)?;
     let counts = row_of(alloc, count)?;
-    taken(draft_entry(alloc, config, 0, &entries, &counts, 0)?)
+    let past = Past {
+        config,
+        salt: 0,
+        entries: &entries,
+        counts: &counts,
+    };
+    taken(draft_entry(alloc, &past, 0)?)
 }
 
 /// Adds a script's line. If it ends with the request's body and that is long, adds the body's

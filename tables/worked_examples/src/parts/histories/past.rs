@@ -5,8 +5,8 @@ ghost use Rattle.std.specs.List.{count_by};
 ghost use Rattle.call_model.specs.History.{is_invoke_of};
 ghost use Rattle.call_model.specs.CallCounts.{call_counts, request_count};
 
-use arn_ids::FnNo;
-use call_model::{Call, Entry};
+use arn_ids::{Checked, FnNo};
+use call_model::{Call, Entry, Past};
 use entry_blocks::Blocks;
 use std::alloc::{AllocError, Global};
 use std::marker::Model;
@@ -14,12 +14,12 @@ use std::marker::Model;
 /// Entries, the oldest first, each with the count in its request identifier, or 0 if it is not an
 /// Invoke.
 #[derive(Drop)]
-pub struct Past {
+pub struct Recorded {
     entries: Blocks<Entry>,
     counts: Blocks<u64>,
 }
 
-impl Model for Past {
+impl Model for Recorded {
     ghost use Rattle.std.specs.Prelude.{◌≡◌, List, reverse};
     ghost use Rattle.call_types.specs.declared.call.Entry.{Entry as TheEntry};
     ghost use Rattle.call_model.specs.CallCounts.{call_counts};
@@ -69,10 +69,10 @@ fn next_count(entries: &Blocks<Entry>, entry: &Entry) -> u64
     }
 }
 
-impl Past {
-    /// Creates an empty past.
-    pub fn new(alloc: Global) -> Past {
-        Past {
+impl Recorded {
+    /// Returns no entries.
+    pub fn new(alloc: Global) -> Recorded {
+        Recorded {
             entries: Blocks::open(alloc),
             counts: Blocks::open(alloc),
         }
@@ -91,17 +91,15 @@ impl Past {
         Ok(())
     }
 
-    /// Returns the entries.
-    pub fn entries(&self) -> &Blocks<Entry>
-        ensures { result.now.0 ≡ self.now }
+    /// Returns what is read of them, under a configuration with a salt.
+    pub fn read<'a>(&'a self, config: &'a Checked, salt: u64) -> Past<'a>
+        ensures { result.entries.now.0 ≡ self.now }
     {
-        &self.entries
-    }
-
-    /// Returns the counts.
-    pub fn counts(&self) -> &Blocks<u64>
-        ensures { reverse result.now.0 ≡ call_counts (reverse self.now) }
-    {
-        &self.counts
+        Past {
+            config,
+            salt,
+            entries: &self.entries,
+            counts: &self.counts,
+        }
     }
 }
