@@ -1,13 +1,13 @@
 -- What a configuration without a fault keeps to: each of its limits, by function number and by environment number.
-use Rattle.std.proofs.Common.{◌≡◌, ℕ, zero, suc, ◌+◌, ◌-◌, ◌<◌, ◌≤◌, Bool, true, false, not, ◌||◌, ◌&&◌, nat_le, nat_lt, nat_eq, ◌==◌, unwrap_or, bytes_eq, List, [], ◌∷◌, ◌++◌, length, map, sum_by, Option, Some, None, refl, ap, sym, ◌∙◌, arith, length-append}
+use Rattle.std.proofs.Common.{◌≡◌, ℕ, zero, suc, ◌+◌, ◌-◌, ◌<◌, ◌≤◌, Bool, true, false, not, ◌||◌, ◌&&◌, nat_le, nat_lt, ◌==◌, unwrap_or, bytes_eq, List, [], ◌∷◌, length, map, sum_by, Option, Some, None, refl, ap, sym, ◌∙◌, arith, length-append}
 use Rattle.std.specs.List.{list_any, list_all, position_or_len}
 use Rattle.std.proofs.lemmas.List.Sums.{position_or_len_is}
 use Rattle.std.proofs.lemmas.Cmp.{nat_list_eq_equiv}
 use Rattle.std.proofs.lemmas.Bool.{ltb-true, ltb-false, lt-ltb, leb-true, eqb-true}
 use Rattle.std.proofs.lemmas.List.{length-map}
 use Rattle.arn_ids.specs.Words.{is_digit, is_name_byte, is_region_byte, is_printable, is_word, is_account, is_region, is_name, is_label}
-use Rattle.arn_ids.specs.Environments.{at, numbered, no_function, function_at, number_named, owners_from, owners, owner_of, function_of, timeout_of, expected_at}
-use Rattle.arn_ids.specs.Faults.{first_fault, earliest, is_between, is_namesake, repeats, environment_ports, reservation_of, has_bad_account, has_bad_region, has_bad_account_limit, has_bad_least_remainder, has_too_many_functions, has_bad_name, has_duplicate_name, has_bad_handler, has_bad_timeout, has_function_without_environment, has_too_many_environments, has_bad_port, has_duplicate_port, has_too_many_extensions, has_bad_extension, has_duplicate_extension, has_reservation_above_environments, has_too_small_remainder}
+use Rattle.arn_ids.specs.Environments.{at, numbered, no_function, function_at, number_named, owners_from, owners, owner_of, function_of}
+use Rattle.arn_ids.specs.Faults.{first_fault, earliest, is_between, is_namesake, repeats, reservation_of, has_bad_account, has_bad_region, has_bad_account_limit, has_bad_least_remainder, has_too_many_functions, has_bad_name, has_duplicate_name, has_bad_handler, has_bad_timeout, has_function_without_environment, has_too_many_environments, has_bad_port, has_duplicate_port, has_too_many_extensions, has_bad_extension, has_duplicate_extension, has_reservation_above_environments, has_too_small_remainder}
 use Rattle.arn_ids.specs.declared.config.Config.{Config}
 use Rattle.arn_ids.specs.declared.config.Function.{Function}
 use Rattle.arn_ids.specs.declared.faults.ConfigFault.{ConfigFault}

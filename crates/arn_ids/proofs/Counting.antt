@@ -1,8 +1,7 @@
 -- Places in a list, and how the environments of the functions from one on follow from those of the next.
-use Rattle.std.proofs.Common.{◌≡◌, ℕ, zero, suc, ◌+◌, ◌-◌, ◌<◌, ◌≤◌, List, [], ◌∷◌, ◌++◌, length, map, get_or, drop, refl, ap, sym, ◌∙◌, arith, add-one, add-suc, drop-cons, length-append, append_assoc, sum_by}
-use Rattle.std.proofs.lemmas.List.Sums.{sum_by-cons}
+use Rattle.std.proofs.Common.{◌≡◌, ℕ, zero, suc, ◌+◌, ◌-◌, ◌<◌, ◌≤◌, List, [], ◌∷◌, ◌++◌, length, map, get_or, drop, refl, ap, ◌∙◌, arith, add-one, add-suc, drop-cons, length-append}
 use Rattle.std.proofs.lemmas.List.{length-map}
-use Rattle.arn_ids.specs.Environments.{at, numbered, no_function, count_from, owners_from}
+use Rattle.arn_ids.specs.Environments.{at, numbered, no_function, owners_from}
 use Rattle.arn_ids.specs.declared.config.Function.{Function}
 
 -- an element that is there is the same whatever stands for one that isn't

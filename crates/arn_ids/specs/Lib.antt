@@ -5,4 +5,5 @@ pub mod Numbers
 pub mod Grammar
 pub mod Identifiers
 pub mod Faults
+pub mod Places
 pub mod Views

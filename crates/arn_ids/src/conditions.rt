@@ -1,4 +1,4 @@
-//! Whether a configuration has each of the faults that it can have.
+//! Whether a configuration, or its first functions alone, have each of the faults that there are.
 
 ghost use Rattle.std.specs.Prelude.{◌≡◌, ◌||◌, ◌++◌, not, nat_eq, nat_lt, length, bytes_eq, map, true};
 ghost use Rattle.std.specs.Bool.{MatchBool};
@@ -6,8 +6,9 @@ ghost use Rattle.std.specs.List.{list_any};
 ghost use Rattle.arn_ids.specs.Words.{is_label as is_label_text};
 ghost use Rattle.arn_ids.specs.Faults as faults;
 
+use crate::part::Part;
 use crate::words::{is_account, is_label, is_name, is_region};
-use crate::{Config, Function, MOST_ENVIRONMENTS, MOST_EXTENSIONS, Slot, Text};
+use crate::{Function, MOST_ENVIRONMENTS, MOST_EXTENSIONS, Slot, Text};
 
 const MOST_FUNCTIONS: usize = 64;
 
@@ -16,55 +17,55 @@ const HIGHEST_ACCOUNT_LIMIT: u32 = 1_000_000;
 const LONGEST_TIMEOUT_S: u32 = 900;
 
 #[tactic(auto, unfolding(crate::specs::Faults::has_bad_account))]
-pub(crate) fn has_bad_account(config: &Config) -> bool
+pub(crate) fn has_bad_account(config: &Part<'_>) -> bool
     ensures { result ≡ faults.has_bad_account config.now }
 {
     !is_account(config.home.account.as_str())
 }
 
 #[tactic(auto, unfolding(crate::specs::Faults::has_bad_region))]
-pub(crate) fn has_bad_region(config: &Config) -> bool
+pub(crate) fn has_bad_region(config: &Part<'_>) -> bool
     ensures { result ≡ faults.has_bad_region config.now }
 {
     !is_region(config.home.region.as_str())
 }
 
 #[tactic(auto, unfolding(crate::specs::Faults::has_bad_account_limit))]
-pub(crate) fn has_bad_account_limit(config: &Config) -> bool
+pub(crate) fn has_bad_account_limit(config: &Part<'_>) -> bool
     ensures { result ≡ faults.has_bad_account_limit config.now }
 {
     !(1 <= config.account_limit && config.account_limit <= HIGHEST_ACCOUNT_LIMIT)
 }
 
 #[tactic(auto, unfolding(crate::specs::Faults::has_bad_least_remainder))]
-pub(crate) fn has_bad_least_remainder(config: &Config) -> bool
+pub(crate) fn has_bad_least_remainder(config: &Part<'_>) -> bool
     ensures { result ≡ faults.has_bad_least_remainder config.now }
 {
     config.account_limit < config.least_remainder
 }
 
 #[tactic(auto, unfolding(crate::specs::Faults::has_too_many_functions))]
-pub(crate) fn has_too_many_functions(config: &Config) -> bool
+pub(crate) fn has_too_many_functions(config: &Part<'_>) -> bool
     ensures { result ≡ faults.has_too_many_functions config.now }
 {
-    MOST_FUNCTIONS < config.functions.as_slice().len()
+    MOST_FUNCTIONS < config.functions().len()
 }
 
 #[tactic(auto, unfolding(crate::specs::Faults::has_bad_name))]
-pub(crate) fn has_bad_name(config: &Config) -> bool
+pub(crate) fn has_bad_name(config: &Part<'_>) -> bool
     ensures { result ≡ faults.has_bad_name config.now }
 {
-    let functions = config.functions.as_slice();
+    let functions = config.functions();
     functions
         .iter()
         .any(|function| !is_name(function.name.as_str()))
 }
 
 #[tactic(auto, unfolding(crate::specs::Faults::has_duplicate_name))]
-pub(crate) fn has_duplicate_name(config: &Config) -> bool
+pub(crate) fn has_duplicate_name(config: &Part<'_>) -> bool
     ensures { result ≡ faults.has_duplicate_name config.now }
 {
-    let functions = config.functions.as_slice();
+    let functions = config.functions();
     for (i, function) in functions.iter().enumerate() {
         if has_function_named(&functions[i + 1..], function.name.as_str()) {
             return true;
@@ -82,10 +83,10 @@ fn has_function_named(functions: &[Function], name: &str) -> bool
 }
 
 #[tactic(auto, unfolding(crate::specs::Faults::has_bad_handler))]
-pub(crate) fn has_bad_handler(config: &Config) -> bool
+pub(crate) fn has_bad_handler(config: &Part<'_>) -> bool
     ensures { result ≡ faults.has_bad_handler config.now }
 {
-    let functions = config.functions.as_slice();
+    let functions = config.functions();
     functions
         .iter()
         .any(|function| !is_label(function.handler.as_str()))
@@ -98,28 +99,28 @@ fn has_bad_timeout_s(function: &Function) -> bool
 }
 
 #[tactic(auto, unfolding(crate::specs::Faults::has_bad_timeout))]
-pub(crate) fn has_bad_timeout(config: &Config) -> bool
+pub(crate) fn has_bad_timeout(config: &Part<'_>) -> bool
     ensures { result ≡ faults.has_bad_timeout config.now }
 {
-    config.functions.as_slice().iter().any(has_bad_timeout_s)
+    config.functions().iter().any(has_bad_timeout_s)
 }
 
 #[tactic(auto, unfolding(crate::specs::Faults::has_function_without_environment))]
-pub(crate) fn has_function_without_environment(config: &Config) -> bool
+pub(crate) fn has_function_without_environment(config: &Part<'_>) -> bool
     ensures { result ≡ faults.has_function_without_environment config.now }
 {
-    let functions = config.functions.as_slice();
+    let functions = config.functions();
     functions
         .iter()
         .any(|function| function.slots.as_slice().len() == 0)
 }
 
 #[tactic(auto, unfolding(crate::specs::Faults::has_too_many_environments))]
-pub(crate) fn has_too_many_environments(config: &Config) -> bool
+pub(crate) fn has_too_many_environments(config: &Part<'_>) -> bool
     ensures { result ≡ faults.has_too_many_environments config.now }
 {
     let mut left = MOST_ENVIRONMENTS;
-    for function in config.functions.as_slice() {
+    for function in config.functions() {
         let slots = function.slots.as_slice().len();
         if left < slots {
             return true;
@@ -145,10 +146,10 @@ fn has_environment_on(functions: &[Function], port: u16) -> bool
 }
 
 #[tactic(auto, unfolding(crate::specs::Faults::has_bad_port))]
-pub(crate) fn has_bad_port(config: &Config) -> bool
+pub(crate) fn has_bad_port(config: &Part<'_>) -> bool
     ensures { result ≡ faults.has_bad_port config.now }
 {
-    config.invoke_port == 0 || has_environment_on(config.functions.as_slice(), 0)
+    config.invoke_port() == 0 || has_environment_on(config.functions(), 0)
 }
 
 /// Whether one of these slots, or an environment of these functions, has this port.
@@ -174,11 +175,11 @@ fn has_port_again(slots: &[Slot], later: &[Function]) -> bool
 }
 
 #[tactic(auto, unfolding(crate::specs::Faults::has_duplicate_port))]
-pub(crate) fn has_duplicate_port(config: &Config) -> bool
+pub(crate) fn has_duplicate_port(config: &Part<'_>) -> bool
     ensures { result ≡ faults.has_duplicate_port config.now }
 {
-    let functions = config.functions.as_slice();
-    if has_environment_on(functions, config.invoke_port) {
+    let functions = config.functions();
+    if has_environment_on(functions, config.invoke_port()) {
         return true;
     }
     for (i, function) in functions.iter().enumerate() {
@@ -190,10 +191,10 @@ pub(crate) fn has_duplicate_port(config: &Config) -> bool
 }
 
 #[tactic(auto, unfolding(crate::specs::Faults::has_too_many_extensions))]
-pub(crate) fn has_too_many_extensions(config: &Config) -> bool
+pub(crate) fn has_too_many_extensions(config: &Part<'_>) -> bool
     ensures { result ≡ faults.has_too_many_extensions config.now }
 {
-    let functions = config.functions.as_slice();
+    let functions = config.functions();
     functions.iter().any(|function| MOST_EXTENSIONS < function.extensions.as_slice().len())
 }
 
@@ -204,10 +205,10 @@ fn has_bad_label(names: &[Text]) -> bool
 }
 
 #[tactic(auto, unfolding(crate::specs::Faults::has_bad_extension))]
-pub(crate) fn has_bad_extension(config: &Config) -> bool
+pub(crate) fn has_bad_extension(config: &Part<'_>) -> bool
     ensures { result ≡ faults.has_bad_extension config.now }
 {
-    let functions = config.functions.as_slice();
+    let functions = config.functions();
     functions
         .iter()
         .any(|function| has_bad_label(function.extensions.as_slice()))
@@ -231,10 +232,10 @@ fn repeats_name(names: &[Text]) -> bool
 }
 
 #[tactic(auto, unfolding(crate::specs::Faults::has_duplicate_extension))]
-pub(crate) fn has_duplicate_extension(config: &Config) -> bool
+pub(crate) fn has_duplicate_extension(config: &Part<'_>) -> bool
     ensures { result ≡ faults.has_duplicate_extension config.now }
 {
-    let functions = config.functions.as_slice();
+    let functions = config.functions();
     functions
         .iter()
         .any(|function| repeats_name(function.extensions.as_slice()))
@@ -248,21 +249,21 @@ fn reserves_too_many(function: &Function) -> bool
 }
 
 #[tactic(auto, unfolding(crate::specs::Faults::has_reservation_above_environments))]
-pub(crate) fn has_reservation_above_environments(config: &Config) -> bool
+pub(crate) fn has_reservation_above_environments(config: &Part<'_>) -> bool
     ensures { result ≡ faults.has_reservation_above_environments config.now }
 {
-    config.functions.as_slice().iter().any(reserves_too_many)
+    config.functions().iter().any(reserves_too_many)
 }
 
 #[tactic(auto, unfolding(crate::specs::Faults::has_too_small_remainder))]
-pub(crate) fn has_too_small_remainder(config: &Config) -> bool
+pub(crate) fn has_too_small_remainder(config: &Part<'_>) -> bool
     ensures { result ≡ faults.has_too_small_remainder config.now }
 {
     if config.account_limit < config.least_remainder {
         return true;
     }
     let mut left = config.account_limit - config.least_remainder;
-    for function in config.functions.as_slice() {
+    for function in config.functions() {
         let reserved = function.reserved.unwrap_or(0);
         if left < reserved {
             return true;

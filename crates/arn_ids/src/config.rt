@@ -1,11 +1,12 @@
 //! The configuration of one account.
 
-ghost use Rattle.std.specs.Prelude.{◌≡◌, ◌≤◌, length, bytes_eq, position, MatchResult, Some, None};
+ghost use Rattle.std.specs.Prelude.{◌≡◌, ◌≤◌, length, bytes_eq, position, MatchResult, None};
 ghost use Rattle.arn_ids.specs.Environments.{function_at, number_named, owners, function_of};
 ghost use Rattle.arn_ids.specs.Faults.{first_fault};
+ghost use Rattle.arn_ids.specs.Places.{IsPlaceOf};
 
-use crate::faults::fault_of;
-use crate::{ConfigFault, Row, Text};
+use crate::search::place_in;
+use crate::{FaultPlace, Row, Text};
 use std::marker::Model;
 
 /// The number of a function, from 1 in the order of the configuration.
@@ -69,13 +70,12 @@ impl Config {
     /// Returns the configuration as checked, if it has no fault.
     ///
     /// # Errors
-    /// The first fault that holds. The configuration is then dropped.
-    pub fn check(self) -> Result<Checked, ConfigFault>
-        ensures { MatchResult result (λ checked. (checked ≡ self) × (first_fault self ≡ None))
-            (λ fault. first_fault self ≡ Some fault) }
+    /// The first fault that holds, with the function with which it comes in. The configuration is then dropped.
+    pub fn check(self) -> Result<Checked, FaultPlace>
+        ensures { MatchResult result (λ checked. (checked ≡ self) × (first_fault self ≡ None)) (IsPlaceOf self) }
     {
-        match fault_of(&self) {
-            Some(fault) => Err(fault),
+        match place_in(&self) {
+            Some(place) => Err(place),
             None => Ok(Checked { config: self }),
         }
     }

@@ -3,7 +3,8 @@
 ghost use Rattle.std.specs.Prelude.{◌≡◌};
 ghost use Rattle.arn_ids.specs.Faults.{first_fault, earliest, account_faults, function_faults, environment_faults};
 
-use crate::{Config, conditions};
+use crate::conditions;
+use crate::part::Part;
 use std::error::Error;
 use std::fmt;
 
@@ -90,7 +91,7 @@ impl Error for ConfigFault {}
 
 /// Returns the first fault of a configuration, if it has one.
 #[tactic(auto, unfolding(crate::specs::Faults::first_fault))]
-pub(crate) fn fault_of(config: &Config) -> Option<ConfigFault>
+pub(crate) fn fault_of(config: &Part<'_>) -> Option<ConfigFault>
     ensures { result ≡ first_fault config.now }
 {
     if let Some(fault) = account_fault(config) {
@@ -102,7 +103,7 @@ pub(crate) fn fault_of(config: &Config) -> Option<ConfigFault>
     environment_fault(config)
 }
 
-fn account_fault(config: &Config) -> Option<ConfigFault>
+fn account_fault(config: &Part<'_>) -> Option<ConfigFault>
     ensures { result ≡ earliest (account_faults config.now) }
 {
     if conditions::has_bad_account(config) {
@@ -120,7 +121,7 @@ fn account_fault(config: &Config) -> Option<ConfigFault>
     None
 }
 
-fn function_fault(config: &Config) -> Option<ConfigFault>
+fn function_fault(config: &Part<'_>) -> Option<ConfigFault>
     ensures { result ≡ earliest (function_faults config.now) }
 {
     if conditions::has_too_many_functions(config) {
@@ -147,7 +148,7 @@ fn function_fault(config: &Config) -> Option<ConfigFault>
     None
 }
 
-fn environment_fault(config: &Config) -> Option<ConfigFault>
+fn environment_fault(config: &Part<'_>) -> Option<ConfigFault>
     ensures { result ≡ earliest (environment_faults config.now) }
 {
     if conditions::has_bad_port(config) {

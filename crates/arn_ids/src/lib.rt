@@ -9,6 +9,9 @@ pub mod laws;
 mod limits;
 mod names;
 mod numbers;
+mod part;
+mod place;
+mod search;
 mod text;
 mod words;
 
@@ -21,5 +24,6 @@ pub use limits::{
 };
 pub use names::{FunctionName, NameFault, Named, arn_text, is_qualifier};
 pub use numbers::{read_environment, read_number, read_number_u32};
+pub use place::FaultPlace;
 pub use text::{Row, Text};
 pub use words::is_printable_word;

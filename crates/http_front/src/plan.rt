@@ -52,7 +52,7 @@ impl Plan {
         } = setup;
         let config = match config.check() {
             Ok(config) => config,
-            Err(fault) => return Err(HostFault::Config(fault)),
+            Err(place) => return Err(HostFault::Config(place.fault)),
         };
         let shared = Arc::new(alloc, config).map_err(AllocError::from)?;
         Ok(Plan {

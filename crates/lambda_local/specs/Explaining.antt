@@ -4,8 +4,8 @@ use Rattle.arn_ids.specs.Environments.{owners}
 use Rattle.arn_ids.specs.Faults.{first_fault}
 use Rattle.arn_ids.specs.declared.faults.ConfigFault.{ConfigFault}
 use Rattle.arn_ids.specs.declared.faults.ConfigFault.TheVariants.{EntriesOutOfRange}
-use Rattle.config_places.specs.Places.{IsPlaceOf}
-use Rattle.config_places.specs.declared.place.Place.{Place}
+use Rattle.arn_ids.specs.Places.{IsPlaceOf}
+use Rattle.arn_ids.specs.declared.place.FaultPlace.{FaultPlace}
 use Rattle.lambda_wire.specs.Configuration.{read_setup}
 use Rattle.lambda_wire.specs.declared.setup.Setup.{Setup}
 use Rattle.lambda_local.specs.declared.serve_fault.ServeFault.{ServeFault}
@@ -32,26 +32,26 @@ abbrev pub IsRoomy : Setup → Type 0
 IsRoomy setup = (length (owners setup.config) + 1 ≤ setup.max_entries) × (setup.max_entries ≤ 2 ^ 32)
 
 -- The place of `maxEntries`.
-abbrev pub entries_place : Place
+abbrev pub entries_place : FaultPlace
 entries_place = record { fault = EntriesOutOfRange; functions = 0 }
 
 -- The place, if there is one, is that of `maxEntries` out of its range.
-abbrev pub IsPlaceOfEntries : Setup → Option Place → Type 0
+abbrev pub IsPlaceOfEntries : Setup → Option FaultPlace → Type 0
 IsPlaceOfEntries setup None = IsRoomy setup
 IsPlaceOfEntries setup (Some place) = (IsRoomy setup → ⊥) × (place ≡ entries_place)
 
 -- The place, if there is one, is that of the fault for which the setup is refused, given the first fault of its
 -- configuration: the place of that fault; if there is none, of `maxEntries` out of its range.
-abbrev pub IsPlaceAt : Option ConfigFault → Setup → Option Place → Type 0
+abbrev pub IsPlaceAt : Option ConfigFault → Setup → Option FaultPlace → Type 0
 IsPlaceAt None setup place = IsPlaceOfEntries setup place
 IsPlaceAt (Some fault) setup None = ⊥
 IsPlaceAt (Some fault) setup (Some place) = IsPlaceOf setup.config place
 
 -- The place, if there is one, is that of the fault for which the setup is refused; without a place it is not refused.
-abbrev pub IsPlaceIn : Setup → Option Place → Type 0
+abbrev pub IsPlaceIn : Setup → Option FaultPlace → Type 0
 IsPlaceIn setup place = IsPlaceAt (first_fault setup.config) setup place
 
 -- The place, if there is one, is that of the fault for which the configuration with this text is refused.
-abbrev pub Explains : List ℕ → Result (Option Place) ServeFault → Type 0
+abbrev pub Explains : List ℕ → Result (Option FaultPlace) ServeFault → Type 0
 Explains text (Ok place) = (setup : Setup) × (read_setup text ≡ Ok setup) × IsPlaceIn setup place
 Explains text (Err fault) = IsFaultOf text fault

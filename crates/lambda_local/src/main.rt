@@ -24,8 +24,7 @@ use crate::patience::read_patience;
 use crate::serve::serve;
 use crate::serve_fault::ServeFault;
 use crate::setting_fault::SettingFault;
-use arn_ids::ConfigFault;
-use config_places::Place;
+use arn_ids::{ConfigFault, FaultPlace};
 use http_front::Machine;
 use log::Log;
 use script_replay::{ReplayFault, replay};
@@ -64,7 +63,7 @@ enum ProgramFault {
     Replay(ReplayFault),
     /// The configuration has a fault, at this place.
     #[error("configuration: {0}\n{1}")]
-    At(ConfigFault, Place),
+    At(ConfigFault, FaultPlace),
     /// The service did not come to a settled end.
     #[error("{0}")]
     Serve(ServeFault),

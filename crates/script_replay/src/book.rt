@@ -26,7 +26,7 @@ pub fn open_book(alloc: Global, line: &[u8]) -> Result<Book, ReplayFault>
     };
     let config = match setup.config.check() {
         Ok(config) => config,
-        Err(fault) => return Err(ReplayFault::Config(fault)),
+        Err(place) => return Err(ReplayFault::Config(place.fault)),
     };
     let config = Arc::new(alloc, config).map_err(AllocError::from)?;
     match Book::open(alloc, config, setup.salt, setup.max_entries) {

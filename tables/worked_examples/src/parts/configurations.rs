@@ -121,7 +121,7 @@ impl Read {
                 self.checked = Some(checked);
                 given.line("no fault");
             }
-            Err(fault) => say_fault(fault, given),
+            Err(place) => say_fault(place.fault, given),
         }
     }
 

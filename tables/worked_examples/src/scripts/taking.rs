@@ -23,7 +23,7 @@ pub enum Unopened {
 fn open(alloc: Global, setup: Setup) -> Result<Book, Unopened> {
     let config = match setup.config.check() {
         Ok(config) => config,
-        Err(fault) => return Err(Unopened::Config(fault)),
+        Err(place) => return Err(Unopened::Config(place.fault)),
     };
     let Ok(config) = Arc::new(alloc, config) else {
         return Err(Unopened::Memory);

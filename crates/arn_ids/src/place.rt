@@ -1,15 +1,15 @@
-//! The place of a fault.
+//! The place of a fault: the function with which it comes in, and the member.
 
 ghost use Rattle.std.specs.Prelude.{◌≡◌, Some};
-ghost use Rattle.config_places.specs.Places as spec;
+ghost use Rattle.arn_ids.specs.Places as spec;
 
-use arn_ids::ConfigFault;
+use crate::ConfigFault;
 use std::fmt;
 
 /// The place of a fault. It is printed as a path in the configuration, as `jq` has it: `accountLimit`, or
 /// `functions[3].timeout` of the fourth function.
 #[derive(Clone, Copy, Debug, PartialEq, Eq)]
-pub struct Place {
+pub struct FaultPlace {
     /// The fault.
     pub fault: ConfigFault,
     /// How many functions bring the fault in, from the first on, so that it is the last of them that has the
@@ -52,9 +52,9 @@ fn member_of_account(fault: ConfigFault) -> &'static str
     }
 }
 
-impl fmt::Display for Place {
+impl fmt::Display for FaultPlace {
     ghost use Rattle.std.specs.Prelude.{Some};
-    ghost use Rattle.config_places.specs.Places.{path};
+    ghost use Rattle.arn_ids.specs.Places.{path};
 
     ghost output = { λ place. Some (path place) };
 

@@ -10,7 +10,7 @@ use Rattle.arn_ids.specs.declared.faults.ConfigFault.TheVariants.{TooManyEnviron
 use Rattle.arn_ids.specs.declared.faults.ConfigFault.TheVariants.{TooManyExtensions, BadExtension, DuplicateExtension}
 use Rattle.arn_ids.specs.declared.faults.ConfigFault.TheVariants.{ReservationAboveEnvironments, RemainderTooSmall}
 use Rattle.arn_ids.specs.declared.faults.ConfigFault.TheVariants.{EntriesOutOfRange}
-use Rattle.config_places.specs.declared.place.Place.{Place}
+use Rattle.arn_ids.specs.declared.place.FaultPlace.{FaultPlace}
 
 -- The configuration with its first `n` functions only.
 abbrev pub with_first : ℕ → Config → Config
@@ -25,7 +25,7 @@ pub record ComesIn (config : Config) (fault : ConfigFault) (n : ℕ) : Type 0 wh
 
 -- The place is that of the configuration's first fault: the last of the functions with which the fault comes in, or
 -- the account itself if the fault is there without any function.
-pub record IsPlaceOf (config : Config) (place : Place) : Type 0 where
+pub record IsPlaceOf (config : Config) (place : FaultPlace) : Type 0 where
   pub first : first_fault config ≡ Some place.fault
   pub comes : ComesIn config place.fault place.functions
 
@@ -64,5 +64,5 @@ path_with fault zero = member_of_account fault
 path_with fault (suc i) = codes "functions[" ++ decimal i ++ codes "]" ++ member_of_function fault
 
 -- The path to a place.
-abbrev pub path : Place → List ℕ
+abbrev pub path : FaultPlace → List ℕ
 path place = path_with place.fault place.functions

@@ -1,2 +1,0 @@
--- Where the first fault of a configuration is.
-pub mod Places
