@@ -74,7 +74,7 @@ fn push_entry(book: &Book, ticket: Ticket, given: &mut Given) {
     push_number(given, Some(ticket), " ");
     push_number(given, moment, " ");
     push_number(given, place, " ");
-    push_number(given, book.counts().get(ticket as usize).copied(), " ");
+    push_number(given, book.past().counts.get(ticket as usize).copied(), " ");
     push_answer(given, book.answer(ticket));
 }
 
