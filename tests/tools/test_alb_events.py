@@ -32,7 +32,7 @@ class AlbEvents(Case):
         with caller_of(self, up, lambda: up.told(r"routes: (\S+)")) as caller:
             yield up, caller
 
-    def test_events(self):
+    def test_a_request_becomes_an_event_of_a_load_balancer(self):
         with self.running() as (up, caller):
             _, headers, body = caller.ask("POST", "/in/a%20b?q=1&q=a%2Bb&none", b'{"a":"\xc3\xa9"}', {
                 "Content-Type": "application/json", "X-Two": "1", "Cookie": "k=v"})
@@ -80,7 +80,7 @@ class AlbEvents(Case):
         self.check("a long body", caller.ask("POST", "/in/x", b"x" * ((1 << 20) + 1))[0], 413)
         self.check("which is told", up.until("413, its body has more than 1048576 bytes"))
 
-    def test_several_values(self):
+    def test_several_values_of_headers_and_queries_are_lists(self):
         with self.running(multiValueHeaders=True) as (_, caller):
             caller.connection.putrequest("GET", "/in/x?q=1&q=2", skip_accept_encoding=True)
             caller.connection.putheader("X-A", "1")
@@ -93,7 +93,7 @@ class AlbEvents(Case):
                        ({"q": ["1", "2"]}, ["1", "2"], False, False))
             self.check("its answer", [value for name, value in answer.getheaders() if name == "a"], ["b", "c"])
 
-    def test_mistakes(self):
+    def test_mistakes_of_load_balancers_are_told(self):
         def said(**api):
             return next(settings.mistakes({"functions": [{"name": "f"}], "routes": {"GET /": "f"}, "api": api}), None)
         for api, wanted in (
@@ -105,7 +105,7 @@ class AlbEvents(Case):
             self.check(f"a mistake: {api}", said(**api), f"api: {wanted}")
         self.check("none", said(payload="alb", multiValueHeaders=True), None)
 
-    def test_templates(self):
+    def test_rules_of_a_template_lead_to_functions(self):
         def of_type(kind, **properties):
             return {"Type": f"AWS::{kind}", "Properties": properties}
 
@@ -128,6 +128,8 @@ class AlbEvents(Case):
         for words in ("ignores R2 of F, /a*b: a path has a * at its end alone, behind a /",
                       "ignores the condition host-header of R3, whose rule takes all requests here"):
             self.check(words, words in said.replace('"', ""))
+
+    def test_rules_of_Serverless_lead_to_functions(self):
         made, said = up_and_said({"service": "s", "provider": {"runtime": "provided"}, "functions": {
             "f": {"handler": "x", "events": [
                 {"alb": {"listenerArn": "x", "priority": 1, "conditions": {

@@ -45,7 +45,7 @@ class ApiStages(Case):
         status, _, body = caller.ask("GET", path)
         return paths_of(json.loads(body)) if status == 200 else (status, body.decode())
 
-    def test_paths(self) -> None:
+    def test_a_stage_is_part_of_the_path_as_on_AWS(self) -> None:
         forbidden = (403, '{"message": "Forbidden"}')
         no_route, not_found = (403, '{"message": "Missing Authentication Token"}'), (404, '{"message": "Not Found"}')
         of_rest = ("/orders/7", "/prod/orders/7", "prod", "/orders/{id}")
@@ -71,7 +71,7 @@ class ApiStages(Case):
                 link = r"routes: http://127\.0\.0\.1:\d+" + ("/prod$" if is_in else "$")
                 self.check(f"{name}: its address", up.count(link), 1)
 
-    def test_option(self) -> None:
+    def test_the_option_puts_each_stage_into_its_path(self) -> None:
         """The same by the option, for routes of several stages and of none."""
         routes = {"GET /orders/{id}": {"function": "f", "payload": "1.0", "stage": "dev"},
                   "GET /old/{id}": {"function": "f", "stage": "v1"}, "GET /new/{id}": "f"}
@@ -87,13 +87,13 @@ class ApiStages(Case):
         self.check("further APIs", with_stages({"functions": [], "apis": {"A": {"routes": {}, "port": 1}}})["apis"],
                    {"A": {"routes": {}, "port": 1, "stageInPath": True}})
 
-    def test_variable(self) -> None:
+    def test_the_address_of_the_routes_is_below_the_stage(self) -> None:
         """The address that a command and functions have is below the stage."""
         with self.running(ROUTES, {"payload": "1.0", "stage": "prod"}, "--stage-in-path") as (_, caller):
             at = json.loads(caller.ask("GET", "/prod/orders/7")[2])["at"]
             self.check("LAMBDA_LOCAL_ROUTES", at.rpartition("/")[2], "prod")
 
-    def test_mistakes(self) -> None:
+    def test_mistakes_of_stages_are_told(self) -> None:
         for api, wanted in (
                 ({"stage": "$default"}, None), ({"stage": "prod"}, None),
                 ({"payload": "1.0", "stage": "$default"},
@@ -102,7 +102,7 @@ class ApiStages(Case):
             whole = {"functions": [{"name": "f"}], "routes": {"GET /": "f"}, "api": api}
             self.check(f"a mistake: {api}", next(settings.mistakes(whole), None), wanted)
 
-    def test_templates(self) -> None:
+    def test_a_template_names_the_stage_in_each_form(self) -> None:
         """StageName of each kind."""
         event = {"Type": "HttpApi", "Properties": {"Path": "/a", "Method": "GET", "ApiId": {"Ref": "Shop"}}}
         of_sam = {"Resources": {"F": sam(Events={"A": event}), "Shop": {

@@ -102,7 +102,7 @@ class Authorizers(Case):
                 return up.invoke("auth", ask=True)[0]
             yield up, ask, asked
 
-    def test_each_kind(self):
+    def test_each_kind_of_authorizer_decides_as_on_AWS(self):
         with self.running() as (up, ask, asked):
             self.fixed(ask)
             self.tokens(up, ask)
@@ -226,12 +226,14 @@ class Authorizers(Case):
         self.check("without a source each request asks", [ask("http", "/free")[0] for _ in range(2)] + [
             asked()[0] - before], [200, 200, 2])
 
-    def test_policies(self):
+    def test_patterns_match_as_in_policies(self):
         for pattern, text, wanted in (("*", "", True), ("a*c", "abbc", True), ("a*c", "abcd", False),
                                       ("a?c", "abc", True), ("a?c", "ac", False), ("*a*b*", "xxaxxbxx", True),
                                       ("", "", True), ("", "a", False), ("arn:*/GET/*", "arn:x/GET/y/z", True),
                                       ("*" * 500 + "b", "a" * 5000, False)):
             self.check(f"{pattern[:20]} for {text[:20]}", matches(pattern, text), wanted)
+
+    def test_a_policy_allows_or_denies_as_IAM_does(self):
         arn = "arn:aws:execute-api:r:a:api/s/GET/x"
 
         def said(*statements):
@@ -257,7 +259,7 @@ class Authorizers(Case):
                  "Resource of a statement must be a string, or a list of strings")):
             self.check(f"a policy: {name}", seen, wanted)
 
-    def test_patterns_of_anyone(self):
+    def test_patterns_of_anyone_take_no_time(self):
         """A policy of 8 KiB about a path of 60 KB: a function that authorizes holds up nobody."""
         arn = "arn:aws:execute-api:r:a:api/s/GET/" + "a" * 60_000
         for pattern, count in (("*" + "a" * 20 + "b", 250), ("*" + "a" * 20 + "b*", 250), ("*" + "a" * 20 + "?b*", 250),
@@ -269,7 +271,7 @@ class Authorizers(Case):
             took = time.process_time() - begun
             self.check("and takes no time", took < 5, shown=f"({took:.2f} s)")
 
-    def test_bounds(self):
+    def test_what_is_kept_of_answers_is_bounded(self):
         """What is kept of answers."""
         kept = deciders.Authorizers(None, SimpleNamespace(now=lambda: 0))
         for number in range(deciders.MOST_KEPT + 2):
@@ -283,7 +285,7 @@ class Authorizers(Case):
         kept.keep(("x", ("none",)), Authorizer("function", ttl=0), {})
         self.check("without a time nothing", ("x", ("none",)) in kept.kept, False)
 
-    def test_tokens(self):
+    def test_a_token_is_checked_by_issuer_audience_scopes_and_times(self):
         def said(token, wanted={}):
             try:
                 return claims_of(token, wanted, 1000)
@@ -309,7 +311,7 @@ class Authorizers(Case):
         self.check("texts", as_texts({"a": [1, "b"], "b": True, "c": {"d": 1}, "e": None}),
                    {"a": "[1 b]", "b": "true", "c": '{"d": 1}', "e": "null"})
 
-    def test_only(self):
+    def test_functions_alone_come_with_their_authorizers(self):
         """Functions alone with what leads to them: an authorizer is not left out in silence."""
         by = {"authorizer": {"function": "auth"}}
         free = {"function": "f", "authorizer": None}
@@ -326,7 +328,7 @@ class Authorizers(Case):
                        "--only g: the authorizer of GET /g is auth: name it too")
         self.check("both", list(limited(whole, ["g", "auth"], "up.json")["routes"]), ["GET /g"])
 
-    def test_mistakes(self):
+    def test_mistakes_of_authorizers_are_told(self):
         def said(authorizer, **api):
             whole = {"functions": [{"name": "f"}, {"name": "auth"}], "routes": {"GET /": "f"},
                      "api": {"authorizer": authorizer, **api}}

@@ -78,7 +78,7 @@ class CIFiles(Case):
         with open(paths, encoding="utf-8") as file:
             return {**variables, "PATH": ":".join([*file.read().split(), variables["PATH"]])}
 
-    def test_github(self) -> None:
+    def test_the_job_of_GitHub_passes(self) -> None:
         with job() as (clone, work, variables):
             text = text_of(ROOT, "examples", "ci", "github.yml")
             self.check("the job uses the action", "uses: OWNER/REPO@v1" in text)
@@ -90,7 +90,7 @@ class CIFiles(Case):
             self.check("nothing is left in the folder", sorted(set(os.listdir(work)) - {"__pycache__"}),
                        ["app.py", "test_app.py", "up.json"])
 
-    def test_gitlab(self) -> None:
+    def test_the_job_of_GitLab_passes(self) -> None:
         with job() as (clone, work, variables):
             template = text_of(ROOT, "examples", "ci", "lambda_local.gitlab-ci.yml")
             text = text_of(ROOT, "examples", "ci", "gitlab.yml")
@@ -103,13 +103,13 @@ class CIFiles(Case):
             for command in steps:
                 self.step("gitlab.yml", command, work, given)
 
-    def test_conformance_job(self) -> None:
+    def test_the_command_of_the_conformance_job_is_one_of_the_kits(self) -> None:
         text = text_of(ROOT, "examples", "ci", "conformance.yml")
         commands = [command for command in commands_of(text) if command.startswith("lambda_local")]
         self.check("its command is one of the kit's", [command.split()[:3] for command in commands],
                    [["lambda_local", "conformance", "runtime"]])
 
-    def test_image(self) -> None:
+    def test_the_image_is_made_without_a_download(self) -> None:
         """The Dockerfile's steps, from a folder as its context: without git, and read-only to whoever installs."""
         text = text_of(ROOT, "Dockerfile")
         command, = re.findall(r"^RUN --mount=type=bind,target=/src (.+)$", text, re.M)
@@ -123,7 +123,7 @@ class CIFiles(Case):
             said = run([entry, "--version"], **variables)
             self.check("the entry point is there", said[1].split("\n")[0], "lambda_local 1.0.0", shown=said)
 
-    def test_devcontainer(self) -> None:
+    def test_the_devcontainer_leads_to_the_clone(self) -> None:
         made = json.loads(text_of(ROOT, ".devcontainer", "devcontainer.json"))
         with job() as (clone, _, variables):
             self.step("devcontainer.json", made["postCreateCommand"], clone, variables)

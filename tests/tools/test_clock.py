@@ -55,11 +55,13 @@ class Answers(http.server.BaseHTTPRequestHandler):
 
 
 class Clock(Case):
-    def test_times(self):
+    def test_times_are_numbers_with_units(self):
         for text, wanted in (("1ms", 1), ("500ms", 500), ("90s", 90_000), ("15m", 900_000), ("2h", 7_200_000),
                              ("1d", 86_400_000), ("1.5s", 1500), ("0.001s", 1), ("1h30m", 5_400_000),
                              ("1d2h3m4s5ms", 93_784_005), (f"{LAST}ms", LAST)):
             self.check(f"the time {text}", milliseconds_in(text), wanted)
+
+    def test_what_is_no_time_is_refused(self):
         for text in ("", "1", "s", "1 s", "-1s", "+1s", "0s", "1S", "1.s", ".5s", "1,5s", "1e3s", "1s1m", "1s2s",
                      "0.5ms", "1.0005s", "1h 30m", f"{LAST + 1}ms", "9999999999999999d", "\u0661s", "1s\n"):
             try:
@@ -67,7 +69,7 @@ class Clock(Case):
             except NotDuration as fault:
                 self.check(f"{text!r} is no time, which is said", str(fault).startswith("write a number with a unit"))
 
-    def test_forms(self):
+    def test_the_clock_is_shown_paused_advanced_and_resumed(self):
         with LambdaLocal(f=lambda event: event) as service:
             here = service.endpoint_url
             first, state = read(endpoint=here)
@@ -85,7 +87,7 @@ class Clock(Case):
                        (2, "", f"clock: advance {LAST}ms: ms would set the clock past {LAST}\n"))
             self.check("after which nothing has moved", read(endpoint=here)[0] < LAST // 2)
 
-    def test_faults(self):
+    def test_faults_of_the_command_are_told(self):
         for words, wanted in (
                 (["advance"], "clock: advance: how far? write a number with a unit"),
                 (["advance", "15"], "clock: advance 15: write a number with a unit"),
@@ -99,7 +101,7 @@ class Clock(Case):
         self.check("a service that is not there", (status, output, said.startswith(
             "clock: http://127.0.0.1:1: Connection refused: start the service")), (4, "", True), shown=said)
 
-    def test_other_answers(self):
+    def test_a_service_that_answers_otherwise_is_told(self):
         server = http.server.HTTPServer(("127.0.0.1", 0), Answers)
         thread = threading.Thread(target=server.serve_forever)
         thread.start()
@@ -124,7 +126,7 @@ class Clock(Case):
             thread.join()
             server.server_close()
 
-    def test_up(self):
+    def test_up_lets_the_clock_through_and_refuses_web_pages(self):
         """Its front lets these requests through, and refuses those of web pages."""
         up = Up()
         up.until("ready")
@@ -199,7 +201,7 @@ class FollowedClock(Case):
         timer.cancel()
         self.check("at most once is it asked", len(self.service.asked) <= 1, shown=self.service.asked)
 
-    def test_runs(self):
+    def test_what_is_due_comes_in_its_order_and_what_fails_stops_nothing(self):
         self.later("second", 300)
         self.later("first", 100)
         self.later("third", 300)
@@ -211,7 +213,7 @@ class FollowedClock(Case):
         self.check("the next one comes", until(lambda: "after it" in self.came, 10))
         self.check("a line", (len(self.told), "ZeroDivisionError" in self.told[0]), (1, True))
 
-    def test_advance(self):
+    def test_an_advance_brings_all_that_is_due_by_its_moment(self):
         for name, milliseconds in (("last", 7_200_000), ("first", 3_600_000), ("later", 90_000_000)):
             self.later(name, milliseconds)
         self.service.set(True, 86_400_000)
@@ -219,7 +221,7 @@ class FollowedClock(Case):
         self.clock.settle()
         self.check("all that is due by an entry's moment has come", self.came, ["first", "last"])
 
-    def test_paused(self):
+    def test_nothing_is_due_while_the_clock_is_paused_or_being_set(self):
         self.service.set(False)
         self.clock.ask()
         self.check("it is known to be paused", self.clock.is_paused)
@@ -241,7 +243,7 @@ class FollowedClock(Case):
             self.check("nothing is due while it is being set", self.came, ["soon"])
         self.check("then it is", until(lambda: self.came == ["soon", "unseen"], 10))
 
-    def test_waits(self):
+    def test_a_wait_ends_when_it_is_over_or_when_the_event_is_set(self):
         event = threading.Event()
         begun = time.monotonic()
         self.check("its time is over", self.clock.wait(event, 0.2), False)
@@ -249,7 +251,7 @@ class FollowedClock(Case):
         event.set()
         self.check("it is set", self.clock.wait(event, 60), True)
 
-    def test_no_clock(self):
+    def test_nothing_waits_for_ever_without_a_clock(self):
         """What a service without a clock, or one that has ended, is asked: nothing waits for ever."""
         for answer in (404, None):
             server = http.server.ThreadingHTTPServer(("127.0.0.1", 0), Answers)

@@ -49,12 +49,12 @@ CHANGES = (
 
 
 class Compatibility(Case):
-    def test_passes(self) -> None:
+    def test_what_1_0_has_left_is_read_and_replayed(self) -> None:
         with tempfile.TemporaryDirectory() as folder:
             status, said = run(copy_to(folder))
             self.check("what 1.0 has left is read", status, 0, shown=said)
 
-    def test_finds(self) -> None:
+    def test_a_later_version_that_changes_what_stays_is_found(self) -> None:
         for name, change, failing in CHANGES:
             with tempfile.TemporaryDirectory() as folder:
                 path = os.path.join(copy_to(folder), name)

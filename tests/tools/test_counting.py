@@ -70,19 +70,19 @@ class Counting(Case):
             self.check(f"{name}(.., {arguments})", (status, seen, words in printed),
                        (int("1 failed" in last), [last], True), shown=printed)
 
-    def test_counted(self) -> None:
+    def test_a_check_counts_what_holds_and_says_what_does_not(self) -> None:
         self.what_passes("check", COUNTED)
 
-    def test_cases(self) -> None:
+    def test_a_check_of_a_case_does_so_too(self) -> None:
         self.what_passes("Case.check", CASE)
 
-    def test_run(self) -> None:
+    def test_a_check_that_fails_hides_none_of_the_next(self) -> None:
         for test, wanted, last, words in TESTS:
             status, seen, printed = run(OPENING + test + "unittest.main()")
             self.check(f"a case: {words[0]}", (status, seen, [it for it in words if it not in printed]),
                        (wanted, [last], []), shown=printed)
 
-    def test_pytest(self) -> None:
+    def test_a_case_needs_no_lists_of_its_result(self) -> None:
         """A case under a result of pytest's."""
         status, last, printed = run(BARE)
         self.check("a case needs no lists of its result", (status, last), (0, ["1 passed, 0 failed"]), shown=printed)

@@ -68,22 +68,26 @@ class Breakpoints(Case):
         steps = "p 'at it', {0}.clock.is_paused, {0}.clock.now() - {0}.clock.now()\nc\n"
         return run(words, steps.format(name) + steps.format(name), **given)
 
-    def test_without_pytest(self):
+    def test_without_pytest_the_clock_is_paused_at_a_breakpoint(self):
         status, output = self.check_pauses("service", [sys.executable, "-c", SCRIPT])
         self.check("at each breakpoint the clock is paused", (status, output.count("('at it', True, 0)")), (0, 2),
                    shown=output)
         self.check("nothing times out", output.count("result done"), 2)
         self.check("and it goes on after it", output.count("paused after it False"), 2)
+
+    def test_a_debugger_that_is_left_lets_the_clock_go_on(self):
         status, output = run([sys.executable, "-c", SCRIPT], "q\nq\n")
         self.check("also if the debugger is left", (status, output.count("result BdbQuit"), output.count(
             "paused after it False")), (0, 2, 2), shown=output)
+
+    def test_a_clock_that_was_paused_stays_so_at_a_breakpoint(self):
         status, output = run([sys.executable, "-c", SCRIPT.replace(
             "with Lambda", "other = LambdaLocal(g=f)\nother.clock.pause()\nwith Lambda") + (
             "print('the other', other.clock.is_paused)\nother.stop()\n")], "c\nc\n")
         self.check("one that was paused stays so", (status, "the other True" in output), (0, True), shown=output)
 
     @unittest.skipUnless(importlib.util.find_spec("pytest"), "pytest is not here")
-    def test_under_pytest(self):
+    def test_under_pytest_the_clock_is_paused_at_a_breakpoint_and_with_pdb(self):
         with tempfile.TemporaryDirectory() as folder:
             with open(os.path.join(folder, "test_f.py"), "w") as file:
                 file.write(TEST)
@@ -119,7 +123,7 @@ class OfUp(Case):
         return {"name": "f", "runtime": runtime, "handler": handler, "timeout": 1}
 
     @unittest.skipUnless(shutil.which("node"), "there is no Node here")
-    def test_node(self):
+    def test_Node_is_held_for_its_debugger_at_the_port_that_was_given(self):
         port = free_ports(1, ())[0]
         up = Up("--debug", f"f:{port}", functions=[self.function("node", "index.run")],
                 files={"index.js": "exports.run = async () => 'done';\n"})
@@ -130,14 +134,14 @@ class OfUp(Case):
         self.check("it ends", up.end(), (0, []))
 
     @unittest.skipUnless(importlib.util.find_spec("debugpy"), "debugpy is not here")
-    def test_python(self):
+    def test_Python_listens_for_its_debugger(self):
         up = Up("--debug", "f", functions=[self.function("python", "app.run")], app=APP, environ={
             **os.environ, "LAMBDA_LOCAL_PROGRAM": os.environ.get("LAMBDA_LOCAL_PROGRAM", "")})
         self.check("it listens", self.attached(up, connected, "Python"))
         self.check("the runtime has not begun", '"idle"' in up.get("/_local/environments"), False)
         self.check("it ends", up.end(), (0, []))
 
-    def test_without(self):
+    def test_without_debugpy_what_to_install_is_said_and_it_serves(self):
         """An interpreter that has no debugpy: what to do is said, and it is there all the same."""
         with tempfile.TemporaryDirectory() as folder:
             python = os.path.join(folder, "python")
@@ -151,7 +155,7 @@ class OfUp(Case):
             self.check("and answers", up.invoke()[0], "done")
             self.check("it ends", up.end(), (0, []))
 
-    def test_faults(self):
+    def test_faults_of_the_option_are_told(self):
         with tempfile.TemporaryDirectory() as folder:
             with open(os.path.join(folder, "up.json"), "w") as file:
                 json.dump({"functions": [self.function("python", "app.run")]}, file)

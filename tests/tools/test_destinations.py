@@ -94,7 +94,7 @@ class Destinations(Case):
             yield up, caller
 
     @WITH_MOTO
-    def test_queues_and_topics(self):
+    def test_a_record_goes_to_a_queue_another_to_a_topic_and_a_dead_letter_is_the_payload(self):
         """A record to a queue, one to a topic, and a dead letter, of one function."""
         with moto(self) as server:
             endpoint = server.endpoint
@@ -133,7 +133,7 @@ class Destinations(Case):
                 "responsePayload": ["\u00e9"]})
 
     @WITH_MOTO
-    def test_a_long_record_for_a_topic(self):
+    def test_a_record_that_is_too_long_for_a_topic_goes_without_its_result(self):
         """Beyond 256 KB a topic gets the record without the result."""
         with moto(self) as server:
             server.asked(MAKE)
@@ -148,7 +148,7 @@ class Destinations(Case):
                 (one["requestPayload"]["long"][0], one.get("responsePayload"), one["responseContext"]["statusCode"])
                 for one in found), [("x", 1, 200), ("y", None, 200)])
 
-    def test_functions(self):
+    def test_a_function_gets_records_and_a_loop_of_functions_ends(self):
         """A function gets records of successes, and a loop of functions ends."""
         with self.running({"onSuccess": "sink"}, whole={"asynchronous": {"onSuccess": "f"}}) as (up, caller):
             identifier = caller.event("f", {"n": 1})[1]["x-amzn-requestid"]
@@ -162,7 +162,7 @@ class Destinations(Case):
                 "16 records led to it, each the event of the next", 60), shown=up.lines[-5:])
             self.check("each had eight records", len(records(up)), 8)
 
-    def test_what_cannot_be_sent(self):
+    def test_what_cannot_be_sent_is_tried_three_times_and_told(self):
         """It is tried three times, and its loss is told; a server that does not answer holds no stop."""
         closed = socket.create_server(("127.0.0.1", 0))
         url = f"http://127.0.0.1:{closed.getsockname()[1]}"
@@ -184,7 +184,7 @@ class Destinations(Case):
             lost = "is lost by the stop, after 1 attempts, before it was sent on"
             self.check("what was not sent is told", up.count(lost), 1, shown=up.lines[-5:])
 
-    def test_without_boto3(self):
+    def test_without_boto3_it_is_told_what_to_install(self):
         class NoServer:
             def send(self, text, attributes):
                 raise NoClient
@@ -193,7 +193,7 @@ class Destinations(Case):
         said = sender.sent(outbox.Text("{}", {}, lambda why: None))
         self.check("it is told what to install", said.endswith(" has no boto3: pip install boto3"), shown=said)
 
-    def test_attributes(self):
+    def test_attributes_are_what_a_queue_takes(self):
         for report, wanted in ((b'{"errorMessage":"no","errorType":"E"}', "no"), (b"[1]", "[1]"), (b"\xff", "\ufffd"),
                                (b'{"errorMessage":7}', '{"errorMessage":7}'),
                                (json.dumps({"errorMessage": "\u00e9" * 600}).encode(), "\u00e9" * 512)):
@@ -201,7 +201,7 @@ class Destinations(Case):
         self.check("what a queue does not take", outbox.attributes_of({"A": "a\0b\ufffe", "B": "", "C": 200}), {
             "A": ("String", "a\ufffdb\ufffd"), "C": ("Number", "200")})
 
-    def test_mistakes(self):
+    def test_mistakes_of_destinations_are_told(self):
         url = {"arn": f"{SQS}q", "url": "http://127.0.0.1:1"}
         for given, wanted in (
                 ({"onSuccess": "g"}, 'onSuccess: there is no function "g"'),
@@ -223,7 +223,7 @@ class Destinations(Case):
         self.check("no mistake", list(mistakes({"onFailure": url, "onSuccess": f"{SNS}t", "deadLetter": url}, ["f"],
                                                "")), [])
 
-    def test_aws_itself(self):
+    def test_nothing_is_sent_to_AWS_itself(self):
         """Nothing is sent to AWS unless the user's credentials are kept."""
         of_aws = asynchronous_of({"deadLetter": {"arn": f"{SQS}q", "url": "https://sqs.us-east-1.amazonaws.com"}})
         here = asynchronous_of({"deadLetter": {"arn": f"{SQS}q", "url": "http://127.0.0.1:1"}})

@@ -133,14 +133,14 @@ class Events(Case):
         with caller_of(self, up) as caller:
             yield up, caller
 
-    def test_by_boto3(self):
+    def test_boto3_gets_202_for_an_event_and_204_for_a_dry_run(self):
         up = Up(*READY, command=["--", sys.executable, "calls.py"], functions=functions(), app=APP,
                 files={"calls.py": BOTO3}, whole={"asynchronous": True})
         self.check("boto3: the command and all else end in order", up.end(None), (0, []))
         self.check("boto3: Event and DryRun", up.output.splitlines(), ["202 36 b''", "204 36 b''"])
         self.check("an event that waits at the stop is still invoked", up.count(r"\[f\] event \S+ ok after"), 1)
 
-    def test_refusals(self):
+    def test_wrong_events_are_refused_as_lambda_does(self):
         with self.running() as (up, caller):
             for name, path, kind, body, wanted in (
                     ("an unknown function", invoke_path("g"), "Event", b"{}", (404, "ResourceNotFoundException")),
@@ -156,13 +156,16 @@ class Events(Case):
                 self.check(f"an event: {name}", (status, answered.get("x-amzn-errortype")), wanted)
             self.check("an unknown function, tried out",
                        caller.ask("POST", invoke_path("g"), b"{}", {"X-Amz-Invocation-Type": "DryRun"})[0], 404)
+
+    def test_an_event_is_taken_by_each_form_of_a_name_and_up_to_1_MiB(self):
+        with self.running() as (up, caller):
             for name in ("f", "123456789012:function:f", "arn:aws:lambda:us-east-1:123456789012:function:f:$LATEST"):
                 self.check(f"an event for {name}", caller.event(name, {})[0], 202)
             self.check("each is invoked", until(lambda: up.count(r"\[f\] event \S+ ok") == 3, 10))
             self.check("1 MiB is taken", caller.ask("POST", invoke_path("f"), b'"' + b"x" * ((1 << 20) - 2) + b'"',
                                                     {"X-Amz-Invocation-Type": "Event"})[0], 202)
 
-    def test_fan_out(self):
+    def test_200_events_at_once_are_each_invoked_once(self):
         with self.running(environments=4, reserved=2, timeout=30) as (up, caller):
             self.check("200 events are taken", {caller.event("f", {"number": number})[0] for number in range(200)},
                        {202})
@@ -171,7 +174,7 @@ class Events(Case):
             until(lambda: up.count(r"\[f/\d\] \S+ ok") >= 200, 5)
             self.check("its function is invoked 200 times", up.count(r"\[f/\d\] \S+ ok"), 200)
 
-    def test_failures(self):
+    def test_an_event_that_fails_is_retried_and_its_record_goes_to_the_destination(self):
         with self.running({"delays": [0.2, 0.4], "onFailure": "sink"}) as (up, caller):
             status, headers, body = caller.event("f", {"do": "fail", "order": 7})
             self.check("an event gets 202 and an empty body", (status, body), (202, b""))
@@ -200,6 +203,8 @@ class Events(Case):
             self.check("and gets no record of its own", len(records(up)), 4)
             caller.event("f", {"do": "crash"})
             self.check("a crash is retried as well", until(lambda: len(records(up)) == 5, 30))
+
+    def test_an_event_that_is_too_old_gets_a_record_that_says_so(self):
         with self.running({"retries": 0, "maximumAge": 1, "onFailure": "sink"}, timeout=10) as (up, caller):
             caller.event("f", {"do": "sleep", "seconds": 2})
             caller.event("f", {"number": 2})
@@ -209,7 +214,7 @@ class Events(Case):
                        (record["requestContext"]["condition"], record["requestContext"]["approximateInvokeCount"],
                                           "responsePayload" in record), ("EventAgeExceeded", 0, False))
 
-    def test_bounds(self):
+    def test_1000_events_are_held_and_one_more_gets_429(self):
         with self.running(options=["--drain", "0"], timeout=60) as (up, caller):
             seen = [caller.event("f", {"do": "sleep", "seconds": 60})[0] for _ in range(1000)]
             status, headers, body = caller.event("f", {})
@@ -219,19 +224,23 @@ class Events(Case):
                      "Reason": "CallerRateLimitExceeded", "Type": "User", "message": "Rate Exceeded."}))
             up.end()
             self.check("what is lost by a stop is told", up.count("is lost by the stop"), 1000)
+
+    def test_64_MiB_of_events_are_held(self):
         with self.running(timeout=60, options=["--drain", "0"]) as (up, caller):
             large = b'{"do":"sleep","seconds":60,"fill":"' + b"x" * 1_000_000 + b'"}'
             seen = [caller.ask("POST", invoke_path("f"), large, {"X-Amz-Invocation-Type": "Event"})[0]
                     for _ in range(70)]
             self.check("64 MiB are held", (seen.count(202), set(seen)), ((64 << 20) // len(large), {202, 429}))
 
-    def test_ends(self):
+    def test_a_stop_waits_for_the_events(self):
         with self.running(timeout=10) as (up, caller):
             for number in range(4):
                 caller.event("f", {"do": "sleep", "seconds": 0.4, "number": number})
             self.check("a stop waits for the events", (up.end(), up.count(r"\[f\] event \S+ ok"),
                                                        up.has("waiting up to ")),
                        ((0, []), 4, True))
+
+    def test_a_stop_by_request_waits_for_the_events(self):
         with self.running(timeout=10) as (up, caller):
             for number in range(3):
                 caller.event("f", {"do": "sleep", "seconds": 0.4, "number": number})
@@ -239,6 +248,8 @@ class Events(Case):
             status = caller.ask("POST", "/_local/stop", b"")[0]
             self.check("so does POST /_local/stop", (status, time.monotonic() - begun > 0.8), (202, True))
             self.check("and all ends", (up.end(None), up.count(r"\[f\] event \S+ ok")), ((0, []), 3))
+
+    def test_a_stop_waits_no_longer_than_drain_says(self):
         with self.running(options=["--drain", "0.5"], timeout=30) as (up, caller):
             caller.event("f", {"do": "sleep", "seconds": 20})
             begun = time.monotonic()
@@ -247,7 +258,7 @@ class Events(Case):
                                                                 up.count("is lost by the stop")),
                        (True, 1))
 
-    def test_unchanged(self):
+    def test_all_else_passes_through_unchanged(self):
         with self.running(timeout=2) as (up, caller), Caller(behind(up)) as direct:
             large = json.dumps({"x": "y" * 3_000_000}).encode()
             for name, method, path, body in (
@@ -270,7 +281,7 @@ class Events(Case):
                        (len(history) > 3_000_000, direct.ask("GET", "/_local/history")[2][:len(history)] == history),
                        (True, True))
 
-    def test_refused_alike(self):
+    def test_heads_that_the_service_refuses_are_refused_alike(self):
         """What the service refuses by a request's head, its front refuses alike, byte for byte, and events as well:
         what is not refused is asked of the service, or taken."""
         up = Up(*READY, functions=functions(), app=APP, whole={"asynchronous": True},
@@ -294,7 +305,7 @@ class Events(Case):
         self.check("it ends in order, and leaves nothing", (up.end(), up.count(r"\[f\] event \S+ ok")),
                    ((0, []), taken))
 
-    def test_smuggled(self):
+    def test_no_request_hides_in_a_body_whose_length_Connection_names(self):
         """What a head's `Connection` names takes nothing away: neither where its body ends, so that a second request
         hides in it whose answer another caller gets, nor why it is refused (RFC 9110, section 7.6.1)."""
         long = f"Content-Length: {len(HIDDEN_REQUEST)}\r\n"
@@ -314,6 +325,8 @@ class Events(Case):
                 until(lambda: up.count(r"\[f/\d\] \S+ ok") >= 4, 30)
                 time.sleep(1)
                 self.check(f"{name}: what it hides is not invoked", up.count(r"\[f/\d\] \S+ ok"), 4)
+
+    def test_a_head_whose_fields_Connection_names_is_refused_all_the_same(self):
         with self.running() as (up, caller):
             before = len(caller.ask("GET", "/_local/history")[2].splitlines())
             old, length = INVOKE.replace("1.1", "1.0"), "Content-Length: 2\r\n\r\n{}"
@@ -356,7 +369,7 @@ class Events(Case):
                 peer.settimeout(20)
                 self.check("one that has ended its own side is answered", peer.recv(65536).startswith(b"HTTP/1.1 200"))
 
-    def test_samples(self):
+    def test_each_sample_event_comes_to_the_function(self):
         """Each sample is JSON with the member by which its kind is known, and examples/invoke.sh takes it by name."""
         known = {"s3": ("Records", 0, "s3", "bucket", "name"), "sqs": ("Records", 0, "body"),
                  "sns": ("Records", 0, "Sns", "Message"),
@@ -377,7 +390,7 @@ class Events(Case):
                     value = value[step]
                 self.check(f"the sample {name} is of its kind", bool(value) or value == {})
 
-    def test_mistakes(self):
+    def test_mistakes_in_asynchronous_are_told(self):
         for whole, wanted in (
                 ({"asynchronous": 1}, "asynchronous must be true, or an object, not 1"),
                 ({"asynchronous": {"retry": 1}}, "asynchronous: unknown member retry, did you mean retries?"),

@@ -9,7 +9,7 @@ from tests.library.up_kit import until
 
 
 class EventsFaults(Case):
-    def test_attempts(self):
+    def test_an_event_is_sent_again_only_if_its_attempt_failed(self):
         """Each deed once, and then the event succeeds: how often it is sent, and what is reported."""
         for deed, wanted in (("ok", ["ok"]), ("ok, and closes", ["ok"]), ("fails", ["retry", "ok"]),
                              ("throttles", ["ok"]),
@@ -25,7 +25,7 @@ class EventsFaults(Case):
                 self.check("it is sent once, and again only then", service.runs, [(1, deed), *again])
                 self.check("nothing is left", (front.queue.count, front.queue.size), (0, 0))
 
-    def test_exhausted(self):
+    def test_an_event_without_an_outcome_is_given_up_after_three_attempts(self):
         """An event of whose attempts no outcome is known goes to its destination."""
         service = Service("closes", "breaks off in the body", "closes")
         with front_of(service) as (front, caller, told):
@@ -38,7 +38,7 @@ class EventsFaults(Case):
             self.check("it is sent three times", (service.runs[:3], told[0].request),
                        ([(1, "closes"), (1, "breaks off in the body"), (1, "closes")], identifier))
 
-    def test_kept_connections(self):
+    def test_a_connection_that_was_closed_meanwhile_is_not_used_again(self):
         """A connection that the service has closed meanwhile is not used again: no event is tried twice for it."""
         service = Service(*["ok", "ok, and closes"] * 10)
         with front_of(service) as (front, caller, told):
@@ -50,7 +50,7 @@ class EventsFaults(Case):
                        [("ok", 1)] * 20)
             self.check("a connection that is open is used again", service.connections, 10)
 
-    def test_ended(self):
+    def test_a_service_that_is_stopped_is_not_asked_again(self):
         """A service that is stopped, or gone: the events that are left are reported."""
         service = Service("is stopped")
         with front_of(service) as (front, caller, told):
@@ -59,6 +59,8 @@ class EventsFaults(Case):
             time.sleep(0.3)
             self.check("a service that is stopped is not asked again", service.runs, [(1, "is stopped")])
         self.check("the event is lost by the stop, which is told", statuses(told), ["lost"])
+
+    def test_an_event_that_cannot_be_sent_is_no_failed_attempt(self):
         service = Service()
         with front_of(service) as (front, caller, told):
             caller.event("f", {"number": 1})
@@ -72,7 +74,7 @@ class EventsFaults(Case):
         self.check("it is told at the end", (statuses(told)[-1], told[-1].attempts, service.runs),
                    ("lost", 0, [(1, "ok")]))
 
-    def test_results_are_held(self):
+    def test_what_is_held_of_results_is_bounded_in_bytes(self):
         """The bound in bytes counts what the functions report, too: here of 100 times 64 KiB 2 MiB."""
         count, most = 100, queue.MOST_BYTES
         queue.MOST_BYTES = 2 << 20
@@ -89,6 +91,8 @@ class EventsFaults(Case):
                 self.check("a further event is refused", caller.event("f", {"number": 1, "x": "y" * MUCH})[0], 429)
         finally:
             queue.MOST_BYTES = most
+
+    def test_a_record_has_the_result(self):
         service = Service(*["fails with much"] * 2)
         with front_of(service, retries=1) as (front, caller, told):
             caller.event("f", {"number": 1})
@@ -98,13 +102,15 @@ class EventsFaults(Case):
                                                    record["requestPayload"],
                                                    record["responseContext"]["functionError"], front.queue.size),
                        (MUCH, {"number": 1}, "Unhandled", 0))
+
+    def test_without_a_record_to_come_no_result_is_kept(self):
         service = Service("fails")
         with front_of(service, onFailure="f", retries=2, delays=[900]) as (front, caller, told):
             caller.event("f", {"number": 1})
             until(lambda: "retry" in statuses(told), PATIENCE)
             self.check("without a record to come, none is kept", front.queue.size, len(b'{"number": 1}'))
 
-    def test_lost_while_it_runs(self):
+    def test_an_event_that_runs_at_the_stop_is_told_so(self):
         service = Service("never answers")
         with front_of(service) as (_, caller, told):
             caller.event("f", {"number": 1})

@@ -48,7 +48,7 @@ class Explained(Case):
         self.addCleanup(folder.cleanup)
         self.folder = folder.name
 
-    def test_replays(self):
+    def test_a_refused_line_of_a_script_is_explained(self):
         opening, path = json.dumps(CONFIGURATION), os.path.join(self.folder, "script.txt")
         bad = {**CONFIGURATION, "functions": [{**CONFIGURATION["functions"][0], "timeout": 0}]}
         for name, text, line, told in (
@@ -77,7 +77,7 @@ class Explained(Case):
                            (2, True, own[2], True))
         self.long_pipes(opening)
 
-    def test_configurations(self):
+    def test_explain_is_the_programs_own(self):
         """`explain` is the program's own."""
         bad = {**CONFIGURATION, "functions": [{**CONFIGURATION["functions"][0], "timeout": 0}]}
         for launcher, words in LAUNCHERS.items():
@@ -108,7 +108,7 @@ class Explained(Case):
             self.check(f"{launcher}: what a pipe gives is answered", b"deliver" in child.stdout.readline())
             self.check(f"{launcher}: and its end is the end", (child.wait(20), child.stderr.read()), (0, b""))
 
-    def test_right_ones(self):
+    def test_a_right_script_is_answered_as_the_program_does(self):
         path = os.path.join(self.folder, "right.txt")
         with open(path, "w") as file:
             file.write(json.dumps(CONFIGURATION) + "\n" + "".join(f"{moment} tick\n" for moment in range(1000))
@@ -128,7 +128,7 @@ class Explained(Case):
                 self.check(f"{launcher}: a reader that has gone", child.returncode, 4)
                 child.stderr.close()
 
-    def test_serving(self):
+    def test_a_configuration_that_serve_refuses_is_explained(self):
         path = os.path.join(self.folder, "service.json")
         bad = {**CONFIGURATION, "invokePort": 19001}
         refused: Tuple[Tuple[str, str, Dict[str, str], str, str], ...] = (
@@ -146,11 +146,13 @@ class Explained(Case):
                 self.check(f"{launcher} serve: {name}", (status, output, len(said), said[0].startswith(line) if said
                                                          else None,
                                                          told in (said[-1] if said else "")), (2, b"", 2, True, True))
+
+    def test_serve_names_a_file_that_is_not_there(self):
         for launcher, words in LAUNCHERS.items():
             status, _, said = ended([*words, "serve", "/nowhere"], subprocess.DEVNULL)
             self.check(f"{launcher} serve: a file that is not there", (status, said), (4, ["input: failed"]))
 
-    def test_signals(self):
+    def test_signals_reach_what_serves_and_end_a_replay(self):
         """What serves is the process itself; a replay of a file ends with it."""
         invoke_port, port = free_ports(2, ())
         path, long = os.path.join(self.folder, "service.json"), os.path.join(self.folder, "long.txt")
@@ -198,7 +200,7 @@ class Explained(Case):
                 os.close(unread)
                 os.close(full)
 
-    def test_terminals(self):
+    def test_alone_on_a_terminal_the_help_is_printed(self):
         """Alone on a terminal there is nothing to replay: the help is printed."""
         for launcher, words in LAUNCHERS.items():
             above, below = pty.openpty()

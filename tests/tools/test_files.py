@@ -57,7 +57,7 @@ def content(path):
 
 
 class Files(Case):
-    def test_whole(self):
+    def test_what_fails_leaves_the_file_as_it_was(self):
         """What fails leaves what was there, and nothing beside it."""
         with tempfile.TemporaryDirectory() as folder:
             path = os.path.join(folder, "f")
@@ -81,7 +81,7 @@ class Files(Case):
             self.check("so is a folder that is not there", fault_in(write, f"{folder}/no/f"),
                        "No such file or directory")
 
-    def test_names(self):
+    def test_links_lead_where_they_led_and_names_beside_stay(self):
         """Links lead where they led; names beside it stay."""
         with tempfile.TemporaryDirectory() as folder:
             target, link = os.path.join(folder, "target"), os.path.join(folder, "link")
@@ -97,6 +97,9 @@ class Files(Case):
             self.check("a link to nothing is a fault", fault_in(write, os.path.join(folder, "broken")),
                        "No such file or directory")
             self.check("and stays one", os.readlink(os.path.join(folder, "broken")), "nothing")
+
+    def test_a_pipe_and_stdout_are_written_as_they_are(self):
+        with tempfile.TemporaryDirectory() as folder:
             pipe = os.path.join(folder, "pipe")
             os.mkfifo(pipe)
             reading = subprocess.Popen(["cat", pipe], stdout=subprocess.PIPE, text=True)
@@ -109,7 +112,7 @@ class Files(Case):
                                env={**os.environ, "PYTHONPATH": os.path.join(ROOT, "tools")})
             self.check("so is /dev/stdout", content(os.path.join(folder, "out")), "new")
 
-    def test_renewed(self):
+    def test_a_renewed_file_writes_to_nothing_that_a_function_puts_there(self):
         """A small file that others read, in a folder in which a function writes too: nothing that it puts there is
         written to, or waited for."""
         with tempfile.TemporaryDirectory() as folder:
@@ -130,7 +133,7 @@ class Files(Case):
             self.check("a folder is a fault", fault_in(renew, path, "3\n"), "Is a directory")
             self.check("and nothing is left beside", sorted(os.listdir(folder)), ["clock", "clock.new", "other"])
 
-    def test_shared_clock(self):
+    def test_the_shared_clock_is_written_at_once_beside_pipes(self):
         """The clock that runtimes read is put there so: a function stops nobody by what it puts beside it."""
         with tempfile.TemporaryDirectory() as folder:
             path = os.path.join(folder, "clock")
@@ -142,7 +145,7 @@ class Files(Case):
             self.check("it is written at once", (noting.is_alive(), os.path.isfile(path) and content(path)),
                        (False, "5 1000000000 0\n"))
 
-    def test_modes(self):
+    def test_a_file_with_payloads_is_its_users_alone(self):
         with tempfile.TemporaryDirectory() as folder:
             mask = os.umask(0o022)
             try:
@@ -159,7 +162,7 @@ class Files(Case):
                 os.umask(mask)
             self.check("modes", modes, {"payloads": "0o600", "none": "0o644", "kept": "0o640", "open": "0o666"})
 
-    def test_reports(self):
+    def test_a_report_on_a_full_disk_is_a_fault(self):
         with tempfile.TemporaryDirectory() as folder:
             path, suite = os.path.join(folder, "report.xml"), junit.Suite("s")
             suite.case("g", "n", output="x" * LONG)
@@ -167,11 +170,15 @@ class Files(Case):
                 said = fault_of(suite.write, path)
             self.check("a report on a full disk", (said, os.listdir(folder)), (
                 f"2: --junit {path}: File too large: name a file in a folder that can be written", []))
+
+    def test_a_report_with_events_is_its_users(self):
+        with tempfile.TemporaryDirectory() as folder:
+            path = os.path.join(folder, "report.xml")
             then = Invocation(1, "f", 1, False, None, b"{}", "output", b"1", 2)
             write_junit(path, [Result(then, EQUAL, [], 0.1)])
             self.check("a report with events is its user's", oct(os.stat(path).st_mode & 0o777), "0o600")
 
-    def test_tools(self):
+    def test_each_tool_on_a_full_disk_says_a_line_and_leaves_what_was_there(self):
         """Each tool that writes: one line and its status if the disk is full, and what was there stays."""
         with tempfile.TemporaryDirectory() as folder:
             template, up = os.path.join(folder, "template.json"), os.path.join(folder, "up.json")

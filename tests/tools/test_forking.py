@@ -85,7 +85,7 @@ def again(up):
 
 
 class Forking(Case):
-    def test_same_as_fresh(self):
+    def test_a_forked_runtime_is_the_same_as_a_fresh_one(self):
         seen = {}
         for switch in ("0", "1"):
             up = up_of(environ={**os.environ, "LAMBDA_LOCAL_FORK": switch})
@@ -107,7 +107,7 @@ class Forking(Case):
         for name in sorted(fresh):
             self.check(f"a forked runtime's {name} is a fresh one's", other[name], fresh[name])
 
-    def test_apart(self):
+    def test_forked_environments_share_no_state(self):
         up = up_of(environments=4)
         up.until("ready")
         self.check("of four environments three are forked, by a fourth process", len(with_its_line(up)), 4)
@@ -122,7 +122,7 @@ class Forking(Case):
         self.check("each has its handler's own state", counts[0] in (1, 2, 3) and max(counts) <= 3)
         up.end()
 
-    def test_ends(self):
+    def test_what_is_forked_ends_as_what_is_fresh(self):
         up = up_of()
         up.until("ready")
         again(up)
@@ -149,7 +149,7 @@ class Forking(Case):
         self.check("what is forked ends with lambda_local up", until(lambda: not lives(pid), 10))
         up.end(None)
 
-    def test_kinds(self):
+    def test_each_function_has_its_own_interpreter(self):
         """Functions with other variables have other interpreters; one that has threads at its start forks nothing."""
         two = [{**FUNCTION, "name": name, "environments": 2, "variables": {"PYTHONHASHSEED": seed}}
                for name, seed in (("f", "1"), ("g", "2"))]
@@ -160,6 +160,8 @@ class Forking(Case):
                                                                     seeds["f"] != seeds["g"]),
                    (1, 1, True))
         up.end()
+
+    def test_an_interpreter_with_threads_forks_nothing(self):
         site = "import threading, time\nthreading.Thread(target=time.sleep, args=(600,), daemon=True).start()\n"
         for name, text, count in (("that begins with threads", site, 0), ("with the function's own path", "", 2)):
             up = Up(app=APP, functions=[{**FUNCTION, "environments": 2, "variables": {"PYTHONPATH": "site"}}],

@@ -32,7 +32,7 @@ plugins: [a]
 
 
 class FromTemplate(TemplateCase):
-    def test_sam(self):
+    def test_a_SAM_template_is_made_into_an_UP_json(self):
         if not HAS_YAML:
             self.skipTest("PyYAML is not here")
         common = {"variables": {"A": "1", "LIVE": "true"}}
@@ -53,7 +53,7 @@ class FromTemplate(TemplateCase):
             "Four: the variable MODE is Open, a placeholder for the parameter Open",
             "Four: the variable QUEUE is Queue.Arn")
 
-    def test_cdk(self):
+    def test_a_CDK_template_is_made_into_an_UP_json(self):
         asset: Members = {"Type": "AWS::Lambda::Function", "Metadata": {"aws:asset:path": "asset.1"}, "Properties": {
             "Handler": "bootstrap", "Runtime": "provided.al2023", "Code": {"S3Bucket": {"Ref": "x"}}}}
         template = {"Resources": {
@@ -66,12 +66,16 @@ class FromTemplate(TemplateCase):
         }, "F1: there is no ", "orders-Shop: has no command, since its code is not here",
             "asset.1/bootstrap yet: build it", "orders-Shop: ignores Code, which is not a folder here",
         name="Shop.template.json", folders=["asset.1"])
+
+    def test_a_folder_of_CDK_that_is_not_there_yet_is_told(self):
+        asset: Members = {"Type": "AWS::Lambda::Function", "Metadata": {"aws:asset:path": "asset.1"}, "Properties": {
+            "Handler": "bootstrap", "Runtime": "provided.al2023", "Code": {"S3Bucket": {"Ref": "x"}}}}
         self.case("CDK, a folder that is not there yet", {"Resources": {"F1": asset}}, {"F1": {
             "name": "F1", "handler": "bootstrap", "command": ["./bootstrap"],
             "directory": "asset.1"}},
             "asset.1 is not a folder (yet)", name="Shop.template.json", folders=[])
 
-    def test_serverless(self):
+    def test_a_serverless_yml_is_made_into_an_UP_json(self):
         if not HAS_YAML:
             self.skipTest("PyYAML is not here")
         # (a timeout of 6 s and 1024 MB are Serverless' own defaults)
@@ -90,6 +94,8 @@ class FromTemplate(TemplateCase):
         "ignores the variable NOTHING, which has no value",
             "ship: it is named ship, since its FunctionName is not known here: it needs ${cf:other.Name}",
             "ship: has no command, since its code is an image", name="serverless.yml")
+
+    def test_variables_in_a_circle_are_told(self):
         made, said = made_of({"service": "s", "provider": {"runtime": "provided"},
                               "custom": {"a": "${self:custom.b}", "b": "${self:custom.a}"},
                               "functions": {"f": {"handler": "x", "environment": {"A": "${self:custom.a}"}}}})
@@ -97,7 +103,7 @@ class FromTemplate(TemplateCase):
         self.check("Serverless: variables in a circle", (made["s-dev-f"].get("variables"), circle in said),
                    (None, True))
 
-    def test_expressions(self):
+    def test_expressions_are_worked_out(self):
         parameters = {"Stage": {"Type": "String", "Default": "dev"},
                       "Key": {"Type": "AWS::SSM::Parameter::Value<String>", "Default": "/key"},
                       "Many": {"Type": "CommaDelimitedList", "Default": "a, b"}}
@@ -137,7 +143,7 @@ class FromTemplate(TemplateCase):
             "ignores the variable BAD: Fn::Join needs a separator and a list",
             name="Shop.json")
 
-    def test_conditions(self):
+    def test_a_condition_that_cannot_be_worked_out_is_told_and_its_function_taken(self):
         """A function whose condition cannot be worked out is taken, and that is said."""
         for name, conditions, reason in (
                 ("one that the template does not have", {}, "there is no condition Wanted"),
@@ -152,11 +158,13 @@ class FromTemplate(TemplateCase):
             template["Resources"]["F"]["Condition"] = "Wanted"
             self.case(f"a condition: {name}", template, made_function(),
                       f"F: it is kept, since its condition Wanted cannot be worked out here: {reason}")
+
+    def test_a_value_by_a_condition_that_is_not_there_is_told(self):
         self.case("a value by a condition that is not there",
                   function_of(Environment={"Variables": {"A": {"Fn::If": ["Wanted", "yes", "no"]}}}), made_function(),
                   "F: ignores the variable A: there is no condition Wanted")
 
-    def test_code(self):
+    def test_an_image_is_told(self):
         self.case("an image", function_of(PackageType="Image", Runtime=None), {"F": {"name": "F"}},
                   "F: has no command, since its code is an image: write one, such as docker run")
         self.case("an image by its URI", function_of(Code={"ImageUri": "x"}), {"F": {"name": "F"}},
@@ -166,6 +174,8 @@ class FromTemplate(TemplateCase):
                    "Resources": {"F": {"Type": "AWS::Serverless::Function", "Properties": {"PackageType": "Image"}}}},
                   {"F": {"name": "F"}},
                   "its code is an image")
+
+    def test_code_in_the_template_is_told(self):
         self.case("code in the template",
                   function_of(Code={"ZipFile": "exports.x = 1"}, Handler="index.x", Runtime="nodejs20.x"),
                   {"F": {"name": "F", "handler": "index.x", "inline": "exports.x = 1", "runtime": "node"}})
@@ -174,15 +184,21 @@ class FromTemplate(TemplateCase):
             "Properties": {"InlineCode": "x", "Runtime": "python3.12", "Handler": "index.x"}}}}
         self.case("InlineCode", sam_inline,
                   {"F": {"name": "F", "handler": "index.x", "inline": "x", **python("index.x")}})
+
+    def test_code_elsewhere_is_told(self):
         far = {name: value for name, value in made_function()["F"].items() if name not in ("runtime", "command")}
         self.case("code far away", function_of(CodeUri="s3://far/away"), {"F": far},
                   "ignores CodeUri, which is not a folder here", "F: has no command, since its code is not here")
         self.case("code of CloudFormation's package", function_of(Code="src"), made_function(directory="src"))
+
+    def test_a_runtime_without_its_client_is_told(self):
         self.case("Node without its client", function_of(Runtime="nodejs20.x", Handler="a.b"),
                   {"F": {"name": "F", "handler": "a.b", "runtime": "node"}})
         self.case("a runtime that is not known", function_of(Runtime="dotnet8"),
                   {"F": {"name": "F"}},
                   "F: has no command, since none is known for the runtime dotnet8")
+
+    def test_Node_with_its_client_and_an_archive_are_taken(self):
         with tempfile.TemporaryDirectory() as folder:
             os.makedirs(os.path.join(folder, "node_modules", ".bin"))
             os.makedirs(os.path.join(folder, "src"))
@@ -200,7 +216,7 @@ class FromTemplate(TemplateCase):
             self.check("Node with its client", made[0]["command"], ["npx", "aws-lambda-ric", "a.b"])
             self.check("an archive", (made[1].get("directory"), "CodeUri" in said.getvalue()), ("code.zip", False))
 
-    def test_numbers(self):
+    def test_numbers_are_within_their_limits_or_told(self):
         self.case("a huge reservation", function_of(ReservedConcurrentExecutions=300),
                   made_function(reserved=300))
         self.case("a reservation of none", function_of(ReservedConcurrentExecutions=0), made_function(reserved=0))
@@ -210,13 +226,15 @@ class FromTemplate(TemplateCase):
                             ("Timeout", {}), ("MemorySize", [1]), ("ReservedConcurrentExecutions", -1)):
             self.case(f"{name} {value!r}", function_of(**{name: value}), made_function(),
                       f"F: ignores {name}: it must be a whole number from ")
+
+    def test_reservations_are_no_more_than_there_is(self):
         many = {"Resources": {f"F{number}": function_of(ReservedConcurrentExecutions=20)["Resources"]["F"]
                               for number in range(70)}}
         made, said = made_of(many)
         self.check("seventy functions of twenty", len(made), 64)
         self.check("and what is said", "F69: 64 are the most" in said)
 
-    def test_names(self):
+    def test_names_that_are_none_are_told(self):
         self.case("a name that is none", function_of(FunctionName="a b"), made_function(),
                   "F: it is named F, since its FunctionName is not known here: a b is not a name of 1 to 64 "
                   "letters, digits, - and _")

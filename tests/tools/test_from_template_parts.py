@@ -56,7 +56,7 @@ OF_GATEWAYS = {
 
 
 class FromTemplateParts(TemplateCase):
-    def test_wrong_templates(self):
+    def test_wrong_templates_are_refused_in_a_line(self):
         for name, text, status, words in (
                 ("no template", "[1]", 2, "not a template: it must have Resources, or functions"),
                 ("an empty one", "{}", 2, "not a template"),
@@ -64,6 +64,8 @@ class FromTemplateParts(TemplateCase):
                 ("no folder of functions", '{"functions": 5}', 2, "not a template")):
             made, said = made_of(text, name="x.json")
             self.check(f"{name}", (made, words in said and "Traceback" not in said), (status, True), shown=said)
+
+    def test_wrong_YAML_is_refused_in_a_line(self):
         if HAS_YAML:
             made, said = made_of("Resources:\n  A: [\n")
             self.check("no YAML", (made, "template.yaml: line 3, column 1: " in said), (2, True), shown=said)
@@ -79,9 +81,13 @@ class FromTemplateParts(TemplateCase):
             properties = '{Runtime: x, "A\\e[2J": 1}'
             made, said = made_of(f"Resources:\n  F: {{Type: AWS::Serverless::Function, Properties: {properties}}}\n")
             self.check("a name reaches no terminal", ("\x1b" in said, "A\\x1b[2J" in said), (False, True))
+
+    def test_no_file_is_told_in_a_line(self):
         done = subprocess.run([*FROM_TEMPLATE, "/no/such/file"], stderr=subprocess.PIPE, text=True)
         self.check("no file", (done.returncode, done.stderr),
                    (2, "from_template: /no/such/file: No such file or directory: name a template\n"))
+
+    def test_no_folder_to_write_to_is_told(self):
         with tempfile.TemporaryDirectory() as folder:
             path = os.path.join(folder, "t.json")
             with open(path, "w") as file:
@@ -92,7 +98,7 @@ class FromTemplateParts(TemplateCase):
                        (done.returncode, "No such file or directory" in done.stderr and "Traceback" not in done.stderr),
                        (4, True))
 
-    def test_other_types(self):
+    def test_a_part_of_another_type_makes_no_traceback(self):
         """Of each part of a template a value of another type: no traceback, and never is it all refused for one
         function."""
         one: Members = {"Type": "AWS::Serverless::Function", "Properties": {
@@ -150,7 +156,7 @@ class FromTemplateParts(TemplateCase):
                                 refused.append((repr(fault), changed))
                 self.check(f"{name}: {tried} templates with a part of another type", refused[:2], [])
 
-    def test_places(self):
+    def test_folders_of_functions_are_found_from_anywhere(self):
         """A template's function is found wherever its UP.json is, and wherever lambda_local up is started."""
         with tempfile.TemporaryDirectory() as root:
             for name in ("app/src", "made", "else where"):
@@ -187,7 +193,7 @@ class FromTemplateParts(TemplateCase):
             self.check("lambda_local up runs it from a third folder", (done.returncode, done.stdout),
                        (0, json.dumps(os.path.join(root, "app", "src"))))
 
-    def test_layers(self):
+    def test_layers_of_each_dialect_are_taken(self):
         template = {"Resources": {
             "Shared": {"Type": "AWS::Serverless::LayerVersion", "Properties": {"ContentUri": "layer"}},
             "Built": {"Type": "AWS::Serverless::LayerVersion", "Properties": {"ContentUri": "src"},
@@ -221,7 +227,7 @@ class FromTemplateParts(TemplateCase):
                                       "layers": ["layer"], **python("app.run")}}, folders=("layer",),
                       name="serverless.yml")
 
-    def test_schedules(self):
+    def test_schedules_of_SAM_are_taken(self):
         def sam(**events):
             return {"Resources": {"F": {"Type": "AWS::Serverless::Function", "Properties": {
                 "Runtime": "python3.12", "Handler": "app.run", "CodeUri": "src", "Events": events}}}}
@@ -240,6 +246,11 @@ class FromTemplateParts(TemplateCase):
             A={"Type": "Schedule", "Properties": {"Schedule": "rate(1 hour)", "Enabled": False}},
             B={"Type": "ScheduleV2", "Properties": {"ScheduleExpression": "at(2030-01-01T00:00:00)"}}), made(None),
             "F: ignores its event A, which is not enabled", "F: ignores its event B, at(2030-01-01T00:00:00): ")
+
+    def test_schedules_of_CDK_are_taken(self):
+        def made(schedule):
+            return {"F": {"name": "F", "directory": "src", "handler": "app.run",
+                          **({"schedule": schedule} if schedule else {}), **python("app.run")}}
         cdk = {"Resources": {
             "Fn1": {"Type": "AWS::Lambda::Function", "Properties": {"Runtime": "python3.12", "Handler": "app.run"},
                     "Metadata": {"aws:asset:path": "src"}},
@@ -253,6 +264,11 @@ class FromTemplateParts(TemplateCase):
                                                  "schedule": {"expression": "rate(1 day)", "input": {"from": "rule"}},
                                                  **python("app.run")}},
                   "Rule2: ignores this AWS::Events::Rule, which has no ScheduleExpression")
+
+    def test_schedules_of_Serverless_are_taken(self):
+        def made(schedule):
+            return {"F": {"name": "F", "directory": "src", "handler": "app.run",
+                          **({"schedule": schedule} if schedule else {}), **python("app.run")}}
         if HAS_YAML:
             self.case("schedules of a serverless.yml",
                       "service: s\nprovider: {name: aws, runtime: python3.12}\nfunctions:\n"
@@ -266,7 +282,7 @@ class FromTemplateParts(TemplateCase):
                                       **python("app.run")}}, "ignores its schedule, which is not enabled",
                       name="serverless.yml")
 
-    def test_grouped(self):
+    def test_what_is_the_same_of_several_functions_is_said_once(self):
         """What is the same of several functions is said once."""
         of = {"Type": "AWS::Serverless::Function", "Properties": {
             "Runtime": "python3.12", "Handler": "app.run", "CodeUri": "src",

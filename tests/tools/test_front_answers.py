@@ -103,7 +103,7 @@ def read(data: bytes, method: str) -> Any:
 
 
 class FrontAnswers(Case):
-    def test_ends(self) -> None:
+    def test_each_answer_ends_where_the_next_begins(self) -> None:
         """Each answer has its body, and what follows it on the connection is the next."""
         wrong, count = [], 0
         contents = ([b"some", b"", b"thing"], [FORGED.encode()], [])
@@ -125,7 +125,7 @@ class FrontAnswers(Case):
                     wrong.append((name, method, status, version, seen))
         self.check(f"of {count} answers those that a client reads otherwise", wrong, [])
 
-    def test_lengths(self) -> None:
+    def test_what_a_head_says_is_what_follows(self) -> None:
         """What a head says is what follows."""
         def heads(method: str, reply: Reply) -> List[str]:
             wire, _ = written(method, "HTTP/1.1", reply)
@@ -142,14 +142,14 @@ class FrontAnswers(Case):
             self.check(f"a body that has {name} breaks off", (keeps, wire.is_aborted), ("breaks off", True))
             self.check("with no more than that", len(wire.data.partition(b"\r\n\r\n")[2]) <= length)
 
-    def test_at_once(self) -> None:
+    def test_the_head_waits_for_no_piece(self) -> None:
         """The head waits for no piece, and one that is there goes with it."""
         wire, _ = written("GET", "HTTP/1.1", Reply(200, [("content-length", "2")], pieces=Pieces([b"ab"])))
         self.check("a piece that is there", wire.writes, 2)  # (the second has the end of chunks, or nothing)
         wire, _ = written("GET", "HTTP/1.1", Reply(200, [("content-length", "2")], pieces=Pieces([b"ab"], 0.05)))
         self.check("a piece that comes later", wire.writes, 3)
 
-    def test_tail_that_fails(self) -> None:
+    def test_an_answer_is_its_callers_whatever_is_known_of_its_log(self) -> None:
         """An answer is its caller's, whatever is known of its log; and it ends with its caller."""
         class Tails:
             def is_prepared(self, function: str) -> bool:
@@ -183,7 +183,7 @@ class FrontAnswers(Case):
         asyncio.run(left())
         self.check("one whose caller goes is closed", pieces.is_closed)
 
-    def test_kept(self) -> None:
+    def test_on_a_kept_connection_each_answer_is_the_one_that_was_asked_for(self) -> None:
         """On a kept connection to each kind of port, preludes and methods by turns with an invocation whose answer is
         known."""
         functions = [{"name": name, "command": ["./streaming"], "timeout": 5, "url": {"invoke": mode}}

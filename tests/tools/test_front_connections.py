@@ -72,7 +72,7 @@ def drips(peer, data):
 
 
 class FrontConnections(Case):
-    def test_synchronous(self):
+    def test_an_invocation_is_sent_once_whatever_becomes_of_it(self):
         """What is passed on is sent once, whatever becomes of it."""
         for deed in ("closes", "breaks off in the head", "has no memory"):
             service = Service(deed)
@@ -86,7 +86,7 @@ class FrontConnections(Case):
                 time.sleep(0.1)
                 self.check("it is sent once", service.runs, [(1, deed)])
 
-    def test_written_anew(self):
+    def test_the_service_is_asked_by_the_fronts_own_heads(self):
         """What the service is asked is the front's own: whatever else a head has, it does not come there. An invocation
         of a command that has no trace gets one."""
         def asked():
@@ -117,14 +117,14 @@ class FrontConnections(Case):
             self.check("an event in absolute form is taken",
                        answer_to(front, absolute.encode() + b'Content-Length: 12\r\n\r\n{"number":2}')[0], 202)
 
-    def test_silent(self):
+    def test_a_connection_with_more_than_its_answer_is_not_used_again(self):
         """A connection on which more has come than its answer is not used again."""
         service = Service("answers twice")
         with front_of(service) as (_, caller, _):
             seen = [caller.ask("POST", invoke_path("f"), b'{"number":%d}' % number)[2] for number in range(3)]
             self.check("each caller gets its own answer", (seen, service.connections), ([b"1"] * 3, 2))
 
-    def test_half_bodies(self):
+    def test_a_body_that_has_not_come_holds_nothing(self):
         """A body that has not come holds nothing; one that does not go on makes room for one that does."""
         service = Service(*["ok"] * 3)
         with front_of(service) as (front, _, _):
@@ -154,7 +154,7 @@ class FrontConnections(Case):
                 peer.close()
             self.check("what is held at the end", until(lambda: budget.size == 0, PATIENCE))
 
-    def test_places(self):
+    def test_a_newcomer_takes_the_place_that_waited_longest(self):
         """A newcomer takes the place of the one that has waited longest; the service's own requests always get in."""
         service = Service(*["never answers"] * 4)
         with front_of(service) as (front, _, _):
@@ -192,7 +192,7 @@ class FrontConnections(Case):
                 peer.close()
             self.check("all places are free again", until(lambda: not front.places.taken, PATIENCE), True)
 
-    def test_descriptors(self):
+    def test_without_descriptors_idle_connections_make_room(self):
         """Without a descriptor for a newcomer, those that are idle make room, one line says so, and it recovers."""
         def without(*_):
             raise NoDescriptor
@@ -215,7 +215,7 @@ class FrontConnections(Case):
             self.check("one line says so", sum("no file descriptor is left" in line for line in told.lines), 1)
             self.check("and all goes on", answer_to(front, STATS)[0], 200)
 
-    def test_tasks(self):
+    def test_a_task_that_ends_by_an_exception_is_told(self):
         """A task that ends by an exception is told; one that is cancelled is not."""
         async def fails():
             raise ValueError("no")
@@ -232,7 +232,7 @@ class FrontConnections(Case):
         asyncio.run(begin())
         self.check("what is told of two tasks", told, ["the one cannot go on: ValueError('no')"])
 
-    def test_unread_answers(self):
+    def test_answers_that_are_not_read_are_bounded(self):
         """An answer is there once, whoever does not read it. If too much waits for readers, those who take nothing are
         broken off, the first that came before the others, also if they send something."""
         class Port:
@@ -269,7 +269,7 @@ class FrontConnections(Case):
             for peer in peers:
                 peer.close()
 
-    def test_slow_peers(self):
+    def test_slow_heads_bodies_and_silence_have_their_times(self):
         """A head has its time as a whole, a body its rate, and what is idle its own (docs/formats.md)."""
         kept = {name: getattr(patience, name) for name in ("HEAD_SECONDS", "WHOLE_HEAD_SECONDS", "SLOWEST")}
         patience.HEAD_SECONDS, patience.WHOLE_HEAD_SECONDS, patience.SLOWEST = 3, 6, 1000

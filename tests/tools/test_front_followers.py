@@ -51,7 +51,7 @@ def status(peer: socket.socket) -> Any:
 
 
 class FrontFollowers(Case):
-    def test_head(self) -> None:
+    def test_the_head_of_a_followed_trace_comes_at_once(self) -> None:
         """It comes at once, also if no entry does."""
         up = started()
         entries = json.loads(up.get("/_local/stats"))["entries"]
@@ -63,7 +63,7 @@ class FrontFollowers(Case):
         self.check("then the entries", b'"kind":"invoke"' in peer.recv(1 << 16), True)
         self.check("it ends", up.end(), (0, []))
 
-    def test_gone(self) -> None:
+    def test_a_follower_that_has_gone_is_gone_in_front_and_service(self) -> None:
         up = started()
         up.invoke(size=1)
         for _ in range(4):
@@ -101,7 +101,7 @@ class FrontFollowers(Case):
         self.check("the service goes on", up.invoke(size=2)[0], "xx")
         self.check("it ends", up.end(), (0, []))
 
-    def test_most(self) -> None:
+    def test_no_more_than_the_most_follow(self) -> None:
         up = started()
         peers = [connected(up) for _ in range(MOST)]
         self.check(f"{MOST} follow", {status(peer)[0] for peer in peers}, {200})
@@ -121,7 +121,7 @@ class FrontFollowers(Case):
         self.check("the stop", up.get("/_local/stop", b""), '{"status":"OK"}')
         self.check("it ends", up.end(None)[1], [])
 
-    def test_reserve(self) -> None:
+    def test_the_reserve_is_not_for_followers(self) -> None:
         """The places for the counts and the stop are not for what has no end."""
         service = Service(*["never answers"] * 4)
         with front_of(service) as (front, _, _):
@@ -143,7 +143,7 @@ class FrontFollowers(Case):
             for peer in peers:
                 peer.close()
 
-    def test_quiet(self) -> None:
+    def test_a_quiet_trace_may_take_its_time_and_its_reader_may_not(self) -> None:
         """An answer may take its time; its reader may not."""
         wire = Wire(RequestReader())
         patience = Patience(wire)

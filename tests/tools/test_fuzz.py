@@ -325,68 +325,68 @@ class Fuzz(Case):
             number += 1
         self.check(f"{name}: {tried} inputs, seeds {FIRST_SEED} to {number - 1}", "", "")
 
-    def test_up(self):
+    def test_any_UP_json_is_read_or_refused(self):
         self.fuzz("up")
 
-    def test_reports(self):
+    def test_any_report_is_read_or_refused(self):
         self.fuzz("reports")
 
-    def test_histories(self):
+    def test_any_history_is_read_or_refused(self):
         self.fuzz("histories")
 
-    def test_traces(self):
+    def test_any_trace_is_read_or_refused(self):
         self.fuzz("traces")
 
-    def test_templates(self):
+    def test_any_template_is_read_or_refused(self):
         self.fuzz("templates")
 
-    def test_results(self):
+    def test_any_result_is_read_or_refused(self):
         self.fuzz("results")
 
-    def test_output(self):
+    def test_any_output_is_divided_into_lines(self):
         self.fuzz("output")
 
-    def test_requests(self):
+    def test_any_request_is_read_whole_and_in_pieces(self):
         self.fuzz("requests")
 
-    def test_responses(self):
+    def test_any_response_is_read_whole_and_in_pieces(self):
         self.fuzz("responses")
 
-    def test_chunks(self):
+    def test_any_chunks_are_read_as_by_a_plain_second_reading(self):
         self.fuzz("chunks")
 
-    def test_written(self):
+    def test_any_head_is_written_safely_or_refused(self):
         self.fuzz("written")
 
-    def test_env(self):
+    def test_any_env_file_is_read_or_refused(self):
         self.fuzz("env")
 
-    def test_toml(self):
+    def test_any_TOML_is_read_as_by_Pythons_reader(self):
         self.fuzz("toml")
 
-    def test_parameters(self):
+    def test_any_parameters_are_read_or_refused(self):
         self.fuzz("parameters")
 
-    def test_env_vars(self):
+    def test_any_env_vars_are_read_or_refused(self):
         self.fuzz("env_vars")
 
-    def test_values(self):
+    def test_any_values_are_read_or_refused(self):
         self.fuzz("values")
 
-    def test_projects(self):
+    def test_any_project_is_read_or_refused(self):
         self.fuzz("projects")
 
-    def test_authorizers(self):
+    def test_any_authorizers_are_read_or_refused(self):
         self.fuzz("authorizers")
 
-    def test_tokens(self):
+    def test_any_token_is_read_or_refused(self):
         self.fuzz("tokens")
 
-    def test_answers(self):
+    def test_any_answer_of_an_authorizer_is_read_or_refused(self):
         self.fuzz("answers")
 
-    def test_behind_alb(self):
+    def test_any_result_behind_a_load_balancer_is_read_or_refused(self):
         self.fuzz("behind_alb")
 
-    def test_template_routes(self):
+    def test_any_template_with_routes_is_read_or_refused(self):
         self.fuzz("template_routes")

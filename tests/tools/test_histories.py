@@ -101,7 +101,7 @@ def program(folder, text):
 
 
 class Histories(Case):
-    def test_reader(self):
+    def test_an_entry_is_read_strictly(self):
         self.check("an entry", entry_of(LINE), ENTRY)
         self.check("without bodies", entry_of(LINE.replace(b'"body":"{}",', b"")), ENTRY._replace(
             call=ENTRY.call._replace(body=None), answers=(ENTRY.answers[0]._replace(body=None),)))
@@ -115,7 +115,7 @@ class Histories(Case):
             "entry 2 of the trace: its moment 999 is before 1000, that of the entry before it")
         self.check("a line that is cut off is left out", list(lines_of(io.BytesIO(LINE + LINE[:50]))), [LINE])
 
-    def test_words(self):
+    def test_words_and_identifiers_are_read_and_written(self):
         self.check("a word as text", (f"{Word.TOO_LARGE_OUTPUT}", "%s" % Word.ERROR, json.dumps(Word.OUTPUT)),
                    ("too-large-output", "error", '"output"'))
         self.check("the count of an identifier, and the identifier of a count", (count_in(REQUEST),
@@ -123,17 +123,19 @@ class Histories(Case):
                    (1, REQUEST))
         self.check("the version takes the place of the salt's bits 12 to 15",
                    request_identifier(0x0123456789ABCDEF, 2, 255), "01234567-89ab-8def-8002-0000000000ff")
+
+    def test_each_word_is_on_the_page_of_formats(self):
         with open(os.path.join(ROOT, "docs", "formats.md"), encoding="utf-8") as page:
             text = page.read()
         self.check("each word is on the page of formats", [str(word) for word in Word if f"`{word}" not in text], [])
 
-    def test_examples(self):
+    def test_the_objects_of_the_page_are_read(self):
         """The objects of docs/trace.md and of the worked traces are read."""
         with open(os.path.join(ROOT, "docs", "trace.md"), encoding="utf-8") as page:
             lines = [line for line in page if line.startswith('{"answers"')]
         self.check("objects of the page", len([entry_of(line.encode()) for line in lines]) == len(lines) > 5)
 
-    def test_scripts(self):
+    def test_what_is_no_script_is_refused(self):
         for name, text, words in (
             ("no configuration", "hello\n", "2: configuration: NotJson"), ("nothing", "", "2: configuration: NotJson"),
             ("a list", "[]\n", "2: configuration: BadShape"),
@@ -142,6 +144,8 @@ class Histories(Case):
         ):
             with script(text) as one:
                 self.check(f"{name} is refused", fault_of(lambda: one.configuration).startswith(words), True)
+
+    def test_a_line_that_is_cut_is_left_out_of_a_script(self):
         for name, text, cut, left in (
             ("whole", HISTORY, None, HISTORY), ("cut in a line", HISTORY[:-1], 8, HISTORY[:HISTORY.rindex("# 2 2")]),
             ("of one line", "form 2", 1, ""), ("empty", "", None, ""),
@@ -156,7 +160,7 @@ class Histories(Case):
                    "2: /nowhere/h: No such file or directory: name a file with a history or a script")
         self.check("a folder", fault_of(Script, "/").startswith("2: /: Is a directory"), True)
 
-    def test_program(self):
+    def test_the_entries_of_a_script_are_those_that_the_program_gives(self):
         with script(HISTORY) as one, tempfile.TemporaryDirectory() as folder:
             entries = list(entries_of_script(one, PROGRAM))
             self.check("the entries", [(entry.call.kind, entry.place, entry.released) for entry in entries],
@@ -179,7 +183,7 @@ class Histories(Case):
             self.check("a line that is none", fault_of(lambda: list(entries_of_script(one, PROGRAM))).startswith(
                 "2: h: line 3 is not a call: `0 jump`"), True)
 
-    def test_comparison(self):
+    def test_a_history_is_compared_with_its_replay(self):
         for name, text, words in (
             ("the same", HISTORY, None), ("a script", ONE + "\n0 tick\n",
                                           "line 2: the history ends here, but the replay also answers `0 0 done`"),

@@ -6,7 +6,6 @@ import itertools
 import json
 import socket
 import threading
-import time
 from typing import List, Tuple
 
 from lambda_local.history.entries import Answer, Call, Entry
@@ -19,6 +18,7 @@ from tests.library.cases import Case
 from tests.library.fake_trace import HEAD, LAST, Fake, chunks, failed, line
 from tests.library.timelines import PROGRAM
 from tests.library.traces import entries_in
+from tests.library.up_kit import until
 
 REQUEST = "00000000-0000-8000-8001-000000000001"
 CONFIGURATION = ('{"account":"123456789012","accountLimit":1000,"functions":[{"extensions":[EXTENSIONS],'
@@ -91,7 +91,7 @@ TARGET = "/_local/trace?follow=1&from="
 
 
 class History(Case):
-    def test_texts(self):
+    def test_the_lines_of_a_history_are_its_entries(self):
         poll, invoke, response, expiry, tick = entries_in(TEXT)
         self.check("a poll that waits", (poll.call, poll.own, poll.answers), (Call("next", 1), None, ()))
         self.check("an invocation's name, payload and trace", invoke.call,
@@ -105,7 +105,7 @@ class History(Case):
         self.check("what follows it", (tick.ticket, tick.call), (4, Call("tick")))
         self.check("it is a recording", refused(parsed, TEXT, "F", PROGRAM), "is read")
 
-    def test_wrong_histories(self):
+    def test_wrong_histories_are_refused(self):
         for name, wrong in WRONG_LINES.items():
             seen = recorded(wrong)
             self.check(f"{name} is refused", seen.startswith("F: line 3 "), shown=seen)
@@ -117,7 +117,7 @@ class History(Case):
         for name, text in {"nothing": "", "5,000 levels": "form 2\n" + "[" * 5000, "a list": "form 2\n[]"}.items():
             self.check(f"an opening of {name} is refused", refused(parsed, text, "F", PROGRAM) != "is read")
 
-    def test_wrong_recordings(self):
+    def test_wrong_recordings_are_refused(self):
         self.check("a recording with a trace", recorded("1 invoke f - =Root=1-2;Sampled=0 ={}"), "is read")
         self.check("a trace that would be two headers", recorded("1 invoke f - =a%0d%0ab:%20c ={}").startswith(
             "F: line 3 is not a call: "), True)
@@ -130,12 +130,14 @@ class History(Case):
                    "F: line 4: the history has `0 0 dances`, but the replay answers `0 0 done`: the history was "
                    "edited, or recorded by another version of lambda_local")
 
-    def test_follows(self):
+    def test_a_trace_is_followed_in_chunks_and_pieces_of_any_size(self):
         body = line(0) + line(1) + line(2)
         for size, pieces in itertools.product((1, 7, 1000), (1, 5, 1000)):
             with following(HEAD + chunks(body, size) + LAST, pieces=pieces) as (running, _):
                 self.check(f"chunks of {size} bytes in pieces of {pieces}", list(running.entries()),
                            [entry(0), entry(1), entry(2)])
+
+    def test_a_connection_that_breaks_goes_on_with_the_next_entry(self):
         with following(HEAD + chunks(line(0)), HEAD + chunks(line(1) + line(2)[:20]), HEAD + chunks(line(2)) + LAST
                        ) as (running, server):
             self.check("a connection that breaks", taken(running), ([0], "the connection ends within a message"))
@@ -143,7 +145,7 @@ class History(Case):
             self.check("it goes on with the next entry", (taken(running), running.next), (([2], ""), 3))
             self.check("what was asked", server.asked, [f"{TARGET}{n}" for n in (0, 1, 2)])
 
-    def test_reports(self):
+    def test_only_entries_with_a_report_have_their_bodies(self):
         """Without bodies, but for those of entries with a report. What breaks off on the way to one is asked again."""
         told = HEAD + chunks(failed(1, "why") + line(2)) + LAST
         with following(HEAD + chunks(line(0) + failed(1) + line(2)) + LAST, told, only_reports=True) as (running, fake):
@@ -152,38 +154,46 @@ class History(Case):
                                                     for one in entries],
                        [(0, None, []), (1, b"why", [b"why", None]), (2, None, [])])
             self.check("what was asked", fake.asked, [f"{TARGET}0&bodies=none", "/_local/trace?from=1"])
+
+    def test_a_report_that_breaks_off_is_asked_again(self):
+        told = HEAD + chunks(failed(1, "why") + line(2)) + LAST
         with following(HEAD + chunks(line(0) + failed(1)), b"", HEAD + chunks(failed(1)), told[:len(HEAD) + 30],
                        HEAD + chunks(failed(1) + line(2)) + LAST, told, only_reports=True) as (running, fake):
             self.check("a report that does not come", taken(running), ([0], "it has closed the connection"))
             self.check("one that breaks off", taken(running), ([], "the connection ends within a message"))
             self.check("its entry was not counted", running.next, 1)
             self.check("it comes the next time", [one.call.body for one in running.entries()], [b"why", None])
+
+    def test_a_service_that_has_no_report_to_give_gives_its_entry(self):
         others = [HEAD + chunks(failed(0)), HEAD + LAST] * 3
         with following(*others, HEAD + chunks(failed(0) + line(1)) + LAST, only_reports=True) as (running, fake):
             self.check("a service that has no report to give", [taken(running) for _ in range(3)],
                        [([], "it does not give entry 0 again")] * 3)
             self.check("its entry comes without", taken(running), ([0, 1], ""))
 
-    def test_silent(self):
+    def test_a_silent_service_is_asked_again(self):
         """A service that is silent is asked again, and one that does not answer is lost."""
         answers = (HEAD + chunks(line(0)), HEAD + chunks(line(1) + line(2)[:9]), HEAD, HEAD + chunks(line(2)) + LAST)
         with following(*answers, silent=True, silence=1.0) as (running, server):
             self.check("each entry once", taken(running), ([0, 1, 2], ""))
             self.check("what was asked", server.asked, [f"{TARGET}{n}" for n in (0, 1, 2, 2)])
+
+    def test_a_service_that_does_not_answer_is_lost(self):
         with following(b"", silent=True, silence=1.0) as (running, _):
             self.check("no answer", taken(running), ([], "no answer within 1 s"))
+
+    def test_one_that_is_closed_ends_and_is_over(self):
         with following(HEAD, silent=True) as (running, server):
             came: List[Tuple[List[int], str]] = []
             thread = threading.Thread(target=lambda: came.append(taken(running)))
             thread.start()
-            while not server.held:
-                time.sleep(0.01)
+            until(lambda: bool(server.held), 30)
             running.close()
             thread.join(10)
             self.check("one that is closed ends", came, [([], "")])
             self.check("and is over", taken(running), ([], ""))
 
-    def test_wrong_services(self):
+    def test_a_wrong_service_is_told(self):
         for name, answer, wanted in (
             ("an answer that is none", b"HTTP/1.1 500 No\r\ncontent-length: 5\r\n\r\nworse",
              f"GET {TARGET}0: 500 worse"),
@@ -202,7 +212,7 @@ class History(Case):
             port = free.getsockname()[1]
         self.check("no service", taken(Running(port, 1)), ([], "Connection refused"))
 
-    def test_real(self):
+    def test_a_real_service_is_followed_to_its_end(self):
         service = Service({"account": "123456789012", "region": "us-east-1",
                            "functions": [{"name": "f", "ports": [0]}]})
         running = Running(service.port, 1)

@@ -185,7 +185,7 @@ class Hostile(Case):
                 made = f"refused: {fault}"
         return made + "\n" + said.getvalue()
 
-    def test_bombs(self) -> None:
+    def test_a_bomb_ends_within_its_bounds_and_a_line(self) -> None:
         for name, (file, what) in BOMBS.items():
             if file.endswith(".yml") and not HAS_YAML:
                 continue
@@ -201,7 +201,7 @@ class Hostile(Case):
                        shown=len(said))
             os.remove(path)
 
-    def test_files_outside(self) -> None:
+    def test_files_outside_of_the_folder_are_not_read_and_that_is_said(self) -> None:
         for kind, (file, what) in OUTSIDE.items():
             if file.endswith(".yml") and not HAS_YAML:
                 continue
@@ -218,7 +218,7 @@ class Hostile(Case):
             self.check(f"{kind}: inside it is", SECRET in self.seen(inside), shown=self.seen(inside))
             os.remove(inside)
 
-    def test_links_beside_a_template(self) -> None:
+    def test_links_beside_a_template_lead_nowhere_outside(self) -> None:
         """Files that nobody names are read if they are in the folder, and not if they lead out of it."""
         self.write("template.json", json.dumps({"Resources": {"F": function()}}))
         self.write("../values.json", json.dumps({"functions": {"F": {"variables": {"A": SECRET}}}}))
@@ -234,7 +234,7 @@ class Hostile(Case):
             seen = self.seen(self.folder)
             self.check(".env", (SECRET in seen, "ignores .env" in seen), (False, True), shown=seen)
 
-    def test_links_of_an_assembly(self) -> None:
+    def test_links_of_an_assembly_lead_nowhere_outside(self) -> None:
         template = {"Resources": {SECRET: function()}}
         self.write("../stolen.template.json", json.dumps(template))
         self.write("../manifest.json", json.dumps({"artifacts": {"S": {
@@ -252,7 +252,7 @@ class Hostile(Case):
         self.check("a template that a manifest names", (SECRET in seen, "is outside of" in seen), (False, True),
                    shown=seen)
 
-    def test_unreadable(self) -> None:
+    def test_a_folder_that_cannot_be_listed_is_told(self) -> None:
         """A folder that cannot be listed is none that can be served, in a line."""
         os.makedirs(os.path.join(self.folder, "cdk.out"))
         with mock.patch.object(os, "listdir", side_effect=PermissionError(13, "Permission denied")):
@@ -260,7 +260,7 @@ class Hostile(Case):
         self.check("a folder that cannot be read", seen.startswith("refused: ") and "has no project" in seen,
                    shown=seen)
 
-    def test_no_code(self) -> None:
+    def test_no_code_of_a_project_is_run(self) -> None:
         if not HAS_YAML:
             return
         mark = os.path.join(self.root, "ran")
@@ -272,7 +272,7 @@ class Hostile(Case):
             self.seen(self.write("serverless.yml", text))
             self.check(f"{name} is not run", os.path.exists(mark), False)
 
-    def test_what_users_give(self) -> None:
+    def test_what_users_give_is_read_at_once(self) -> None:
         """Files of values whose readers looked at each blank once for each other one."""
         blanks = " " * 500_000
         for name, options, text in (

@@ -135,19 +135,19 @@ def processor_seconds(pid):
 
 
 class Http1(Case):
-    def test_table(self):
+    def test_each_case_of_the_table_is_read_whole_and_in_pieces(self):
         for name, data, wanted in cases():
             seen = {made_of(data, sizes) for sizes in ((len(data),), (1,), (2, 3), (7, 1))}
             self.check(f"{name}, whole and in pieces", seen, {wanted})
 
-    def test_table_of_the_service(self):
+    def test_the_service_makes_of_each_case_what_the_table_says(self):
         """The service makes of each case of the table what it says."""
         with Serving() as service:
             names = list(cases())
             for (name, data, _), seen in zip(names, service.outcomes([data for _, data, _ in names])):
                 self.check(f"the service: {name}", seen, own_outcome(data))
 
-    def test_mutated(self):
+    def test_the_service_and_our_reader_take_the_same_of_mutants(self):
         """The service and our reader take the same of them, and refuse the same with the same status."""
         counts: Counter[str] = Counter()
         requests, wrong = mutants(COUNT, SEED), []
@@ -163,7 +163,7 @@ class Http1(Case):
         self.check("the service and our reader agree", (len(wrong), wrong[:MOST_SHOWN]), (0, []))
         self.check("both kinds are among them", min(counts["taken"], counts["refused"]) > COUNT / 10)
 
-    def test_behind_the_front(self):
+    def test_the_front_answers_mutants_as_the_service(self):
         """What the front answers to them has the service's statuses."""
         up = Up(*READY, functions=[{"name": "f", "runtime": "python", "handler": "app.run"}], app=APP,
                 whole={"asynchronous": True})
@@ -182,7 +182,7 @@ class Http1(Case):
         self.check("the front answers them as the service", (len(wrong), wrong[:MOST_SHOWN]), (0, []))
         self.check("it ends in order, and leaves nothing", up.end(), (0, []))
 
-    def test_against_h11(self):
+    def test_h11_and_our_reader_agree_but_for_what_is_listed(self):
         try:
             import h11
         except ImportError:
@@ -198,7 +198,7 @@ class Http1(Case):
               f"of both; the others: {json.dumps(counts, indent=1)}", flush=True)
         self.check("h11 and our reader agree, but for what is listed", (len(wrong), wrong[:MOST_SHOWN]), (0, []))
 
-    def test_responses(self):
+    def test_responses_are_read_by_their_framing(self):
         for name, method, data, wanted in (
                 ("a length", "GET", b"HTTP/1.1 200 OK\r\nContent-Length: 2\r\n\r\nhi", (200, b"hi", True)),
                 ("chunks", "GET", b"HTTP/1.1 200\r\nTransfer-Encoding: chunked\r\n\r\n2\r\nhi\r\n0\r\n\r\n",
@@ -218,7 +218,7 @@ class Http1(Case):
                 ("a switch of protocols", "GET", b"HTTP/1.1 101 Switching\r\nUpgrade: h2c\r\n\r\n", "malformed")):
             self.check(f"a response: {name}", {read_response(method, data, size) for size in (len(data), 1)}, {wanted})
 
-    def test_writing(self):
+    def test_what_would_be_two_headers_or_no_request_is_not_written(self):
         for name, value in (("X", "a\r\nY: b"), ("X", "a\nb"), ("X", "\0"), ("X\r\nY", "a"), ("X Y", "a"), ("", "a"),
                             ("X", "a\r\n\r\nHTTP/1.1 200 OK"), ("X: a\r\nY", "b")):
             for head in (lambda: request_head("GET", "/", [("Host", "a"), (name, value)]),
@@ -229,7 +229,7 @@ class Http1(Case):
         self.check("what can be is", request_head("GET", "/x?y", [("Host", "a"), ("X", "\xe9")]),
                    b"GET /x?y HTTP/1.1\r\nHost: a\r\nX: \xe9\r\n\r\n")
 
-    def test_limits(self):
+    def test_limits_of_heads_extensions_and_trailers_are_those_of_the_service(self):
         """Those of the service: a head of 65,536 bytes and 100 fields; 16 KiB of extensions, and of trailers."""
         line, chunked = b"GET /x HTTP/1.1\r\n", b"POST /x HTTP/1.1\r\nHost: a\r\nTransfer-Encoding: chunked\r\n\r\n"
 
@@ -255,7 +255,7 @@ class Http1(Case):
         self.check("17 KiB of zeros before a size, which the service takes",
                    own_outcome(chunked + b"0" * 17000 + b"1\r\nx\r\n0\r\n\r\n"), [BROKEN])
 
-    def test_linear(self):
+    def test_four_times_as_much_takes_some_four_times_as_long(self):
         """Four times as much takes some four times as long, whatever comes, and in the smallest pieces."""
         chunked = b"POST /x HTTP/1.1\r\nHost: a\r\nTransfer-Encoding: chunked\r\n\r\n"
         for name, made, count, size in (
@@ -271,7 +271,7 @@ class Http1(Case):
             self.check(f"{name}: {small * 1000:.1f} ms, four times as much {large * 1000:.1f} ms", large < 10 * small
                        + 0.01)
 
-    def test_small_chunks(self):
+    def test_a_body_in_chunks_of_one_byte_costs_little_and_holds_up_nobody(self):
         """A body in chunks of one byte through the front, beside the same body whole, and others meanwhile."""
         up = Up(*READY, functions=[{"name": "f", "runtime": "python", "handler": "app.run"}], app=APP,
                 whole={"asynchronous": True})

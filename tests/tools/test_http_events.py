@@ -92,7 +92,7 @@ class HttpEvents(Case):
         with caller_of(self, up, lambda: address(up, r"its URL is (\S+)/$")) as caller:
             yield up, caller
 
-    def test_events(self):
+    def test_a_request_becomes_an_event(self):
         with self.running() as (_, caller):
             status, headers, body = caller.ask(
                 "POST", "/a%20b/c?one=1&one=2&two=x%20y&none=", b'{"a":"\xc3\xa9"}',
@@ -127,7 +127,7 @@ class HttpEvents(Case):
                 self.check(f"a body of {kind}", (event["isBase64Encoded"], event["body"]),
                            (not is_text, "a=b" if is_text else "YT1i"))
 
-    def test_results(self):
+    def test_a_result_becomes_an_answer(self):
         with self.running() as (up, caller):
             for result, wanted in (("hello", '"hello"'), ({"a": 1}, '{"a": 1}'), (None, "null"), ([1], "[1]"),
                                    (7, "7")):
@@ -161,7 +161,7 @@ class HttpEvents(Case):
                 self.check("a line says why", until(lambda: up.count("its result cannot be mapped") == number, 5))
             self.check("a function that fails", caller.ask("GET", "/fails")[::2], (502, b"Internal Server Error"))
 
-    def test_by_curl(self):
+    def test_curl_sends_and_gets_bytes_up_to_the_limits(self):
         with self.running() as (up, caller):
             url = address(up, r"its URL is (\S+)/$")
             path = os.path.join(up.at, "binary")
@@ -185,7 +185,7 @@ class HttpEvents(Case):
             self.check("an event that becomes too large", caller.ask("POST", "/", b"\0" * (5 << 20))[0], 413)
             self.check("the port is still there", caller.ask("GET", "/")[0], 200)
 
-    def test_cross_origin(self):
+    def test_cross_origin_requests_are_answered_as_configured(self):
         with self.running(url={"cors": CORS}) as (_, caller):
             asked = {"Origin": "http://shop.example", "Access-Control-Request-Method": "POST",
                      "Access-Control-Request-Headers": "x-one"}
@@ -201,13 +201,15 @@ class HttpEvents(Case):
                 headers = caller.ask("GET", "/", None, {"Origin": origin})[1]
                 self.check(f"an answer for {origin}", (headers.get("access-control-allow-origin"), headers["vary"]),
                            (wanted, "Origin"))
+
+    def test_without_a_configuration_the_function_answers_preflights(self):
         with self.running() as (_, caller):
             event = json.loads(
                 caller.ask("OPTIONS", "/", None, {"Origin": "http://a", "Access-Control-Request-Method": "GET"})[2])
             self.check("without a configuration the function answers", event["requestContext"]["http"]["method"],
                        "OPTIONS")
 
-    def test_of_a_template(self):
+    def test_a_template_says_what_browsers_are_answered(self):
         """What a template says of cross-origin requests is what browsers are answered (API Gateway Developer Guide,
         "Configure CORS for HTTP APIs"; Lambda Developer Guide, "Cross-origin resource sharing")."""
         with tempfile.TemporaryDirectory() as folder:
@@ -251,7 +253,7 @@ class HttpEvents(Case):
                        {"allow-origin": "*"})
         self.check("it ends in order, and leaves nothing", up.end(), (0, []))
 
-    def test_in_a_browser(self):
+    def test_a_page_in_Chromium_reads_a_URL_that_answers_its_preflight(self):
         """A page of one Function URL reads another one, which answers its preflight."""
         browser = shutil.which("chromium") or shutil.which("google-chrome")
         if not browser:
@@ -272,7 +274,7 @@ class HttpEvents(Case):
             self.check(f"Chromium reads a URL with {given}", shown and shown[1], wanted)
             self.check("it ends in order, and leaves nothing", up.end(), (0, []))
 
-    def test_routes(self):
+    def test_routes_are_matched_as_API_Gateway_does(self):
         table = {"GET /orders/{id}": "f", "GET /orders/new": "g", "ANY /files/{path+}": "g", "POST /orders": "f",
                  "ANY /orders/{id}": "g"}
         with self.running(routes=table,
@@ -300,7 +302,7 @@ class HttpEvents(Case):
                                                        + urllib.parse.quote('{"statusCode":1}'))[::2],
                        (502, b'{"message": "Internal Server Error"}'))
 
-    def test_malformed(self):
+    def test_malformed_requests_are_answered_and_told(self):
         with self.running() as (up, caller):
             url = address(up, r"its URL is (\S+)/$")
             for name, data, wanted in (
@@ -337,7 +339,7 @@ class HttpEvents(Case):
             self.check("half a head is closed", raw(url, b"GET / HTTP/1.1\r\nHost: a"), b"")
             self.check("after 20 seconds", 18 < time.monotonic() - begun < 35)
 
-    def test_mistakes(self):
+    def test_mistakes_of_URLs_and_routes_are_told(self):
         function: Members = {"name": "f", "runtime": "python", "handler": "app.run"}
         mistakes: Tuple[Tuple[Members, Members, str], ...] = (
             ({"routes": {"GET orders": "f"}}, {},
@@ -354,6 +356,9 @@ class HttpEvents(Case):
             up = Up(functions=[{**function, **members}], app=APP, whole=whole)
             self.check(f"a mistake: {whole or members}", (up.end(None), up.lines),
                        ((2, []), [f"up: up.json: {wanted}"]))
+
+    def test_a_taken_port_is_told(self):
+        function: Members = {"name": "f", "runtime": "python", "handler": "app.run"}
         with socket.socket() as listener:
             listener.bind(("127.0.0.1", 0))
             listener.listen()

@@ -87,7 +87,7 @@ class Install(Case):
         self.check("handlers run in a process of its user's", seen[:2], (0, "{'hello': 'Ada'}\n"), shown=seen[2])
         self.check("a template is read", user.run([command, "from_template", "--help"])[0], 0)
 
-    def test_pip(self) -> None:
+    def test_pip_installs_from_the_repository_and_leaves_nothing(self) -> None:
         """pip install git+URL, as another user."""
         with home() as user:
             before = listed(user.clone)
@@ -105,7 +105,7 @@ class Install(Case):
             cached = glob.glob(f"{user.folder}/.cache/**/*lambda_local*", recursive=True)
             self.check("nor a program in the cache", [path for path in cached if "/pip/" not in path], [])
 
-    def test_pip_folder(self) -> None:
+    def test_pip_installs_a_folder_that_its_user_cannot_write(self) -> None:
         """pip install FOLDER of a clone that its user cannot write, also with changes that are not committed."""
         with home() as user:
             write(os.path.join(user.clone, "tools", "lambda_local", "more.py"), b"MORE = 1\n")
@@ -120,7 +120,7 @@ class Install(Case):
                 self.check("nothing is left in the clone", listed(user.clone), before)
                 self.check("nor in the user's cache", glob.glob(f"{user.folder}/.cache/lambda_local*"), [])
 
-    def test_editable(self) -> None:
+    def test_pip_installs_the_clone_to_be_edited(self) -> None:
         with home() as user:
             commands = user.environment("fresh")
             done = user.run([os.path.join(commands, "pip"), "install", "-q", "-e", user.clone])
@@ -130,7 +130,7 @@ class Install(Case):
             user.run([f"{commands}/lambda_local", "path"])  # (it unpacks the program, and says so)
             self.used(user, commands)
 
-    def test_metadata(self) -> None:
+    def test_the_wheels_metadata_are_those_of_pyproject_toml(self) -> None:
         """The wheel's metadata are those of pyproject.toml, as Python's own readers see them."""
         with home() as user:
             commands = user.environment("fresh")
@@ -152,7 +152,7 @@ class Install(Case):
                        "[pytest11]\nlambda_local = lambda_local.pytest_plugin\n")
             self.check("the program may be started", list(modes.values()), [0o111])
 
-    def test_sdist(self) -> None:
+    def test_a_source_distribution_makes_the_same_wheel_without_git(self) -> None:
         """A source distribution makes the same wheel without git."""
         with home() as user, tempfile.TemporaryDirectory() as folder:
             done = self.hook(user.clone, f"build_sdist({folder!r})")
@@ -178,7 +178,7 @@ class Install(Case):
                                          PYTHONPATH=os.path.join(root, "tools"), **variables)
         return done
 
-    def test_refusals(self) -> None:
+    def test_another_machine_is_refused_with_a_sentence(self) -> None:
         """What is in the way is one sentence, not a stack."""
         machines: Dict[str, Tuple[str, str]] = {
             "another machine": ("platform.machine = lambda: 'aarch64'", "this is Linux aarch64"),
@@ -190,6 +190,8 @@ class Install(Case):
         for name, (before, words) in machines.items():
             status, output, said = self.hook(ROOT, "get_requires_for_build_wheel()", before)
             self.check(name, (status, output, said.count("\n"), words in said), (1, "", 1, True), shown=said)
+
+    def test_no_program_and_a_wrong_pyproject_toml_are_refused_with_a_sentence(self) -> None:
         with copied() as root, tempfile.TemporaryDirectory() as folder:
             write(os.path.join(root, "crates", "lambda_local", "src", "mine.rt"), b"")
             status, output, said = self.hook(root, f"build_wheel({folder!r})")
@@ -204,7 +206,7 @@ class Install(Case):
                 self.check(f"a pyproject.toml that is not read: {text!r}",
                            (status, said.count("\n"), words in said), (1, 1, True), shown=said)
 
-    def test_project_file(self) -> None:
+    def test_pyproject_toml_is_read_as_Pythons_own_reader_does(self) -> None:
         """pyproject.toml is read as Python's own reader of TOML does, where there is one."""
         try:
             import tomllib  # type: ignore[import-not-found,unused-ignore]
@@ -215,7 +217,7 @@ class Install(Case):
         self.check("all of it", tables_of(text), tomllib.loads(text))
 
     @unittest.skipUnless(shutil.which("npm"), "there is no npm here")
-    def test_npm(self) -> None:
+    def test_npm_installs_from_the_repository_and_leaves_nothing(self) -> None:
         """npm install git+URL --offline, as another user."""
         with home() as user:
             before = listed(user.clone)

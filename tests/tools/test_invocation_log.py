@@ -141,7 +141,7 @@ class Part:
 
 
 class InvocationLog(Case):
-    def test_tails(self):
+    def test_a_tail_has_the_lines_and_the_REPORT_of_its_invocation(self):
         up = up_of(memory=256, timeout=2)
         self.check("up is ready", up.until("ready"))
         lines, report = parts(tail_of(up))
@@ -189,7 +189,7 @@ class InvocationLog(Case):
             report[-2:], 2000 <= float(report[0]) < 3000), ("before", True, ("timeout", None), True))
         up.until("Runtime exited")
 
-    def test_together(self):
+    def test_each_of_many_callers_at_once_gets_its_own_lines(self):
         """Each of many callers at once gets its own lines, whichever environment has them, and one environment's
         invocations follow each other."""
         up = up_of(environments=3, timeout=20)
@@ -232,7 +232,7 @@ class InvocationLog(Case):
         self.check(f"{what}: each of 180 tails has its own six lines", wrong, [])
         self.check("nothing is left", up.end(), (0, []))
 
-    def test_loaded(self):
+    def test_under_load_each_tail_is_whole_for_each_kind_of_process(self):
         command = [sys.executable, "speaks.py"]
         self.under_load("the runtime of Python", {"runtime": "python", "handler": "app.run"})
         self.under_load("the runtime of Node", {"runtime": "node", "handler": "index.run"}, ("index.mjs", OF_NODE))
@@ -240,7 +240,7 @@ class InvocationLog(Case):
         self.under_load("an extension", {"runtime": "python", "handler": "app.run",
                                          "extensions": {"x": [sys.executable, "x.py"]}}, ("x.py", SPEAKING_EXTENSION))
 
-    def test_remembered(self):
+    def test_of_ended_invocations_no_body_is_kept(self):
         """Of the invocations that have ended, no body is kept, and of an error what its log says."""
         invocations = Invocations({}, {}, {})
         for number in range(2000):
@@ -256,7 +256,7 @@ class InvocationLog(Case):
         self.check("the log says its end", [len(line) for line in invocations.failure_of(kept["1998"])],
                    [len("RequestId: 1998 Error: ") + 4096, len("Runtime.ExitError")])
 
-    def test_clients(self):
+    def test_boto3_and_lambda_local_invoke_show_the_log(self):
         """The aws command line, if one is here that reads the endpoint."""
         up = up_of()
         up.until("ready")
@@ -271,7 +271,7 @@ class InvocationLog(Case):
                    ("null\n", ["to standard output", "to standard error"]))
         up.end()
 
-    def test_own_runtime(self):
+    def test_a_runtime_that_up_has_not_started_has_START_END_and_REPORT(self):
         """A function whose runtime somebody else has started: nothing that it prints is known, nor its memory."""
         up = Up(functions=[{"name": "f", "timeout": 5}])
         self.check("its address is told", up.until("start its runtime yourself"))
@@ -285,7 +285,7 @@ class InvocationLog(Case):
         up.end()
         runtime.wait(10)
 
-    def test_reports(self):
+    def test_with_report_the_log_has_START_END_and_REPORT_in_their_order(self):
         up = up_of("--report", timeout=1)
         up.until("ready")
         for number, event in enumerate(({}, {"do": "fail"}, {"do": "crash"}, {"do": "hang"}, {})):
@@ -311,7 +311,7 @@ class InvocationLog(Case):
         self.check("each REPORT has Lambda's form", [text for text in texts if text.startswith("REPORT")
                                                    and not re.fullmatch(REPORT, text + "\t")], [])
 
-    def test_reports_as_json(self):
+    def test_with_log_json_START_END_and_REPORT_are_objects(self):
         up = up_of("--report", "--log", "json", memory=192)
         up.until('"kind": "ready"')
         up.endpoint = next(json.loads(line)["endpoint"] for line in up.lines if '"endpoint"' in line)
@@ -332,7 +332,7 @@ class InvocationLog(Case):
                  if line["source"] == "f/1" and line["kind"] in ("platform", "output")]
         self.check("in their order", order, ["imported", "START", "to", "to", "END", "REPORT"])
 
-    def test_marks(self):
+    def test_a_mark_divides_wherever_what_is_read_ends(self):
         """A mark divides wherever what is read ends, and nothing else does."""
         mark, first, second = b"\0" + b"a1" * 16, "1" * 36, "2" * 36
         printed = (b"in Init\n" + mark + first.encode() + b"\na\nb\xc3\xa9\0" + mark[:20] + b"\nno \0mark" + mark
@@ -350,7 +350,7 @@ class InvocationLog(Case):
                 wrong.append((size, seen))
         self.check("lines and divisions, in pieces of each size", wrong[:2], [])
 
-    def test_divisions(self):
+    def test_what_belongs_to_an_invocation_is_decided_by_the_order_of_deliveries(self):
         """What belongs to an invocation, by the order of lines and deliveries alone."""
         printed = Printed()
         process = Part(printed)
@@ -376,7 +376,7 @@ class InvocationLog(Case):
         self.check("the next generation's are nobody's", (of("b"), [line.text for line in printed.lines][-1]),
                    (["b 1"], "of the next generation"))
 
-    def test_early_answer(self):
+    def test_what_an_early_process_prints_is_taken(self):
         """A process may have answered its first invocation before the thread that starts it goes on."""
         printed, seen = Printed(), []
 
@@ -391,7 +391,7 @@ class InvocationLog(Case):
         self.check("what it has printed is taken", seen, [(1, ["early"])])
         self.check("one that could not be started is not read", printed.processes, [])
 
-    def test_parts_alone(self):
+    def test_a_follower_gets_each_line_and_no_more_is_kept_than_may_be(self):
         printed = Printed()
         seen: List[Line] = []
         printed.follow(seen.append)
@@ -402,12 +402,16 @@ class InvocationLog(Case):
         for _ in range(3 * MOST_KEPT // 1000):
             printed.take("f/1", "x" * 1000)
         self.check("it keeps no more than it may", printed.size <= MOST_KEPT and len(printed.lines) > 500)
+
+    def test_a_REPORT_is_as_in_the_developer_guide(self):
         self.check("an example of the Developer Guide", report_line(Figures(
             "57f231fb-1730-4395-85cb-4f71bd2b87b8", 79.67, 128, 73, None, "success", "")),
             "REPORT RequestId: 57f231fb-1730-4395-85cb-4f71bd2b87b8\tDuration: 79.67 ms\tBilled Duration: 80 ms\t"
             "Memory Size: 128 MB\tMax Memory Used: 73 MB\t")
         self.check("a duration of nothing is billed as a millisecond",
                    Figures("x", 0.0, 128, None, None, "success", "").billed, 1)
+
+    def test_a_log_is_cut_at_a_character(self):
         text = base64.b64decode(encoded(iter(["\u20ac" * 2000]))).decode()
         self.check("a log is cut at a character", (len(text.encode()), set(text)), (4096 - 4095 % 3, {"\u20ac", "\n"}))
         self.check("a line is a moment, a source and a text", Line(1.0, "f/1", "x").source, "f/1")

@@ -51,7 +51,7 @@ class AsDocumented(http.server.BaseHTTPRequestHandler):
 
 
 class Invoke(Case):
-    def test_results(self):
+    def test_a_payload_and_its_result_go_to_and_fro_as_they_are(self):
         with LambdaLocal({"closed": {"reserved": 0}}, same=lambda event: event, fails=lambda event: event["missing"],
                          closed=lambda event: event) as service, tempfile.TemporaryDirectory() as folder:
             here = {"AWS_ENDPOINT_URL_LAMBDA": service.endpoint_url}
@@ -100,7 +100,7 @@ class Invoke(Case):
             self.check("no log is in the answer, which is said", invoke("same", "1", "--tail", **here),
                        (0, "1\n", "invoke: the answer has no log: `lambda_local up` keeps what functions print\n"))
 
-    def test_faults(self):
+    def test_faults_are_told_in_a_line(self):
         with tempfile.TemporaryDirectory() as folder:
             for name, text in (("broken.json", b'{"a":\n 1,}'), ("latin.json", b'"\xe9"'), ("nan.json", b"[NaN]"),
                                ("deep.json", b"[" * 100_000), ("long.json", b'"' + b"x" * (6 << 20) + b'"')):
@@ -139,7 +139,7 @@ class Invoke(Case):
                            "`lambda_local up UP.json`, and name the address that it prints by --endpoint or "
                            "AWS_ENDPOINT_URL_LAMBDA\n"))
 
-    def test_documented(self):
+    def test_AWSs_own_answers_are_read_as_documented(self):
         server = http.server.HTTPServer(("127.0.0.1", 0), AsDocumented)
         thread = threading.Thread(target=server.serve_forever)
         thread.start()
@@ -157,14 +157,18 @@ class Invoke(Case):
             thread.join()
             server.server_close()
 
-    def test_under_up(self):
+    def test_under_up_it_is_led_to_the_functions(self):
         up = Up(command=["--", *INVOKE, "f", '{"do":"name"}'])
         status, left = up.end(None)
         self.check("the command of lambda_local up is led to its functions",
                    (status, left, json.loads(up.output or "0")),
                    (0, [], ["f", "index.handler", "hello"]))
+
+    def test_under_up_an_event_is_taken(self):
         up = Up(command=["--", *INVOKE, "f", "--event"], whole={"asynchronous": True})
         self.check("an event is taken", (up.end(None)[0], up.has("event accepted: ")), (0, True))
+
+    def test_under_up_the_example_script_is_led_there_too(self):
         up = Up(command=["--", os.path.join(ROOT, "examples", "invoke.sh"), "f", '{"do":"name"}'])
         self.check("examples/invoke.sh is led there too", (up.end(None)[0], up.output.split("\n")[-1]),
                    (0, '["f", "index.handler", "hello"]'))

@@ -47,43 +47,48 @@ class JavaScript(Case):
         self.check(f"{os.path.basename(path)} has tests, and its status is theirs",
                    (bool(results), ran.returncode != 0), (True, any(fault is not None for _, fault in results)))
 
-    def test_handlers(self) -> None:
+    def test_handlers_run_in_the_process_of_the_test(self) -> None:
         self.run_tests("tests/javascript/handlers.test.mjs")
 
-    def test_service(self) -> None:
+    def test_a_service_is_started_invoked_and_stopped(self) -> None:
         self.run_tests("tests/javascript/service.test.mjs")
 
-    def test_clock(self) -> None:
+    def test_the_clock_of_a_test_is_paused_and_advanced(self) -> None:
         self.run_tests("tests/javascript/clock.test.mjs")
 
-    def test_troubles(self) -> None:
+    def test_troubles_are_made_in_a_test(self) -> None:
         self.run_tests("tests/javascript/troubles.test.mjs")
 
-    def test_sandbox(self) -> None:
+    def test_a_test_is_kept_from_AWS(self) -> None:
         self.run_tests("tests/javascript/sandbox.test.mjs")
 
-    def test_processes(self) -> None:
+    def test_functions_of_a_file_run_in_processes(self) -> None:
         self.run_tests("tests/javascript/processes.test.mjs")
 
-    def test_example(self) -> None:
+    def test_the_example_passes(self) -> None:
         self.run_tests("examples/javascript/greet.test.mjs")
 
-    def test_files(self) -> None:
-        """Each file of tests/javascript is run above, and package.json says what the rest of the tree says."""
+    def test_each_file_of_the_tests_is_run_here(self) -> None:
         with open(__file__, encoding="utf-8") as file:
             own = file.read()
         unnamed = [path for path in glob.glob(f"{ROOT}/tests/javascript/*") if os.path.basename(path) not in own]
         self.check("each file is run", unnamed, [])
+
+    def test_package_json_says_what_the_rest_of_the_tree_says(self) -> None:
         with open(f"{ROOT}/package.json", encoding="utf-8") as file:
             package = json.load(file)
         with open(f"{ROOT}/VERSION", encoding="utf-8") as file:
             self.check("package.json has the version", package["version"], file.read().strip())
         missing = [name for name in package["files"] if not os.path.exists(os.path.join(ROOT, name))]
         self.check("the files of package.json are there", missing, [])
+
+    def test_network_js_has_the_hosts_that_the_tools_have(self) -> None:
         network = os.path.join(ROOT, "javascript", "network.js")
         said = subprocess.run(["node", "-p", f"JSON.stringify(require({json.dumps(network)}).HOSTS)"],
                               stdout=subprocess.PIPE, text=True).stdout
         self.check("network.js has the hosts of AWS that the tools have", json.loads(said), list(HOSTS))
+
+    def test_index_d_ts_has_what_the_module_has(self) -> None:
         module = os.path.join(ROOT, "javascript", "index.js")
         said = subprocess.run(["node", "-p", f"Object.keys(require({json.dumps(module)})).sort().join()"],
                               stdout=subprocess.PIPE, text=True).stdout.strip()

@@ -17,6 +17,7 @@ from tests import ROOT
 from tests.library import stub_kits, trees
 from tests.library.cases import Case
 from tests.library.trees import RELEASED, copied, plain, program, release, text_of, write
+from tests.library.up_kit import until
 
 OTHER_USER = 65534
 SOURCE = "crates/lambda_local/src/main.rt"
@@ -38,7 +39,7 @@ def first_call(root, **more):
 
 
 class Launcher(Case):
-    def test_starts(self):
+    def test_a_fresh_clone_unpacks_the_program_once_and_starts_it_by_each_name(self):
         with copied() as root:
             status, right, said = first_call(root)
             self.check("a fresh clone answers", (status, right), (0, True))
@@ -63,7 +64,7 @@ class Launcher(Case):
                        (0, "serve a b.json\n", ""))
             self.check("and is the path", run(root, "path", **other), (0, "/bin/echo\n", ""))
 
-    def test_costs(self):
+    def test_a_start_costs_less_than_50_ms_of_CPU_time(self):
         """Checks the CPU time, which other work on this machine does not affect."""
         with copied() as root:
             first_call(root)
@@ -79,7 +80,7 @@ class Launcher(Case):
                   f"{1000 * statistics.median(whole):.0f} ms)")
             self.check("a start costs less than 50 ms of CPU time", statistics.median(seconds) < 0.05)
 
-    def test_says(self):
+    def test_each_tool_has_its_help_and_what_is_no_command_is_refused(self):
         with copied() as root:
             status, output, said = run(root, "--help")
             self.check("--help", (status, said), (0, ""))
@@ -98,6 +99,9 @@ class Launcher(Case):
                 fine = (status, output, said) == (2, "", f"lambda_local: {wanted}\n")
                 self.check(f"'{' '.join(words)}' is refused with a line", fine, shown=(status, output, said))
             self.check("nothing was unpacked for that", os.path.exists(os.path.join(root, RELEASED)), False)
+
+    def test_the_version_names_the_program(self):
+        with copied() as root:
             status, output, said = run(root, "--version")
             lines = output.splitlines()
             self.check("--version", (status, lines[0].split(" ")[0], [line.split(" ")[0] for line in lines[1:]]),
@@ -105,7 +109,7 @@ class Launcher(Case):
             named = run(root, "--version", LAMBDA_LOCAL_PROGRAM="/bin/echo")
             self.check("of a program that is named", named, (0, "lambda_local, the program /bin/echo\n", ""))
 
-    def test_notices(self):
+    def test_a_source_that_changed_is_noticed_and_nothing_is_served(self):
         """What was looked at and has changed since."""
         with copied() as root:
             first_call(root)
@@ -133,7 +137,7 @@ class Launcher(Case):
             shutil.move(root, root + " moved")
             self.check("a clone that was moved", first_call(root + " moved"), (0, True, ""))
 
-    def test_kits(self):
+    def test_another_logic_of_the_kit_is_told_once(self):
         """The kit's rt on the path: a program is of its sources, whichever kit is here. Another logic is told once."""
         with copied() as root, tempfile.TemporaryDirectory() as folder:
             kit = stub_kits.StubKit(folder, "the kit that proved it")
@@ -162,7 +166,7 @@ class Launcher(Case):
                        (0, True, False))
             self.check("no kit was asked for anything", kit.asked(), [])
 
-    def test_builds(self):
+    def test_a_build_that_is_asked_to_end_leaves_nothing(self):
         """A build that is asked to end: here the kit's rt would prove for long."""
         with copied() as root, tempfile.TemporaryDirectory() as kit:
             write(f"{kit}/bin/rt", b'#!/bin/sh\n[ "$1" != version ] || exec echo rattle-kit-1\necho $$ '
@@ -176,9 +180,7 @@ class Launcher(Case):
                 assert child.stderr
                 try:
                     self.check(f"{' '.join(words)} says what it does", begins in child.stderr.readline())
-                    end = time.monotonic() + 60
-                    while not (os.path.exists(proves) and text_of(proves).endswith("\n")) and time.monotonic() < end:
-                        time.sleep(0.05)
+                    until(lambda: os.path.exists(proves) and text_of(proves).endswith("\n"), 60)
                     rt = int(text_of(proves))
                     child.terminate()
                     self.check("TERM ends the build", child.wait(60), 128 + signal.SIGTERM)
@@ -190,7 +192,7 @@ class Launcher(Case):
                     child.wait()
                     child.stderr.close()
 
-    def test_other_users(self):
+    def test_a_clone_that_its_user_cannot_write_is_started_from_the_cache(self):
         """A clone that its user cannot write: another user's, for root; else one without the right to."""
         user = OTHER_USER if os.getuid() == 0 else None
         with copied() as root, tempfile.TemporaryDirectory() as home:
@@ -221,7 +223,7 @@ class Launcher(Case):
                 others = run(root, "path", user=user, HOME="/nonexistent")
                 self.check("what the owner unpacked serves others", others, (0, f"{root}/{RELEASED}\n", ""))
 
-    def test_serves(self):
+    def test_serve_becomes_the_program_so_that_signals_reach_it(self):
         """The launcher becomes the program, so that signals reach it."""
         with copied() as root:
             first_call(root)
@@ -245,8 +247,7 @@ class Launcher(Case):
                 child.wait()
                 child.stderr.close()
 
-    def test_checks(self):
-        """check HISTORY."""
+    def test_check_names_the_line_at_which_a_history_and_its_replay_differ(self):
         with copied() as root:
             first_call(root)
             history = text_of(ROOT, "examples", "timeout.txt")
@@ -267,6 +268,11 @@ class Launcher(Case):
             status, output, said = run(root, "check", "-", stdin=history + "# 99 99 done\n")
             self.check("and one too many", (status, "has `99 99 done`, but the replay ends before it" in said),
                        (1, True))
+
+    def test_check_refuses_what_is_no_history_with_a_line(self):
+        with copied() as root:
+            first_call(root)
+            history = text_of(ROOT, "examples", "timeout.txt")
             for name, text, word in (("a script without answers", text_of(ROOT, "examples", "first_call.txt"),
                                       "no answers to compare"),
                                      ("another text", "hello\n", "line 1 must be `form 2`"),

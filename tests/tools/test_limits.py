@@ -60,7 +60,7 @@ def forked(count, size):
 
 
 class OfLimits(Case):
-    def test_limits(self):
+    def test_what_is_near_a_limit_is_told_once_for_each_function(self):
         functions = [{"name": name, **PYTHON, **more} for name, more in {
             "memory": {"memory": 128}, "enough": {"memory": 1024}, "killed": {"memory": 128, "enforceMemory": True},
             "slow": {"timeout": 10}, "large": {}, "behind": {}, "quiet": {},
@@ -105,7 +105,7 @@ class OfLimits(Case):
         self.check("and is there again", up.invoke("killed", patience=20)[0], "ok")
         self.check("its end", up.end(), (0, []))
 
-    def test_memory_at_the_end(self):
+    def test_memory_is_told_of_a_command_that_ends_at_once(self):
         """A command that ends at once."""
         code = ("import json, os, urllib.request; urllib.request.urlopen(os.environ['AWS_ENDPOINT_URL_LAMBDA'] + "
                 "'/2015-03-31/functions/f/invocations', b'{\"do\": \"memory\"}').read()")
@@ -113,7 +113,7 @@ class OfLimits(Case):
         self.check("its end", up.end(0), (0, []))
         self.check("is told", up.count('"memory" is 128'), 1)
 
-    def test_patient(self):
+    def test_with_patient_deadlines_are_longer_and_no_limit_is_near(self):
         up = Up("--patient", "3.5", functions=[
             {"name": "f", **PYTHON, "timeout": 1, "variables": {"INIT": "10.5"}},
             {"name": "g", **PYTHON, "timeout": 600}], app=APP)
@@ -127,7 +127,7 @@ class OfLimits(Case):
         self.check("its end", up.end(), (0, []))
         self.check("no limit of Lambda's is near", up.count("Lambda ends"), 0)
 
-    def test_patience(self):
+    def test_patience_multiplies_the_limits_of_time(self):
         self.check("limits", [with_patience(member, 2.5) for member in (
             {}, {"timeout": 700, "command": "x", "init": 5}, {"timeout": 1000, "runtime": "python", "init": 900})], [
             {"timeout": 8}, {"timeout": 900, "command": "x", "init": 13},
@@ -142,7 +142,7 @@ class OfLimits(Case):
             except ValueError:
                 self.check(f"--patient {words} is refused", True)
 
-    def test_several_processes(self):
+    def test_what_several_processes_share_counts_once(self):
         pids = forked(3, 60 << 20)
         try:
             peaks = sum(sum(peaks_of(pid).values()) for pid in pids)
@@ -155,11 +155,13 @@ class OfLimits(Case):
                 os.kill(pid, signal.SIGKILL)
                 os.waitpid(pid, 0)
 
-    def test_words(self):
+    def test_ends_are_in_Lambdas_words(self):
         self.check("signals as Lambda names them", [reason_of(-number) for number in (9, 11, 6, 64)], [
             f"Runtime exited with error: {words}" for words in (
                 "signal: killed", "signal: segmentation fault", "signal: aborted", "signal: real-time signal 30")])
         self.check("an exit", reason_of(3), "Runtime exited with error: exit status 3")
+
+    def test_nine_tenths_of_an_answer_are_told(self):
         told = []
         limits = Limits([], {"streams"}, None, {}, lambda *given, **members: told.append(given))
         limits.functions = {"f": None, "streams": None}

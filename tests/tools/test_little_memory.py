@@ -180,7 +180,7 @@ def started(folder: str, port: int, group_folder: Optional[str]) -> "subprocess.
 
 
 class LittleMemory(Case):
-    def test_finds(self) -> None:
+    def test_a_limit_of_the_control_group_is_found(self) -> None:
         for name, groups, files, wanted in FOUND:
             with tempfile.TemporaryDirectory() as folder:
                 for path, text in {"groups": groups, **files}.items():
@@ -191,7 +191,7 @@ class LittleMemory(Case):
                 done = subprocess.run(["sh", "-uc", find, LIMITS, folder], capture_output=True, text=True)
                 self.check(f"found: {name}", (done.stdout, done.stderr), (wanted + "\n", ""))
 
-    def test_limits(self) -> None:
+    def test_LAMBDA_LOCAL_MEMORY_is_the_limit_of_what_serves(self) -> None:
         self.check("LAMBDA_LOCAL_MEMORY", limit_with("", LAMBDA_LOCAL_MEMORY="200"), (0, f"{LIMIT >> 10}\n", ""))
         self.check("a little of it", limit_with("", LAMBDA_LOCAL_MEMORY="16"), (0, f"{limit_of(16)}\n", ""))
         self.check("a lower limit of the shell stays", limit_with("ulimit -d 50000;", LAMBDA_LOCAL_MEMORY="200"),
@@ -207,7 +207,7 @@ class LittleMemory(Case):
                        (status, output, said.count("\n"), f"LAMBDA_LOCAL_MEMORY is '{wrong}'" in said),
                        (2, "", 1, True))
 
-    def test_fills(self) -> None:
+    def test_a_service_of_little_memory_refuses_and_serves_on(self) -> None:
         with tempfile.TemporaryDirectory() as folder, group() as group_folder:
             print("     (in a control group)" if group_folder else "     (with LAMBDA_LOCAL_MEMORY)")
             port = free_range(SIDES + 1)
@@ -248,7 +248,7 @@ class LittleMemory(Case):
             self.check("its history replays", (done.returncode, done.stderr), (0, b""))
             self.check("with an output for each", done.stdout.count(b" output "), answered)
 
-    def test_tells(self) -> None:
+    def test_up_tells_nine_tenths_of_the_services_memory(self) -> None:
         """What lambda_local up says of a service that has little memory."""
         up = Up(environ={**os.environ, "LAMBDA_LOCAL_MEMORY": "32"})
         up.until("AWS_ENDPOINT_URL_LAMBDA")

@@ -23,7 +23,7 @@ class Management(Case):
         with caller_of(self, up) as caller:
             yield up, caller
 
-    def test_shown(self):
+    def test_a_function_is_shown_as_Lambda_shows_it(self):
         with self.running([{"name": "f", "runtime": "python", "handler": "app.run", "timeout": 9, "memory": 256,
                             "reserved": 1,
                             "variables": {"TABLE": "orders", "COUNT": 3},
@@ -71,7 +71,7 @@ class Management(Case):
             self.check("of one without a URL", (status, headers["x-amzn-errortype"]),
                        (404, "ResourceNotFoundException"))
 
-    def test_pages(self):
+    def test_functions_are_listed_in_pages(self):
         functions = [{"name": f"f{number}"} for number in range(5)]
         with self.running(functions) as (_, caller):
             def page(query):
@@ -90,7 +90,7 @@ class Management(Case):
                 self.check(f"wrong: {query[:20]}", (status, headers["x-amzn-errortype"]),
                            (400, "InvalidParameterValueException"))
 
-    def test_refused(self):
+    def test_what_is_not_there_is_refused_by_name(self):
         with self.running([{"name": "f"}]) as (up, caller), Caller(behind(up)) as direct:
             for name, path, wanted in (
                     ("an unknown function", "x", (404, "ResourceNotFoundException")),
@@ -125,7 +125,7 @@ class Management(Case):
             status, headers, body = caller.ask("POST", invoke_path("f"), b"{}", {"X-Amz-Invocation-Type": "Event"})
             self.check("an event is taken", (status, body), (202, b""))
 
-    def test_by_boto3(self):
+    def test_boto3_reads_functions_and_its_waiters_end(self):
         """Each operation of botocore's model, and the waiters."""
         try:
             import boto3

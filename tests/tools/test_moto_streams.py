@@ -92,7 +92,7 @@ class MotoStreams(Case):
         return json_lines(os.path.join(up.at, name))
 
     @unittest.skipUnless(shutil.which("node"), "Node is not here")
-    def test_each_kind(self):
+    def test_a_stream_of_each_kind_and_a_topic_come_to_Python_and_Node(self):
         """A stream of Kinesis, one of DynamoDB and a topic, each to a function in Python and to one in Node."""
         with moto(self) as server:
             server.asked(MAKE, {"streams": ["clicks"], "tables": ["Orders"], "topics": ["news"]})
@@ -130,7 +130,7 @@ class MotoStreams(Case):
             self.check("nor a subscription or a queue", server.asked(LEFT), [0, []])
             self.check("the end says what comes again", up.has("10 records handled; the next run handles them again"))
 
-    def test_poison(self):
+    def test_a_record_that_always_fails_ends_only_itself(self):
         """A record that always fails ends only itself; where it is, and not what it is, goes to onFailure."""
         with moto(self) as server:
             queue, = server.asked(MAKE, {"streams": ["clicks"], "shards": 1, "queues": ["failed"]})
@@ -158,7 +158,7 @@ class MotoStreams(Case):
                          "batchSize": 1, "streamArn": "arn:aws:kinesis:us-east-1:123456789012:stream/clicks"}))
             self.check("it ends", up.end(), (0, []))
 
-    def test_partial(self):
+    def test_what_comes_before_the_reported_record_is_done(self):
         """What comes before the reported record is done, and the rest is invoked again."""
         with moto(self) as server:
             server.asked(MAKE, {"streams": ["clicks"], "shards": 1})
@@ -169,7 +169,7 @@ class MotoStreams(Case):
                        [["one", "part", "three"], ["part", "three"]])
             self.check("it ends", up.end(), (0, []))
 
-    def test_clock(self):
+    def test_windows_pauses_and_ages_are_by_the_services_clock(self):
         """A window, the pause after a failure and a record's age are by the service's clock."""
         with moto(self) as server:
             server.asked(MAKE, {"streams": ["clicks", "bad"], "shards": 1})
@@ -192,7 +192,7 @@ class MotoStreams(Case):
             self.check("a record is too old at last", up.until("RecordAgeExceeded", PATIENCE))
             self.check("it ends", up.end(), (0, []))
 
-    def test_server_begins_anew(self):
+    def test_a_server_that_begins_anew_is_read_from_its_beginning(self):
         """A server that ends costs a line; what it has when it is back is read from its beginning."""
         port, = free_ports(1, ())
         with moto(self, port) as server:
@@ -217,7 +217,7 @@ class MotoStreams(Case):
                 lambda: any("Sns" in event["Records"][0] for event in self.seen(up)), PATIENCE))
             self.check("it ends", up.end(), (0, []))
 
-    def test_filter(self):
+    def test_a_filter_of_a_topic_lets_through_what_it_takes(self):
         with moto(self) as server:
             server.asked(MAKE, {"topics": ["news"]})
             up = self.running(function(topic={"url": server.endpoint, "name": "news",
@@ -229,7 +229,7 @@ class MotoStreams(Case):
             self.check("and no other", [event["Records"][0]["Sns"]["Message"] for event in self.seen(up)], ["two"])
             self.check("it ends", up.end(), (0, []))
 
-    def test_ten_thousand(self):
+    def test_of_ten_thousand_records_nothing_is_lost_by_a_kill(self):
         """10,000 records of four shards, and a kill in the middle: nothing is lost, each shard is in its order, and
         what came twice is less than the positions that are kept say."""
         count = 10_000

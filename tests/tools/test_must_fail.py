@@ -63,7 +63,7 @@ class MustFail(Case):
         state.start()
         self.addCleanup(state.stop)
 
-    def test_verdicts(self) -> None:
+    def test_a_verdict_is_by_what_the_prover_says(self) -> None:
         for what, status, lines, words in (
                 ("a promise that no longer holds", 1, BY_PROMISE, ""), ("a search that fails", 1, BY_SEARCH, ""),
                 ("a promise, and names beside it", 1, PARTLY, ""), ("names alone", 1, NAMES_ALONE, "by names alone"),
@@ -77,7 +77,7 @@ class MustFail(Case):
         fault = trials.fault_of_twin(1, NAMES_ALONE)
         self.check("a twin that is not", "changes nothing, and is not proved" in fault and NAMES_ALONE[0] in fault)
 
-    def test_times(self) -> None:
+    def test_a_trial_is_bounded_in_time_and_CPU_time(self) -> None:
         for words, seconds, wanted in (("exit 3", 60, 3), ("echo it; exit 0", 60, 0), ("sleep 60", 0.3, None)):
             made = trials.run(["sh", "-c", words], self.room, seconds)
             self.check(f"{words}: its status", made.status, wanted)
@@ -86,7 +86,7 @@ class MustFail(Case):
             made = trials.run(["sh", "-c", "while :; do :; done"], self.room, 60)
         self.check("CPU time is bounded", made.status is None and 0.5 < made.seconds < 3, shown=made)
 
-    def test_twins(self) -> None:
+    def test_an_edit_and_its_twin_fit_their_place(self) -> None:
         repository(self.root)
         self.check("names", edits.names_of(self.root), ["a/e", "b/e", "b/e same", "c/e"])
         path = edits.path_of(self.root, "b/e same")

@@ -109,7 +109,7 @@ class Package(Case):
     def setUpClass(cls):
         cls.made = Made()
 
-    def test_made(self):
+    def test_the_same_commit_gives_the_same_packages_and_git_ignores_them(self):
         root, paths, said = self.made.root, self.made.paths, self.made.said
         self.check("the packages are made without the kit",
                    (self.made.status, [os.path.isfile(path) for path in paths]), (0, [True] * 3))
@@ -130,8 +130,8 @@ class Package(Case):
         seen = run(["git", "-C", root, "status", "--porcelain", "--", "*.tar.gz", "*.whl", "*.deb", ":!again"])
         self.check("git ignores the packages in a checkout's own folder", seen, (0, "", ""))
 
-    def test_refusals(self):
-        with copied() as root, tempfile.TemporaryDirectory() as folder_of_given:
+    def test_what_is_not_committed_is_refused_with_a_line(self):
+        with copied() as root:
             for name in ("lambda_local.history.txt", "out.json", "tests/mine.py", "my/up.json"):
                 write(os.path.join(root, name), b"")
             self.check("other files of its user do not matter", package(root, "--wheel")[0], 0)
@@ -147,6 +147,9 @@ class Package(Case):
             self.check("a folder that is not there", (status, output, said.count("\n"), "no/folder" in said),
                        (2, "", 1, True))
             self.check("an option that is none", package(root, "--zip")[0], 2)
+
+    def test_without_a_program_of_these_sources_nothing_is_packaged(self):
+        with copied() as root, tempfile.TemporaryDirectory() as folder_of_given:
             write(os.path.join(root, "crates", "lambda_local", "src", "mine.rt"), b"")
             commit_all(root)
             status, output, said = package(root)
@@ -165,13 +168,15 @@ class Package(Case):
                 left = glob.glob(os.path.join(root, "*.gz*"))
                 self.check(f"a program that is named: {name}", (status, output, word in said.splitlines()[-1], left),
                            (1 if "answers" in name else 4, "", True, []))
+
+    def test_a_tree_that_is_no_checkout_is_refused(self):
         with tempfile.TemporaryDirectory() as folder:
             root = copy_tree(os.path.join(folder, "tree"), program())
             status, output, said = package(root)
             self.check("a tree that is no checkout",
                        (status, output, said.count("\n"), "clone the repository first" in said), (2, "", 1, True))
 
-    def test_of_another_user(self):
+    def test_the_checkout_of_another_user_is_packaged_once_that_is_allowed(self):
         """git refuses the checkout of another user; once its reader has allowed it, there is a package."""
         if os.getuid():
             self.skipTest("only root can be another user")
@@ -187,7 +192,7 @@ class Package(Case):
             status, output, said = run(words, user=65534, HOME=home)
             self.check("what the line says makes it work", (status, os.path.isfile(output.strip())), (0, True))
 
-    def test_given(self):
+    def test_a_program_that_is_named_is_packaged_and_said_to_be_given(self):
         """A program that is named: packaged as it is, beside a program of these sources."""
         with copied() as root, tempfile.TemporaryDirectory() as folder:
             other = os.path.join(folder, "other")
@@ -234,7 +239,7 @@ class Package(Case):
         self.check("and leaves nothing beside it", sorted(set(os.listdir(folder)) - {"__pycache__"}),
                    ["app.py", "up.json"])
 
-    def test_archive(self):
+    def test_the_archive_works_where_it_is_unpacked(self):
         with tempfile.TemporaryDirectory() as folder, tempfile.TemporaryDirectory() as work:
             there = os.path.join(folder, "a folder")
             os.mkdir(there)
@@ -263,7 +268,7 @@ class Package(Case):
                                                         "unpack the package again" in said),
                        (4, "", 1, True))
 
-    def test_wheel(self):
+    def test_the_wheel_works_in_a_fresh_environment_and_leaves_it(self):
         with tempfile.TemporaryDirectory() as folder, tempfile.TemporaryDirectory() as work:
             commands = environment(sys.executable, os.path.join(folder, "fresh"), self.made.wheel)
             command = os.path.join(commands, "lambda_local")
@@ -292,7 +297,7 @@ class Package(Case):
             left = glob.glob(f"{folder}/fresh/**/*lambda_local*", recursive=True)
             self.check("and nothing stays", [path for path in left if "__pycache__" not in path], [])
 
-    def test_plugin(self):
+    def test_pytest_finds_the_plugin_of_the_wheel(self):
         """Under pytest, if a Python on this machine has it."""
         python = python_with_pytest()
         if python is None:
@@ -308,7 +313,7 @@ class Package(Case):
             seen = (status, "lambda_local history:" in output, "caller 1: invoke greet" in output)
             self.check("its report has the history and the timeline", seen, (1, True, True))
 
-    def test_deb(self):
+    def test_the_Debian_package_works_where_it_is_unpacked(self):
         """Unpacked, as its links are within it; installing it is apt's."""
         if not shutil.which("dpkg-deb"):
             self.skipTest("no dpkg-deb is here")
@@ -338,6 +343,8 @@ class Package(Case):
                     for word in ("configure", "abort-upgrade")]
             self.check("the tools are compiled once, by its installation", seen,
                        [(0, "-p lambda-local /usr/lib/lambda_local\n"), (0, "")])
+
+    def test_lintian_finds_no_error(self):
         if shutil.which("lintian"):
             said = run(["lintian", "--allow-root", self.made.deb])
             self.check("lintian finds no error", said[0] == 0, shown=said[1])

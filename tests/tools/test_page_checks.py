@@ -66,7 +66,7 @@ class PageChecks(Case):
     def put(self, path: str, text: str) -> None:
         write(os.path.join(self.root, path), text.encode())
 
-    def test_functions(self) -> None:
+    def test_functions_are_listed_with_their_promises(self) -> None:
         self.check("each with its type, whether it promises, and whose contract it has",
                    [(it.path, it.is_public, it.ensures, it.is_of_trait) for it in source_facts.functions(self.root)],
                    [("Rings::ring", True, False, False), ("Rings::first", False, True, False),

@@ -145,7 +145,7 @@ def pytest_over(python, folder, tests=TESTS, lent=None, **environ):
 
 
 class Plugin(Case):
-    def test_by_itself(self):
+    def test_handlers_are_invoked_in_the_tests_process(self):
         with LambdaLocal(double=lambda event: event * 2) as service:
             self.check("handlers in the test's process", [service.invoke("double", number) for number in range(5)],
                        [0, 2, 4, 6, 8])
@@ -165,7 +165,7 @@ class Plugin(Case):
         self.check("an invoke after its end", fault_of(service.invoke, "double"),
                    "RuntimeError: the service was stopped")
 
-    def test_reports(self):
+    def test_what_a_handler_raised_is_reported_as_by_Lambdas_runtime(self):
         """What the handler raised comes as Lambda's Python runtime reports it, and as the cause."""
         with LambdaLocal(fails=fails) as service, contextlib.redirect_stderr(io.StringIO()) as printed:
             try:
@@ -208,7 +208,7 @@ class Plugin(Case):
             self.check("a function that is not there", fault_of(service.invoke, "other")[:40],
                        "FunctionError: ResourceNotFoundException")
 
-    def test_contexts(self):
+    def test_a_context_has_what_Lambda_gives(self):
         seen = []
         with LambdaLocal({"f": {"memory": 256, "timeout": 60}}, f=lambda event,
                          context: seen.append(context)) as service:
@@ -225,11 +225,13 @@ class Plugin(Case):
                 "function_version": "$LATEST",
                 "memory_limit_in_mb": "256", "log_group_name": "/aws/lambda/f", "log_stream_name": "local/[$LATEST]1",
                 "client_context": None})
+
+    def test_a_handler_gets_the_context_if_it_takes_one(self):
         with LambdaLocal(one=lambda *given: len(given), two=lambda event, context=None: context is not None) as service:
             self.check("a handler of any arguments gets both, as does one with a default",
                        (service.invoke("one"), service.invoke("two")), (2, True))
 
-    def test_environments(self):
+    def test_three_environments_run_at_once(self):
         """Three environments are three threads, which run at once."""
         meet = threading.Barrier(3)
         with LambdaLocal({"f": {"environments": 3}},
@@ -237,7 +239,7 @@ class Plugin(Case):
             names = together(*3 * [lambda: str(service.invoke("f"))])
             self.check("three environments run at once", len(set(names)), 3)
 
-    def test_wrong_uses(self):
+    def test_wrong_uses_are_told(self):
         unstarted = LambdaLocal()
         for name, call in (("invoke", lambda: unstarted.invoke("f")), ("stats", unstarted.stats),
                            ("client", unstarted.client), ("settled", unstarted.settled)):
@@ -270,7 +272,7 @@ class Plugin(Case):
                        "RuntimeError: it has been started: name all functions in one start(), or make another "
                        "LambdaLocal()")
 
-    def test_launcher(self):
+    def test_the_launcher_is_asked_once_for_its_program(self):
         """The launcher is asked once a process for its program."""
         from lambda_local import program as program_module
         own = os.path.join(ROOT, "lambda_local")
@@ -305,7 +307,7 @@ class Plugin(Case):
                 else:
                     del os.environ["LAMBDA_LOCAL_PROGRAM"]
 
-    def test_under_pytest(self):
+    def test_under_pytest_a_failed_test_has_its_history(self):
         python = python_with_pytest()
         if python is None:
             self.skipTest("no Python here has pytest")

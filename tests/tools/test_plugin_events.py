@@ -27,7 +27,7 @@ def send(service, name, body=b"{}"):
 
 
 class PluginEvents(Case):
-    def test_taken(self):
+    def test_an_event_is_taken_retried_and_recorded(self):
         seen: List[object] = []
         records: List[Members] = []
 
@@ -55,7 +55,7 @@ class PluginEvents(Case):
                        (True, [({"order": 8}, 3, "KeyError")]))
             self.check("an unknown function", send(service, "nothing"), 404)
 
-    def test_at_the_end(self):
+    def test_an_event_that_runs_is_waited_for_at_the_end(self):
         begun, over = threading.Event(), []
 
         def slow(_event):
@@ -67,10 +67,12 @@ class PluginEvents(Case):
             send(service, "slow")
             begun.wait(20)
         self.check("an event that runs is waited for at the end", over, [1])
+
+    def test_without_asynchronous_an_event_is_refused(self):
         with LambdaLocal(f=lambda event: event) as service:
             self.check("without asynchronous it is refused", send(service, "f"), 400)
 
-    def test_wrong(self):
+    def test_wrong_settings_are_told(self):
         f = {"f": lambda event: event}
         for given, wanted in (
                 (5, 'asynchronous must be True, or a dict such as {"retries": 0}, not 5'),

@@ -100,7 +100,7 @@ def writes(event):
 
 
 class PluginSandbox(Case):
-    def test_variables(self):
+    def test_a_handler_has_dummy_credentials_and_its_own_variables_and_all_is_as_before(self):
         before = dict(os.environ)
         os.environ.update(OUTSIDE)
         try:
@@ -155,7 +155,7 @@ class PluginSandbox(Case):
             os.environ.clear()
             os.environ.update(before)
 
-    def test_log(self):
+    def test_what_a_handler_logs_is_printed_as_Lambda_does(self):
         """What a handler logs is printed as examples/runtime.py prints it; what its test logs is not."""
         logger, level, handlers = logging.getLogger(), logging.getLogger().level, list(logging.getLogger().handlers)
         with LambdaLocal(f=writes) as service, contextlib.redirect_stdout(io.StringIO()) as printed:
@@ -173,7 +173,7 @@ class PluginSandbox(Case):
                    bool(re.fullmatch(r'\{"timestamp": "[^"]+", "level": "DEBUG", "message": "few are left", '
                                      r'"logger": "root", "requestId": "[0-9a-f-]{36}"\}\n', printed.getvalue())))
 
-    def test_clients(self):
+    def test_no_client_of_a_handler_reaches_AWS(self):
         """With each boto3 of this machine: those from 1.28 read AWS_ENDPOINT_URL_LAMBDA."""
         python = python_with_pytest()
         lenders = {folder: None for folder in (folder_of("boto3", each) for each in (sys.executable, "python3", python))

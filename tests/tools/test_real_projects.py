@@ -155,16 +155,16 @@ class RealProjects(Case):
         print("\n".join(f"     {line}" for line in up.lines))
         self.check(f"{kind}: it ends", up.end()[0], 0)
 
-    def test_sam(self):
+    def test_a_project_of_SAM_is_served(self):
         if HAS_YAML:
             self.a_project("SAM", SAM, "template.yaml", "/greet/Ada",
                            {"said": "Hello, Ada!", "stage": "Prod", "table": "orders-dev"})
 
-    def test_serverless(self):
+    def test_a_project_of_Serverless_is_served(self):
         if HAS_YAML:
             self.a_project("Serverless", SERVERLESS, "serverless.yml", "/greet/Ada",
                            {"said": "Hello, Ada!", "stage": "dev", "table": "orders-dev"})
 
-    def test_cdk(self):
+    def test_a_project_of_CDK_is_served(self):
         self.a_project("CDK", json.dumps(CDK), "Stack.template.json", "/greet/Ada",
                        {"said": "Hello, Ada!", "table": "orders-dev"})

@@ -90,15 +90,17 @@ def told(requests, answers):
 
 
 class RefusedRequests(Case):
-    def test_sentences(self):
+    def test_a_refusal_is_told_in_a_sentence(self):
         for request, status, headers, body, wanted in TOLD:
             lines = told([request.encode()], [answer(status, headers, body)]).lines
             self.check(f"{wanted[:60]} ..", lines, [wanted])
+
+    def test_other_statuses_are_no_refusal(self):
         for status in (200, 202, 500, 503):
             self.check(f"{status} is no refusal of what was asked",
                        told([TOLD[0][0].encode()], [answer(status, "", "{}")]).lines, [])
 
-    def test_what_is_no_request(self):
+    def test_what_is_no_request_is_told_in_a_line(self):
         half = f"POST {API}init/error{HEAD}Content-Length: 9\r\n\r\nx".encode()
         for name, sent, wanted in (
                 ("other bytes", b"hello\r\n\r\n", "what came is not an HTTP/1.1 request: "),
@@ -110,7 +112,7 @@ class RefusedRequests(Case):
             self.check(f"{name}: one line", (len(lines), lines[:1] and lines[0].startswith(wanted)), (1, True))
         self.check("a connection without a request is none", told([b""], []).lines, [])
 
-    def test_counted(self):
+    def test_refusals_of_one_kind_are_counted(self):
         request, refused = TOLD[0][0].encode(), answer(404, "", "{}")
         ears = told([request] * 57, [refused] * 57)
         ears.refusals.end()
@@ -126,7 +128,7 @@ class RefusedRequests(Case):
         (long,) = told([f"GET /{'x' * 5000}{HEAD}\r\n".encode()], [refused]).lines
         self.check("and to a line", len(long) < 250)
 
-    def test_by_up(self):
+    def test_up_tells_refused_requests_by_a_line(self):
         asking = {"name": "f", "command": ["./asks"], "handler": "app.run", "logs": "exact"}
         up = Up("--ready", "30", functions=[asking],
                 files={"asks": ASKS.format(python=sys.executable, runtime=RUNTIME)}, command=("--", "true"))
@@ -147,7 +149,7 @@ def elf(machine, loader=b""):
 
 
 class Executables(Case):
-    def test_why_not(self):
+    def test_why_a_program_was_not_started_is_told(self):
         own = {"x86_64": 62, "aarch64": 183}[os.uname().machine]
         cases = (("a script without #!", b"echo\n", errno.ENOEXEC, "has no #! line"),
                  ("no interpreter", b"#!/no/such\necho\n", errno.ENOENT, "needs the interpreter /no/such"),
@@ -172,7 +174,7 @@ class Executables(Case):
             self.check("one without the x bit is told how to get it", why_not_found(path),
                        f"is not executable: chmod +x {path}")
 
-    def test_by_up(self):
+    def test_up_tells_how_a_command_is_made_to_start(self):
         up = Up(functions=[{"name": "f", "command": ["./app.py"]}])
         self.check("a command without the x bit ends up with status 4", up.process.wait(60), 4)
         up.reader.join(10)

@@ -127,7 +127,7 @@ def cut(chosen, data, is_client):
 
 
 class Relay(Case):
-    def test_the_quick_way(self):
+    def test_what_it_does_not_read_is_heard_as_the_strict_reader_hears_it(self):
         """What it does not read is heard as the strict reader hears it, in whatever pieces it comes."""
         chosen, wrong = random.Random(SEED), []
         for _ in range(MUTANTS):
@@ -149,7 +149,7 @@ class Relay(Case):
         self.check("the plain form is not read at all", Quick(Heard([]), Conversation(Heard([]))).client_sent(
             head("GET /2018-06-01/runtime/invocation/next HTTP/1.1", "Host: a")))
 
-    def test_marks(self):
+    def test_an_invocation_goes_on_once_each_pipe_has_its_mark(self):
         """An invocation goes on once each pipe has its mark, and that has waited for room."""
         async def tried():
             relay, loop = Telling(), asyncio.get_running_loop()
@@ -181,7 +181,7 @@ class Relay(Case):
         self.check("then it has its mark", seen, (mark[1], mark[1]))
         self.check("a process that has ended has an end", end, b"")
 
-    def test_passing(self):
+    def test_lines_of_several_processes_are_divided_as_one_by_passing_marks(self):
         """Lines of several processes are divided as one, however far each has been read."""
         seen = []
         passing = Passing(lambda name, text: seen.append(text), lambda identifier: seen.append((identifier, )))
@@ -237,7 +237,7 @@ class Relay(Case):
             passing.passes(name, item[0]) if isinstance(item, tuple) else passing.take(name, item)
         return wrong + ([(now, passing.held)] if now[0] != "5" or any(passing.held.values()) else [])
 
-    def test_full(self):
+    def test_a_full_proxy_closes_a_newcomer_and_says_so_once(self):
         """A proxy whose connections all wait for answers closes a newcomer, and says so once."""
         async def come(count):
             lines = []
@@ -266,7 +266,7 @@ class Relay(Case):
                    (2, ["a connection of its processes is closed at once: 2 others, which are the most, wait for "
                         "answers"]))
 
-    def test_one_that_hangs(self):
+    def test_one_that_hangs_is_waited_for_a_while_and_no_longer(self):
         """Whoever has a message for a relay that takes none waits for a while, and no longer."""
         with mock.patch.object(relay, "SEND_SECONDS", 1):
             one = relay.Relay(lambda *_: None, lambda: None)
@@ -289,7 +289,7 @@ class Relay(Case):
         os.close(reading)
         os.close(writing)
 
-    def test_who_has_one(self):
+    def test_only_what_is_to_be_divided_or_told_has_a_relay(self):
         """Only what is to be divided, or told, has something before it."""
         command = {"name": "f", "command": RUNTIME}
         for what, function, options, is_there in (
@@ -304,7 +304,7 @@ class Relay(Case):
         told = 'function f: logs must be "exact", or is left out, not "all"'
         self.check("another value is refused", (up.process.wait(60), up.until(told)), (2, True))
 
-    def test_what_is_refused(self):
+    def test_what_is_refused_is_told_by_the_relay(self):
         """The history has some of it; the relay tells all, and stands before a function that has failed."""
         files = {"twice": TWICE.format(python=sys.executable), "wrong": WRONG_ROUTE.format(python=sys.executable)}
         over = "its invocation is over, by an answer or by its timeout"
@@ -321,7 +321,7 @@ class Relay(Case):
             "GET /2018-06-01/runtime/next: 404, there is no such route: did you mean", 30))
         self.check("nothing is left", up.end()[1], [])
 
-    def test_a_first_tail(self):
+    def test_a_first_tail_restarts_idle_environments_once(self):
         """A caller who wants the log has idle environments started again, once; one that is busy is left."""
         up = Up(functions=[{"name": "f", "command": RUNTIME, "environments": 2, "timeout": 20}], app=SLOW)
         up.until("[up] ready")
@@ -340,7 +340,7 @@ class Relay(Case):
         self.check("it was told once", up.count(told), 1)
         self.check("nothing is left", up.end(), (0, []))
 
-    def test_further_environments(self):
+    def test_a_further_environment_ends_for_a_log_and_nobody_waits(self):
         """One that was started for parallel callers ends for a log, and nobody waits until it is wanted again."""
         up = Up(functions=[{"name": "f", "command": RUNTIME, "environments": {"min": 1, "max": 3}, "timeout": 20}],
                 app=SLOW)
@@ -356,7 +356,7 @@ class Relay(Case):
         self.check("the other one was not waited for", time.monotonic() - begun < 9)
         self.check("nothing is left", up.end(), (0, []))
 
-    def test_its_end(self):
+    def test_nothing_goes_on_without_the_relay_and_it_ends_with_up(self):
         """Without it nothing goes on; without lambda_local up it ends."""
         for dies in (False, True):
             up = Up(functions=[{"name": "f", "command": RUNTIME, "logs": "exact"}], app=ADDRESS)

@@ -92,7 +92,7 @@ def made(ticket, payload, end, **more):
 
 
 class Rerun(Case):
-    def test_records(self):
+    def test_invocations_are_read_of_a_history(self):
         recording = record.parsed(HISTORY, "h", PROGRAM)
         seen = [(each.ticket, each.function, each.place, each.qualifier, each.trace, each.payload, each.kind, each.body,
                  each.end)
@@ -107,6 +107,8 @@ class Rerun(Case):
         self.check("the others in words", report.left_out(recording.invocations), "1 throttled, 1 without an answer")
         found = record.Identified(recording.invocations).find("f", REQUEST + "2")
         self.check("by a request identifier", found and found.ticket, 3)
+
+    def test_what_is_no_history_is_told(self):
         for name, text, words in (
             ("another file", "hello\n", "2: h: configuration: NotJson"),
             ("nothing", "", "2: h: configuration: NotJson"),
@@ -123,7 +125,7 @@ class Rerun(Case):
         self.check("no file", fault_of(record.read, "/nowhere/h", PROGRAM),
                    "2: /nowhere/h: No such file or directory: name a file with a history")
 
-    def test_compares(self):
+    def test_outputs_are_compared_member_by_member(self):
         def told(then, now, *ignored):
             return [str(each) for each in compare.differences(then, now,
                                                               [compare.pointer_of(text) for text in ignored])]
@@ -145,6 +147,11 @@ class Rerun(Case):
                    ([], ['the whole: {"a":1,"a":2} -> {"a":3,"a":2}']))
         self.check("half of a pair", told(b'"\\ud8001"', b'"\\ud8002"'), ['the whole: "\\ud8001" -> "\\ud8002"'])
         self.check("bytes that a terminal would obey", told(b"\x1b[31m", b"\x07"), ["the whole: \\x1b[31m -> \\x07"])
+
+    def test_long_and_deep_outputs_are_compared(self):
+        def told(then, now, *ignored):
+            return [str(each) for each in compare.differences(then, now,
+                                                              [compare.pointer_of(text) for text in ignored])]
         long = b"x" * 500
         self.check("long ones that differ at the end", told(long + b"1", long + b"2"),
                    [f"the whole: from letter 480 on, ..{'x' * 20}1 -> ..{'x' * 20}2"])
@@ -155,6 +162,11 @@ class Rerun(Case):
                    "2: --ignore /a~2: ~ is written ~0, / within a name ~1, and the member * alone ~*")
         deep = b"[" * 120 + b"1" + b"]" * 120
         self.check("deep ones", told(deep, deep.replace(b"1", b"2")), ["/0" * 120 + ": 1 -> 2"])
+
+    def test_ignored_members_are_left_out(self):
+        def told(then, now, *ignored):
+            return [str(each) for each in compare.differences(then, now,
+                                                              [compare.pointer_of(text) for text in ignored])]
         then, now = (b'{"time":1,"items":[{"id":1,"n":1},{"id":2,"n":2}],"a/b":1}',
                      b'{"time":2,"items":[{"id":3,"n":1},{"id":4,"n":3}],"a/b":2}')
         self.check("ignored members", told(then, now, "/time", "/items/*/id", "/a~1b"), ["/items/1/n: 2 -> 3"])
@@ -163,7 +175,7 @@ class Rerun(Case):
         self.check("a pointer that is none", fault_of(compare.pointer_of, "time"),
                    "2: --ignore time: a JSON pointer begins with /, such as /time or /items/*/id")
 
-    def test_errors(self):
+    def test_errors_are_equal_by_type_and_message(self):
         def told(then, now, exact=False):
             invocation = made(1, b"1", 2)._replace(kind="error", body=then)
             return report.judged(invocation, "error", now, 0.1, [], exact).lines
@@ -175,7 +187,7 @@ class Rerun(Case):
         self.check("those of another message are not", told(then, now.replace(b'"m"', b'"n"')),
                    ['/errorMessage: "m" -> "n"'])
 
-    def test_reports(self):
+    def test_the_report_has_a_verdict_for_each(self):
         recording = record.parsed(HISTORY, "h", PROGRAM)
         good, bad = recording.invocations[:2]
         results = [report.judged(good, "output", b'"one"', 0.1, []), report.judged(good, "output", b'"two"', 0.1, []),
@@ -194,7 +206,7 @@ class Rerun(Case):
             "7 invocations: 2 equal, 3 changed, 1 failed now, 1 failed then; not sent: 1 throttled, 1 without an "
             "answer"])
 
-    def test_plays(self):
+    def test_invocations_are_played_in_order_and_at_once_as_recorded(self):
         # a and b were in flight together, c came after a was answered, d after all
         recorded = [made(1, b"a", 4, qualifier=True, trace="Root=1"), made(2, b"b", 7), made(5, b"c", 6),
                     made(9, b"d", 10)]
@@ -207,6 +219,8 @@ class Rerun(Case):
                            ([b"a", b"b", b"c", b"d"], ["a", "b", "c", "d"], most))
                 self.check("the qualifier and the trace", [each[1:] for each in server.came if each[0] == "a"],
                            [("/2015-03-31/functions/f/invocations?Qualifier=$LATEST", "Root=1")])
+
+    def test_a_throttle_is_tried_again_and_no_answer_is_told(self):
         with fake() as server:
             sent = play.play(server.server_address[1], [made(1, b"throttled", 2)], {})
             self.check("a throttle is tried again", (sent[0].status, len(server.came)), (200, 2))

@@ -143,7 +143,7 @@ def test_that_fails_itself(lambda_local):
 
 
 class RerunCommand(Case):
-    def test_reruns(self):
+    def test_functions_are_run_again_and_what_has_changed_is_told(self):
         with tempfile.TemporaryDirectory() as folder:
             history, report_file = os.path.join(folder, "history.txt"), os.path.join(folder, "report.xml")
             with open(history, "w") as file:
@@ -173,7 +173,7 @@ class RerunCommand(Case):
             self.check("the new history", seen, (0, ["3 invocations: 3 equal"], ""))
             self.check("nothing is left running", left_running(folder), [])
 
-    def test_updates(self):
+    def test_update_writes_the_new_history_whole_or_leaves_the_old_one(self):
         """`--update` writes the new history whole, as private as the old one was, or leaves that as it is."""
         with tempfile.TemporaryDirectory() as folder:
             history, old = os.path.join(folder, "history.txt"), up_json(folder, "old")
@@ -204,7 +204,7 @@ class RerunCommand(Case):
             self.check("of its mode", f"{os.stat(history).st_mode & 0o777:o}", "644")
             self.check("and nothing is beside it", sorted(os.listdir(folder)), names)
 
-    def test_faults(self):
+    def test_faults_are_told_and_nothing_is_left_running(self):
         taken = socket.socket()
         taken.bind(("127.0.0.1", 0))
         taken.listen()
@@ -238,11 +238,13 @@ class RerunCommand(Case):
                            (2, [], 1, "rerun: ", True), shown=said)
             self.check("nothing is left running", left_running(folder), [])
         taken.close()
+
+    def test_the_help_names_each_option(self):
         status, output, said = run("--help")
         options = ("--one-by-one", "--ignore", "--update", "--junit", "--ready")
         self.check("--help", status == 0 and all(word in "\n".join(output) for word in options))
 
-    def test_marker(self):
+    def test_the_marker_runs_a_history_as_tests(self):
         """In pytest, if it is installed."""
         if subprocess.run([sys.executable, "-m", "pytest", "--version"], capture_output=True).returncode:
             self.skipTest("pytest is not installed")

@@ -59,7 +59,7 @@ def run(folder, *words):
 
 
 class RerunInner(Case):
-    def test_roots(self):
+    def test_roots_tell_which_invokes_are_a_functions_own(self):
         """Which Invokes are a function's own, by a history's course."""
         traces = (None, "", "Root=1-2-3", "Parent=1; Root=4;Sampled=0", "Roots=1", "XRoot=1;Root=")
         self.check("a root", [root_of(text) for text in traces], [None, None, "1-2-3", "4", None, ""])
@@ -88,7 +88,7 @@ class RerunInner(Case):
         roots.end(11)
         self.check("zeros when nothing is in flight", roots.begin(9, None, ZEROS), None)
 
-    def test_matches(self):
+    def test_invokes_are_matched_by_their_makers(self):
         """Those of the same maker first, in their order; then those of which no maker is known; none of another's."""
         def made(ticket, function, by, payload=b"1"):
             return Invocation(ticket, function, ticket, False, None, payload, "output", b"1", ticket + 1, by)
@@ -107,7 +107,7 @@ class RerunInner(Case):
                    ("failed now", ["its event: the whole: 1 -> 2", "timeout"]))
         self.check("a new one", of_new(other)[1:3], ("changed", ["new, a function makes it now: output 1"]))
 
-    def test_of_commands(self):
+    def test_for_other_commands_the_front_makes_the_root(self):
         """For runtimes that make no root, the front does."""
         with tempfile.TemporaryDirectory() as folder:
             with open(os.path.join(folder, "app.py"), "w") as file:
@@ -122,7 +122,7 @@ class RerunInner(Case):
             status, output, said = run(folder, "rerun", "h", "up.json")
             self.check("unchanged functions are equal", (status, output, said), (0, ["3 invocations: 3 equal"], ""))
 
-    def test_calls(self):
+    def test_each_order_is_paid_once_by_each_rerun(self):
         """Three orders that are paid for: once when recorded, once by each rerun, and once in each updated history."""
         with tempfile.TemporaryDirectory() as folder:
             with open(os.path.join(folder, "app.py"), "w") as file:

@@ -59,7 +59,7 @@ class RestEvents(Case):
                 found[1] for line in up.lines for found in [re.search(r"routes: (\S+)$", line)] if found)) as caller:
             yield up, caller
 
-    def test_rest_event(self):
+    def test_a_request_becomes_an_event_of_a_REST_API(self):
         api = {"payload": "1.0", "stage": "Prod", "stageVariables": {"table": "orders"}}
         with self.running({"ANY /orders/{id}": "f", "POST /{proxy+}": "f"}, api) as (_, caller):
             event = event_by(
@@ -105,7 +105,7 @@ class RestEvents(Case):
             self.check("no route", caller.ask("GET", "/nowhere")[::2],
                        (403, b'{"message": "Missing Authentication Token"}'))
 
-    def test_http_event(self):
+    def test_an_HTTP_API_with_format_1_has_its_own_members(self):
         """An HTTP API with format 1.0: what its page has otherwise than that of a REST API."""
         with self.running({"GET /orders/{id}": "f", "$default": "f"}, {"payload": "1.0", "type": "HTTP"}) as (_,
                                                                                                               caller):
@@ -127,7 +127,7 @@ class RestEvents(Case):
             self.check("a result in base64", giving(caller, in_base64)[2], b"\0\xff")
             self.check("what is no answer", giving(caller, "x")[::2], (502, b'{"message": "Internal Server Error"}'))
 
-    def test_rest_results(self):
+    def test_a_result_of_a_REST_API_becomes_an_answer(self):
         with self.running({"ANY /orders/{id}": "f", "GET /fails": "f"}, {"payload": "1.0"}) as (up, caller):
             status, headers, body = giving(caller, {"statusCode": 201, "headers": {"X-A": "b", "X-N": 1}, "body": "x"})
             self.check("status, headers and body", (status, headers["x-a"], headers["x-n"], body),
@@ -154,11 +154,13 @@ class RestEvents(Case):
                 self.check(f"what is no answer: {wrong}", giving(caller, wrong)[::2], BROKEN)
                 self.check("a line says why", until(lambda: up.count("its result cannot be mapped") == number, 5))
             self.check("a function that fails", caller.ask("GET", "/fails")[::2], BROKEN)
+
+    def test_a_throttle_is_an_error_of_the_API(self):
         with self.running({"GET /orders/{id}": "f"}, {"payload": "1.0"}, reserved=0) as (up, caller):
             self.check("a throttle is an error of the API's", caller.ask("GET", "/orders/7")[::2],
                        (500, b'{"message": "Internal server error"}'))
 
-    def test_binary(self):
+    def test_binary_media_types_decide_what_is_bytes(self):
         """A REST API takes those types as bytes that its binary media types name."""
         api = {"payload": "1.0", "binaryMediaTypes": ["image/PNG"]}
         data = bytes(range(256))
@@ -179,12 +181,16 @@ class RestEvents(Case):
             self.check("and for one who would have another type first",
                        giving(caller, answer, {"Accept": "text/html, image/png"})[2], in_base64.encode())
             self.check("a line says so", until(lambda: up.has("is sent as the base64 that it is"), 5))
+
+    def test_with_all_types_each_body_is_bytes(self):
+        data = bytes(range(256))
+        answer = {"statusCode": 200, "body": base64.b64encode(data).decode(), "isBase64Encoded": True}
         with self.running({"ANY /orders/{id}": "f"}, {"payload": "1.0", "binaryMediaTypes": ["*/*"]}) as (_, caller):
             event = event_by(caller, "POST", "/orders/7", b"{}")
             self.check("with */* each body is in base64", (event["body"], event["isBase64Encoded"]), ("e30=", True))
             self.check("with */* a result is its bytes", giving(caller, answer)[2], data)
 
-    def test_both(self):
+    def test_routes_of_both_kinds_share_a_port(self):
         """Routes of both kinds at one port, and requests of other sites."""
         routes = {"GET /rest/{id}": {"function": "f", "payload": "1.0", "stage": "dev"}, "GET /http/{id}": "f"}
         api = {"cors": {"allowOrigins": ["http://a"]}, "stageVariables": {"a": "b"}}
@@ -206,7 +212,7 @@ class RestEvents(Case):
                 status, headers, _ = caller.ask("OPTIONS", path, None, asked)
                 self.check("and its preflight", (status, headers["access-control-allow-origin"]), (204, "http://a"))
 
-    def test_mistakes(self):
+    def test_mistakes_of_REST_APIs_are_told(self):
         self.check("a route that is a number", settings.AT_THE_TOP["routes"].accepts({"GET /a": 5}), False)
         functions = [{"name": "f"}]
         for routes, api, wanted in (

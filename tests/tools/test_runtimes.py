@@ -20,7 +20,7 @@ SHELL_FUNCTIONS = """handler() {
 
 
 class Runtimes(RuntimeCase):
-    def test_go(self):
+    def test_the_Go_runtime_answers_reports_and_ends(self):
         if not shutil.which("go"):
             self.skipTest("Go is not here")
         with tempfile.TemporaryDirectory() as folder:
@@ -37,6 +37,12 @@ class Runtimes(RuntimeCase):
                 self.check("Go: a payload of another type", running.invoke(7)[1]["errorType"], "UnmarshalTypeError")
                 running.service.stop()
                 self.check("Go: ends at a stop", running.runtime.wait(10), 0)
+
+    def test_a_panic_in_Go_is_reported_and_ends_the_process(self):
+        if not shutil.which("go"):
+            self.skipTest("Go is not here")
+        with tempfile.TemporaryDirectory() as folder:
+            program = os.path.join(folder, "bootstrap")
             panicking = os.path.join(folder, "panicking.go")
             with open(os.path.join(EXAMPLES, "runtime.go")) as source, open(panicking, "w") as file:
                 file.write(
@@ -51,7 +57,7 @@ class Runtimes(RuntimeCase):
                            "main.handler")
                 self.check("Go: and ends the process", running.runtime.wait(10), 2)
 
-    def test_shell(self):
+    def test_the_shell_runtime_answers_reports_and_ends(self):
         if not shutil.which("curl"):
             self.skipTest("curl is not here")
         with Running(SHELL) as running:
@@ -64,6 +70,10 @@ class Runtimes(RuntimeCase):
             self.check("shell: the trace", running.invoke("trace", **{"X-Amzn-Trace-Id": TRACE}), (False, TRACE))
             running.service.stop()
             self.check("shell: ends at a stop", running.runtime.wait(10), 0)
+
+    def test_a_failed_init_of_the_shell_runtime_is_reported(self):
+        if not shutil.which("curl"):
+            self.skipTest("curl is not here")
         for name, files, kind in (("function.handler", {}, "Runtime.ImportModuleError"),
                                   ("function.other", {"function.sh": SHELL_FUNCTIONS}, "Runtime.HandlerNotFound")):
             with Running(SHELL, files, _HANDLER=name) as running:

@@ -193,7 +193,7 @@ def run(command, answers, folder, handler="app.handler", kind=Api) -> Tuple[Api,
 
 class RuntimesHttp(Case):
     @unittest.skipUnless(NODE[0], "Node is not here")
-    def test_early(self):
+    def test_an_answer_within_a_streamed_response_is_told(self):
         """An answer before the end of a response is told, and is no fault of the handler."""
         with tempfile.TemporaryDirectory() as folder:
             with open(os.path.join(folder, "streams.mjs"), "w", encoding="utf-8") as app:
@@ -211,7 +211,7 @@ class RuntimesHttp(Case):
                         app.write(APPS[file])
                     yield name, command, folder
 
-    def test_good(self):
+    def test_answers_of_each_framing_are_read(self):
         for name, command, folder in self.of_each():
             api, status, said = run(command, [row[2:] for row in GOOD], folder)
             self.check(f"{name}: it serves to the end", (status, said), (0, ""))
@@ -222,7 +222,7 @@ class RuntimesHttp(Case):
                            (f"POST /2018-06-01/runtime/invocation/{IDENTIFIER}/response HTTP/1.1", b"%d" % length))
             self.check(f"{name}: connections", api.connections, 1 + sum(row[4] for row in GOOD))
 
-    def test_wrong(self):
+    def test_what_is_not_of_the_Runtime_API_ends_it_with_a_line(self):
         for name, command, folder in self.of_each():
             with concurrent.futures.ThreadPoolExecutor(4) as pool:
                 ends = pool.map(lambda answer: run(command, [(answer, None, True)], folder), WRONG.values())
@@ -233,7 +233,7 @@ class RuntimesHttp(Case):
                            (status, said.startswith(begins), said.count("\n"), len(said) < 400, api.posted),
                            (1, True, 1, True, []), shown=said[:1000])
 
-    def test_names(self):
+    def test_an_exceptions_name_is_sent_as_a_header_can_have_it(self):
         """What a header can have of an exception's name, else Unhandled; its report is sent in any case."""
         names = (("Shop.NoOrder", "Shop.NoOrder"), ("KeyError", "Runtime.KeyError"), ("a\nb", "Runtime.Unhandled"),
                  ("a\r\nX-Forged: 1", "Runtime.Unhandled"), ("\u0416", "Runtime.Unhandled"),
@@ -249,7 +249,7 @@ class RuntimesHttp(Case):
                 self.check(f"{name}: an exception of the name {each[:20]!r} of {len(each)}", got, wanted)
             self.check(f"{name}: one whose message cannot be had is reported", seen[len(names)] is not None)
 
-    def test_traces(self):
+    def test_each_invocation_has_its_trace(self):
         """The caller's; else one of the invocation's own, by which its calls are known."""
         own = "Root=1-01a227f0-4e4d8000800100000000000a;Sampled=0"
         for name, command, folder in self.of_each():

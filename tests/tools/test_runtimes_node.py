@@ -95,7 +95,7 @@ EXPORT handler = async (event, context) => {
 
 @unittest.skipUnless(shutil.which("node"), "Node is not here")
 class RuntimesNode(RuntimeCase):
-    def test_errors(self):
+    def test_an_error_is_reported_with_type_message_and_trace(self):
         with Running([*NODE, "app.handler"], {"app.mjs": NODE_MODULE}) as running:
             failed, told = running.invoke({"do": "type"})
             self.check("Node: an error's members", (failed, sorted(told)),
@@ -124,6 +124,8 @@ class RuntimesNode(RuntimeCase):
             self.check("Node: a report that would be too long is cut", running.invoke({"do": "long"})[1]["errorType"],
                        "Error")
             self.too_large("Node", running)
+
+    def test_what_is_thrown_outside_of_the_handler_is_reported(self):
         for do, kind, message, status in (("uncaught", "OrderError", "later", 129),
                                           ("rejected", "Runtime.UnhandledPromiseRejection", "OrderError: alone", 128)):
             with Running([*NODE, "app.handler"], {"app.mjs": NODE_MODULE}) as running:
@@ -133,7 +135,7 @@ class RuntimesNode(RuntimeCase):
                 self.check(f"Node: {do}, its trace", any("app.mjs:" in line for line in told["trace"]),
                            shown=told["trace"])
 
-    def test_context(self):
+    def test_the_context_has_what_Lambda_gives(self):
         with Running([*NODE, "app.handler"], {"app.mjs": NODE_MODULE}) as running:
             failed, told = running.invoke({"do": "context"})
             self.check("Node: the context", {**told, "awsRequestId": len(told["awsRequestId"]),
@@ -146,7 +148,7 @@ class RuntimesNode(RuntimeCase):
                     word) for word in running.invoke({"do": "variables"}, **{"X-Amzn-Trace-Id": TRACE})[1]],
                        [TRACE, "AWS_Lambda_nodejsN.x"])
 
-    def test_handlers(self):
+    def test_a_handler_is_found_by_each_form_of_its_name(self):
         module, common = json.dumps({"type": "module"}), json.dumps({"type": "commonjs"})
         for name, files in (("app.handler", {"app.mjs": NODE_MODULE}), ("app.handler", {"app.cjs": NODE_COMMON}),
                             ("app.handler", {"app.js": NODE_COMMON}),
@@ -160,17 +162,23 @@ class RuntimesNode(RuntimeCase):
                             ("app.handler", {"app/other.js": "", "app.mjs": NODE_MODULE})):
             with Running([*NODE, name], files) as running:
                 self.check(f"Node: {name} of {', '.join(files)}", running.invoke({})[1], running.runtime.pid)
+
+    def test_the_variable_HANDLER_names_the_handler(self):
         with Running(NODE, {"dir/app.cjs": NODE_COMMON}, _HANDLER="dir/app.handler") as running:
             self.check("Node: _HANDLER", running.invoke({})[1], running.runtime.pid)
+
+    def test_LAMBDA_TASK_ROOT_has_the_handler(self):
         with tempfile.TemporaryDirectory() as elsewhere:
             with Running([*NODE, "app.handler"], {"app.js": NODE_COMMON}) as task:
                 with Running([*NODE, "app.handler"], run_from=elsewhere, LAMBDA_TASK_ROOT=task.folder) as running:
                     self.check("Node: LAMBDA_TASK_ROOT", running.invoke({})[1], running.runtime.pid)
+
+    def test_without_a_handler_it_greets(self):
         with Running(NODE) as running:
             self.check("Node: without a handler it greets", running.invoke({"name": "Ada"}),
                        (False, {"greeting": "Hello, Ada!"}))
 
-    def test_callbacks(self):
+    def test_callbacks_answer_as_promises_do(self):
         with Running([*NODE, "app.handler"], {"app.js": NODE_CALLBACKS}) as running:
             self.check("Node: a callback", running.invoke({})[1], running.runtime.pid)
             for do, wanted in (("error", ("RangeError", "too far")), ("text", ("string", "a text")),
@@ -183,10 +191,12 @@ class RuntimesNode(RuntimeCase):
             self.check("Node: callbackWaitsForEmptyEventLoop = false", [running.invoke({"do": do}) for do in ("hurries",
                                                                                                               "ran")],
                        [(False, "hurries"), (False, True)])
+
+    def test_a_nested_handler_is_found(self):
         with Running([*NODE, "app.nested.deep.handler"], {"app.js": NODE_CALLBACKS}) as running:
             self.check("Node: a nested handler", running.invoke({}), (False, "nested"))
 
-    def test_inits(self):
+    def test_a_failed_init_is_reported_by_its_kind(self):
         for name, files, kind, message in NODE_INITS:
             with Running([*NODE, name], files) as running:
                 told, status, printed = running.init_report()
@@ -198,7 +208,7 @@ class RuntimesNode(RuntimeCase):
                     self.check(what + ": its place", bool(re.search(r"/app\.m?js:2\n  return { a: ;\n +\^", printed)),
                                shown=printed)
 
-    def test_log(self):
+    def test_the_console_prints_lines_as_Lambdas_runtime_does(self):
         """The lines of the console, as Lambda's Node runtime prints them (LogPatch.js of its interface client)."""
         for kind, app in (("app.mjs", NODE_LOG.replace("EXPORT handler", "export const handler")),
                           ("app.cjs", NODE_LOG.replace("EXPORT handler", "exports.handler"))):
@@ -230,7 +240,11 @@ class RuntimesNode(RuntimeCase):
                            (fault["errorType"], fault["errorMessage"], fault["stackTrace"][0]),
                            ("RangeError", "no price", "RangeError: no price"))
 
-    def test_edges(self):
+    def test_a_response_after_the_timeout_is_refused_and_the_next_one_served(self):
         self.late("Node", [*NODE, "app.handler"], {"app.mjs": NODE_MODULE})
+
+    def test_it_ends_at_the_container_error_and_at_a_stop(self):
         self.ends("Node", NODE, {})
+
+    def test_a_connection_that_was_closed_meanwhile_is_made_anew(self):
         self.closed_connections("Node", NODE)

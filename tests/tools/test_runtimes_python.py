@@ -97,7 +97,7 @@ TRACEBACK = (r"Traceback \(most recent call last\):\n"
 
 
 class RuntimesPython(RuntimeCase):
-    def test_errors(self):
+    def test_an_error_is_reported_with_type_message_and_stack(self):
         with Running([*PYTHON, "app.handler"], {"app.py": PYTHON_APP}) as running:
             failed, told = running.invoke({"do": "key"})
             self.check("Python: an error's members", (failed, sorted(told)),
@@ -129,7 +129,7 @@ class RuntimesPython(RuntimeCase):
             self.check("Python: a report that would be too long is cut", (failed, told["errorType"]), (True, "Odd"))
             self.too_large("Python", running)
 
-    def test_context(self):
+    def test_the_context_has_what_Lambda_gives(self):
         with Running([*PYTHON, "app.handler"], {"app.py": PYTHON_APP}) as running:
             failed, told = running.invoke({"do": "context"})
             self.check("Python: the context", {**told, "aws_request_id": len(told["aws_request_id"])} if not failed
@@ -146,27 +146,38 @@ class RuntimesPython(RuntimeCase):
                        (TRACE, TRACE.replace("Root=1-5", "Root=1-6")))
             self.check("Python: AWS_EXECUTION_ENV", bool(re.fullmatch(r"AWS_Lambda_python3\.\d+", first[1])))
 
-    def test_handlers(self):
+    def test_a_handler_is_found_by_each_form_of_its_name(self):
         files = {"app.py": PYTHON_APP, "pkg/app.py": PYTHON_APP, "pkg/__init__.py": ""}
         for name in ("app.handler", "app:handler", "pkg/app.handler", "pkg.app.handler", "pkg.app:handler"):
             with Running([*PYTHON, name], files) as running:
                 self.check(f"Python: {name}", running.invoke({})[1], running.runtime.pid)
+
+    def test_the_variable_HANDLER_names_the_handler(self):
+        files = {"app.py": PYTHON_APP, "pkg/app.py": PYTHON_APP, "pkg/__init__.py": ""}
         with Running(PYTHON, files, _HANDLER="pkg/app.handler") as running:
             self.check("Python: _HANDLER", running.invoke({})[1], running.runtime.pid)
+
+    def test_LAMBDA_TASK_ROOT_has_the_handler(self):
+        files = {"app.py": PYTHON_APP, "pkg/app.py": PYTHON_APP, "pkg/__init__.py": ""}
         with tempfile.TemporaryDirectory() as elsewhere:
             with Running([*PYTHON, "app.handler"], files) as task:
                 with Running([*PYTHON, "app.handler"], run_from=elsewhere, LAMBDA_TASK_ROOT=task.folder) as running:
                     self.check("Python: LAMBDA_TASK_ROOT", running.invoke({})[1], running.runtime.pid)
+
+    def test_a_handler_may_take_the_event_alone_or_any_arguments(self):
+        files = {"app.py": PYTHON_APP, "pkg/app.py": PYTHON_APP, "pkg/__init__.py": ""}
         with Running([*PYTHON, "app.alone"], files) as running:
             self.check("Python: a handler of the event alone", running.invoke({})[1], "alone")
         with Running([*PYTHON, "app.wrapped"], files) as running:
             self.check("Python: a handler of any arguments gets both", running.invoke({})[1], 2)
+
+    def test_without_a_handler_it_greets(self):
         with Running([*PYTHON]) as running:
             self.check("Python: without a handler it greets", running.invoke({"name": "Ada"}),
                        (False, {"greeting": "Hello, Ada!"}))
             self.check("Python: again and again", running.invoke({}), (False, {"greeting": "Hello, world!"}))
 
-    def test_inits(self):
+    def test_a_failed_init_is_reported_by_its_kind(self):
         for name, files, kind, message in PYTHON_INITS:
             with Running([*PYTHON, name], files) as running:
                 told, status, printed = running.init_report()
@@ -186,7 +197,7 @@ class RuntimesPython(RuntimeCase):
                 self.check(what + ": one report, and a caller is told", running.service.history().count("init-failure"),
                            1)
 
-    def test_log(self):
+    def test_lines_of_logging_are_those_of_awslambdaric(self):
         """The lines of the module logging, as awslambdaric prints them."""
         levels: Tuple[Tuple[str, Dict[str, str], Tuple[str, ...]], ...] = (
             ("without a level", {}, ()), ("at the level of the code", {"SET": "INFO"}, ("INFO",)),
@@ -202,6 +213,8 @@ class RuntimesPython(RuntimeCase):
                           + begun("WARNING") + "few are left\n" + begun("ERROR") + "no price\n" + TRACEBACK)
                 self.check(f"Python: logging, {name}", bool(re.fullmatch(wanted, running.output())),
                            shown=running.output())
+
+    def test_lines_of_logging_as_JSON_have_their_moment(self):
         with Running([*PYTHON, "app.handler"], {"app.py": PYTHON_LOG}, AWS_LAMBDA_LOG_FORMAT="JSON") as running:
             request = running.invoke({"order": 7})[1]
             lines = [json.loads(line) for line in running.output().splitlines()]
@@ -217,13 +230,19 @@ class RuntimesPython(RuntimeCase):
                  "errorMessage": "'missing'"}])
             self.check("Python: and where an exception is from", (len(stack), location.endswith("app.py:handler:16")),
                        (1, True))
+
+    def test_an_error_as_JSON_has_its_report(self):
         with Running([*PYTHON, "app.handler"], {"app.py": PYTHON_APP}, AWS_LAMBDA_LOG_FORMAT="JSON") as running:
             told = running.invoke({"do": "key"})[1]
             line = json.loads(running.output())
             line.pop("timestamp")
             self.check("Python: an error as JSON has its report", line, {"log_level": "ERROR", **told})
 
-    def test_edges(self):
+    def test_a_response_after_the_timeout_is_refused_and_the_next_one_served(self):
         self.late("Python", [*PYTHON, "app.handler"], {"app.py": PYTHON_APP})
+
+    def test_it_ends_at_the_container_error_and_at_a_stop(self):
         self.ends("Python", PYTHON, {})
+
+    def test_a_connection_that_was_closed_meanwhile_is_made_anew(self):
         self.closed_connections("Python", PYTHON)

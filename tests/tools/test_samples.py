@@ -50,7 +50,7 @@ def in_words(name):
 
 
 class Samples(Case):
-    def test_all(self):
+    def test_all_samples_are_on_their_page(self):
         kinds = samples()
         self.check("there are as many as the pages say", len(kinds), 48)
         with open(os.path.join(ROOT, "docs", "samples.md")) as file:
@@ -63,7 +63,7 @@ class Samples(Case):
             self.check(f"what is said of {kind} is there", name in kinds)
 
     @WITH_SAM
-    def test_types_of_sam(self):
+    def test_each_type_of_SAM_is_taken_or_has_a_sample(self):
         """Each type of events that SAM's translator knows is taken, or has a sample."""
         from samtranslator.model.eventsources import cloudwatchlogs, pull, push, scheduler  # type: ignore
         found = {getattr(each, "resource_type") for module in (pull, push, scheduler, cloudwatchlogs)
@@ -77,13 +77,13 @@ class Samples(Case):
         for kind in sorted(found | known):
             self.check(f"{kind} is taken or has a sample", kind in READ_ELSEWHERE | ROUTED | set(SAMPLES))
 
-    def test_types_of_serverless(self):
+    def test_each_type_of_Serverless_is_taken_or_has_a_sample(self):
         for kind in OF_SERVERLESS:
             self.check(f"{kind} is taken or has a sample",
                        kind in READ_OF_SERVERLESS | {"http", "httpApi", "alb"} | set(SAMPLES))
 
     @WITH_BOTOCORE
-    def test_by_the_models(self):
+    def test_members_of_samples_are_those_of_the_services_models(self):
         """The members of records are those of the services' models."""
         import botocore.session  # type: ignore
         session = botocore.session.Session()
@@ -108,7 +108,7 @@ class Samples(Case):
         self.check("a job of CodePipeline", (set(job) - shape("codepipeline", "JobDetails"),
                                              set(job["data"]) - shape("codepipeline", "JobData")), (set(), set()))
 
-    def test_by_the_sources(self):
+    def test_members_of_samples_are_those_that_the_sources_make(self):
         """What this tool makes of a message, of a record and of a notification has the members of the sample."""
         message = {"MessageId": "m", "ReceiptHandle": "r", "Body": "b", "MD5OfBody": "x"}
         self.check("a message is one", is_message(message))
@@ -130,7 +130,7 @@ class Samples(Case):
         given = event("sns")["Records"][0]
         self.check("sns", (set(made), set(made["Sns"])), (set(given), set(given["Sns"])))
 
-    def test_by_the_front(self):
+    def test_members_of_samples_are_those_that_the_front_makes(self):
         """What the front makes of a request has the members of the sample, but for those of headers."""
         reader = RequestReader()
         reader.receive(b"POST /orders/7?full=yes HTTP/1.1\r\nHost: a\r\nCookie: session=1\r\nUser-Agent: curl/8.0.0\r\n"
@@ -157,7 +157,7 @@ class Samples(Case):
             self.check(kind, set(event(kind)) - set(made), set())
 
     @unittest.skipUnless(importlib.util.find_spec("moto"), "moto is not here")
-    def test_s3_by_moto(self):
+    def test_what_moto_sends_of_S3_is_in_the_sample(self):
         from types import SimpleNamespace
         from moto.s3.notifications import _get_s3_event  # type: ignore
         bucket = SimpleNamespace(region_name="r", name="b", arn="a")
@@ -168,7 +168,7 @@ class Samples(Case):
             set(made) - set(given), set(made["s3"]) - set(given["s3"]), set(made["s3"]["object"]) - set(
                 given["s3"]["object"]), made["eventVersion"]), (set(), set(), set(), given["eventVersion"]))
 
-    def test_encodings(self):
+    def test_encoded_data_of_samples_can_be_read(self):
         data = gzip.decompress(base64.b64decode(event("cloudwatch_logs")["awslogs"]["data"], validate=True))
         self.check("compressed logs", json.loads(data)["messageType"], "DATA_MESSAGE")
         for kind, path in (("kinesis", ["Records", 0, "kinesis", "data"]), ("firehose", ["records", 0, "data"]),
@@ -183,7 +183,7 @@ class Samples(Case):
             event("config_rule")["invokingEvent"]))
         self.check("nothing is sent to AWS", event("cloudformation")["ResponseURL"].startswith("http://127.0.0.1:9/"))
 
-    def test_set(self):
+    def test_values_of_a_sample_can_be_set(self):
         payload = b'{"a": {"b": [1, {"c": null}], "x.y": "t", "q\\"": 1}, "e": {}}'
         for options, wanted in (
                 (["a.b[0]=7"], {"b": [7, {"c": None}], "x.y": "t", 'q"': 1}),
@@ -210,7 +210,7 @@ class Samples(Case):
                 self.check(f"--set {option}", (fault.status, wanted in str(fault)), (2, True), shown=str(fault))
         self.check("without an option the bytes are the same", with_values(b" x ", []), b" x ")
 
-    def test_any_path(self):
+    def test_any_path_sets_a_value_or_is_a_fault(self):
         """Whatever the option is, it is a Fault or sets a value."""
         chosen = random.Random(3)
         for _ in range(20_000):

@@ -10,6 +10,7 @@ from typing import Dict, List, Tuple
 from lambda_local.service import RUNTIME, Service, ask
 from tests import ROOT
 from tests.library.cases import Case
+from tests.library.up_kit import until
 
 MINUTES = 15
 CONFIGURATION = {"account": "123456789012", "region": "us-east-2",
@@ -53,8 +54,7 @@ class Invocation:
         before = service.stats()["entries"]
         runtime = threading.Thread(target=self.take)
         runtime.start()
-        while service.stats()["entries"] == before:
-            time.sleep(0.01)
+        until(lambda: service.stats()["entries"] != before, 30)
         self.caller = threading.Thread(target=self.call)
         self.caller.start()
         runtime.join(PATIENCE)

@@ -38,7 +38,7 @@ print(len(names), "passed")
 
 @unittest.skipUnless(PYTHON and shutil.which("node"), "moto's server, boto3, PyYAML or Node is not here")
 class Shop(Case):
-    def test_shop(self):
+    def test_the_shop_passes_its_own_tests(self):
         with tempfile.TemporaryDirectory() as folder:
             # (on a busy machine an import of boto3 may take longer than the 10 s of an Init)
             values = os.path.join(folder, "values.json")

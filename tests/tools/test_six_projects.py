@@ -236,7 +236,7 @@ class SixProjects(Case):
                 line for line in served.lines if "ignores" in line and "another service must have" not in line], [])
             self.check(f"{name}: it ends", status, 0)
 
-    def test_each(self) -> None:
+    def test_each_of_six_projects_answers_six_callers_at_once(self) -> None:
         for name, (files, routes, table) in PROJECTS.items():
             has_yaml = any(path.endswith((".yaml", ".yml")) for path in files)
             if (HAS_YAML or not has_yaml) and (HAS_NODE or NODE not in files.values()):

@@ -83,15 +83,19 @@ def seen_by(up):
 
 
 class Sources(Case):
-    def test_expressions(self):
+    def test_cron_expressions_fire_when_EventBridge_says(self):
         for text, after, wanted in FIRES:
             expression, moments = cron_of(text), [after]
             for _ in wanted:
                 moments.append(expression.next_after(moments[-1]))
             self.check(f"cron({text})", moments[1:], wanted)
+
+    def test_rates_are_read_as_seconds(self):
         for text, period in (("rate(1 minute)", 60), ("rate(5 minutes)", 300), ("rate(1 hour)", 3600),
                              ("rate(12 hours)", 43200), ("rate(1 day)", 86400), ("rate(7 days)", 604800)):
             self.check(text, rate_of(text).next_after(utc(2026, 1, 1)), utc(2026, 1, 1) + timedelta(seconds=period))
+
+    def test_wrong_expressions_are_refused_at_once(self):
         for text in WRONG:
             begun = time.process_time()
             try:
@@ -101,7 +105,7 @@ class Sources(Case):
                 seen = "refused" if str(fault) else "without a word"
             self.check(f"wrong: {text[:40]}", (seen, time.process_time() - begun < 5), ("refused", True))
 
-    def test_mistakes(self):
+    def test_mistakes_of_schedules_and_queues_are_told(self):
         url = "http://127.0.0.1:9324/0/q"
         mistakes: Tuple[Tuple[Members, str], ...] = (
             ({"queue": {}}, "queue: there is no url, which must be"),
@@ -120,24 +124,33 @@ class Sources(Case):
         for members, wanted in mistakes:
             seen = next(sources.mistakes({"functions": [{"name": "f", **members}]}), "")
             self.check(f"a mistake: {members}", seen[:len("function f: " + wanted)], "function f: " + wanted)
+
+    def test_what_is_no_address_of_a_queue_is_told(self):
         for wrong in ("", "x", "file:///etc/passwd", "http://", "http://h", "http://h/", "ftp://h/q", "http://a b/q",
                       "http://user:word@h/q", "http://h:0/q", "http://h:99999/q", "http://h/q?x", "http://h/q#x",
                       "http://[/q", "http://h/q\r\nX: y", "http://h/" + "q" * 2000, "http://h/\u00e9"):
             seen = next(sources.mistakes({"functions": [{"name": "f", "queue": {"url": wrong}}]}), "")
             self.check(f"no address: {wrong[:30]!r}", "must be the address of a queue" in seen)
+
+    def test_right_schedules_and_queues_are_taken(self):
+        url = "http://127.0.0.1:9324/0/q"
         right: Tuple[Members, ...] = (
             {"schedule": "rate(1 minute)"},
             {"schedule": ["rate(1 minute)", {"expression": "rate(1 day)", "input": 1}]},
             {"queue": {"url": url, "batchSize": 100, "window": 1}})
         for given in right:
             self.check(f"what is right: {given}", list(sources.mistakes({"functions": [{"name": "f", **given}]})), [])
+
+    def test_a_schedule_needs_events_to_be_taken(self):
         off = {"asynchronous": False, "functions": [{"name": "f", "schedule": "rate(1 minute)"}]}
         self.check("a schedule without events", "leave one of the two out" in next(sources.mistakes(off)))
+
+    def test_values_of_other_types_are_refused(self):
         kinds = sources.OF_FUNCTION["schedule"]
         others: Tuple[object, ...] = ([], 5, None, True, [5], ["rate(1 day)"] * 101)
         self.check("other types", [kinds.accepts(value) for value in others], [False] * 6)
 
-    def test_hosts(self):
+    def test_hosts_of_AWS_are_those_of_botocore(self):
         """Those of AWS, with botocore as the oracle."""
         others = ("localhost", "aws", "moto.aws", "amazonaws.com.localhost", "notamazonaws.com", "api.aws.example", "")
         self.check("hosts of others", [host for host in others if is_of_aws(host)], [])
@@ -151,7 +164,7 @@ class Sources(Case):
         names = {one[suffix] for one in partitions for suffix in ("dnsSuffix", "dualStackDnsSuffix")}
         self.check("hosts of each partition", sorted(name for name in names if not is_of_aws(f"SQS.x-1.{name}.")), [])
 
-    def test_of_aws(self):
+    def test_no_queue_of_AWS_is_read(self):
         """No queue of AWS is read with a user's own messages in it, unless they say so."""
         for host in ("sqs.eu-west-1.amazonaws.com", "SQS.US-EAST-1.AMAZONAWS.COM", "eu-west-1.queue.amazonaws.com",
                      "sqs.cn-north-1.amazonaws.com.cn", "sqs.eu-west-1.api.aws", "sqs.eu-west-1.amazonaws.com.",
@@ -160,7 +173,7 @@ class Sources(Case):
             up = Up(functions=[{"name": "f", "runtime": "python", "handler": "app.run", "queue": queue}], app=APP)
             self.check(f"{host} is refused", (up.end(None), "is AWS itself" in up.lines[-1]), ((2, []), True))
 
-    def test_failures(self):
+    def test_a_result_is_a_success_or_names_what_fails(self):
         """Developer Guide, "Implementing partial batch responses": which results are successes, and which fail all."""
         for result, wanted in (
                 ('{"batchItemFailures":[{"itemIdentifier":"a"}]}', ["a"]), ('{"batchItemFailures":[]}', []),
@@ -186,7 +199,7 @@ class Sources(Case):
                 self.check("in time", time.monotonic() - begun < 30)
 
     @WITH_BOTO3
-    def test_batches(self):
+    def test_messages_come_in_batches_with_their_attributes(self):
         attributes = {"Kind": {"StringValue": "a<b", "DataType": "String"}}
         with Server() as server:
             first = server.queue.send("one <&> \u00e9", attributes)
@@ -213,6 +226,10 @@ class Sources(Case):
                 self.check("a line for each batch",
                            until(lambda: up.count(r"\[f\] queue orders: a batch of \d+ ok") == 3, 5))
                 self.check("the user's own credentials are not used", server.is_signed_with("local"))
+
+    @WITH_BOTO3
+    def test_a_window_collects_more_than_a_queue_gives_at_once(self):
+        with Server() as server:
             with self.running(server, queue={"batchSize": 25, "window": 3}) as up:
                 for number in range(25):
                     server.queue.send(f"message {number:02}")
@@ -221,7 +238,7 @@ class Sources(Case):
                            max(len(event["Records"]) for event in seen_by(up)) > 10)
 
     @WITH_BOTO3
-    def test_what_fails(self):
+    def test_a_message_that_fails_stays_and_comes_again(self):
         with Server(visibility=3) as server:
             with self.running(server, queue={"batchSize": 2}) as up:
                 server.queue.send("part")
@@ -232,6 +249,9 @@ class Sources(Case):
                 self.check("it comes again", until(lambda: len(seen_by(up)) >= 2, 30))
                 self.check("by its count",
                            seen_by(up)[-1]["Records"][0]["attributes"]["ApproximateReceiveCount"] != "1")
+
+    @WITH_BOTO3
+    def test_a_batch_that_fails_stays_whole_and_a_line_says_so(self):
         for body, why in (("fail", "failed: its messages stay"),
                           ("unknown", "its batchItemFailures name no message of it")):
             with Server() as server:
@@ -240,7 +260,7 @@ class Sources(Case):
                     self.check(f"{body}: a line says so", up.until(why, 60))
                     self.check("the message stays", server.queue.bodies(), [body])
 
-    def test_odd_messages(self):
+    def test_whatever_a_server_gives_is_no_message_or_makes_an_event(self):
         """Whatever a server gives is no message, or an event can be made of it."""
         chosen = random.Random(7)
         values = (None, 5, 1.5, True, "", "text", "\ud800", b"\xff", [], ["x"], {}, {"StringValue": 5}, {"x": None},
@@ -257,7 +277,7 @@ class Sources(Case):
         self.check("what is no object is none", [is_message(value) for value in values], [False] * len(values))
 
     @WITH_BOTO3
-    def test_a_server_that_holds(self):
+    def test_a_server_that_holds_a_poll_does_not_hold_up_the_end(self):
         """A server that does not answer a poll does not hold up the end."""
         with socket.socket() as silent:
             silent.bind(("127.0.0.1", 0))
@@ -275,7 +295,7 @@ class Sources(Case):
             self.check("it ends within seconds", seconds < 7, shown=seconds)
 
     @WITH_BOTO3
-    def test_wrong_servers(self):
+    def test_a_wrong_answer_of_a_server_is_told_and_stops_nothing(self):
         with Server() as server:
             with self.running(server) as up:
                 self.check("it is polled", until(lambda: server.queue.asked != [], 60))
@@ -297,15 +317,21 @@ class Sources(Case):
                 self.check("a wrong answer is told, and stops nothing",
                            up.count("queue orders: cannot be polled: ") >= 1)
                 self.check("the queue is polled again", until(lambda: not server.queue.bodies(), 60))
+
+    @WITH_BOTO3
+    def test_a_server_that_is_not_there_is_told(self):
         with self.running(type("Gone", (), {"url": "http://127.0.0.1:9/0/q"})) as up:
             self.check("no server", up.until("queue q: cannot be polled: EndpointConnectionError", 30))
+
+    @WITH_BOTO3
+    def test_a_stop_leaves_a_message_that_is_in_work(self):
         with Server() as server:
             server.queue.send("slow")
             with self.running(server) as up:
                 self.check("a slow message is taken", until(lambda: len(seen_by(up)) == 1, 60))
             self.check("a stop leaves it in the queue", server.queue.bodies(), ["slow"])
 
-    def test_schedule(self):
+    def test_a_schedule_fires_each_minute_with_its_event(self):
         """A schedule of each minute: its event is Lambda's example of one."""
         function = {"name": "f", "runtime": "python", "handler": "app.run",
                     "schedule": ["cron(* * * * ? *)", {"expression": "cron(0/1 * * * ? *)", "input": {"own": 1}}]}

@@ -58,25 +58,25 @@ def wakes_in(service, seconds):
 
 
 class Stopping(Case):
-    def test_waits(self):
+    def test_it_waits_for_the_status_of_a_process(self):
         self.check("the status of a process that ends", ended(0.1, 30), 3)
         self.check("a process that goes on", ended(30, 0.1), "goes on")
         with subprocess.Popen(["true"]) as child:
             child.wait()
             self.check("a process whose status was taken already", wait_for(child, 1), 0)
 
-    def test_waits_without_descriptors(self):
+    def test_it_waits_without_descriptors_too(self):
         """As on a system before Linux 5.3."""
         opens = getattr(os, "pidfd_open", None)
         if opens:
             del os.pidfd_open
         try:
-            self.test_waits()
+            self.test_it_waits_for_the_status_of_a_process()
         finally:
             if opens:
                 os.pidfd_open = opens
 
-    def test_waits_beside_another(self):
+    def test_it_waits_beside_another_thread(self):
         """lambda_local up has a thread that waits for the service as well."""
         seen: Set[Union[int, str]] = set()
         for _ in range(30):
@@ -90,14 +90,14 @@ class Stopping(Case):
                 other.join()
         self.check("a process that another thread waits for too", seen, {0})
 
-    def test_stops(self):
+    def test_a_service_stops_in_order_with_its_counts(self):
         service = Service(CONFIGURATION)
         begun = time.monotonic()
         status, counts = service.stop()
         self.check("a service that is stopped in order", (status, counts.startswith("admitted")), (0, True))
         print(f"      (it took {1000 * (time.monotonic() - begun):.0f} ms)")
 
-    def test_never_starts(self):
+    def test_a_program_that_never_starts_is_ended(self):
         """A program that closes its standard error and goes on is no service: it is ended."""
         with tempfile.TemporaryDirectory() as folder:
             program = os.path.join(folder, "program")
@@ -111,14 +111,14 @@ class Stopping(Case):
             with open(os.path.join(folder, "pid")) as file:
                 self.check("and leaves nothing", os.path.exists(f"/proc/{file.read().strip()}"), False)
 
-    def test_ends_at_once(self):
+    def test_a_service_ends_at_once_after_its_stop(self):
         """It takes a few milliseconds; the bound is for a busy machine. A service that looks whether it is over takes
         50 ms and more, and less only by chance."""
         taken = statistics.median(seconds_to_the_end() for _ in range(15))
         self.check("a service ends at once after the answer to its stop", taken < 0.03)
         print(f"      (it took {1000 * taken:.1f} ms, as the median of 15)")
 
-    def test_sleeps(self):
+    def test_an_idle_service_does_not_wake(self):
         service = Service(CONFIGURATION)
         try:
             time.sleep(1)

@@ -60,16 +60,18 @@ def outcome(up, name="f", body=b"{}", headers={}):
 
 
 class Choices(Case):
-    def test_forms(self):
+    def test_a_storm_is_a_seed_and_a_rate(self):
         for text, wanted in (("7", Storm(7, 0.1)), ("0:1", Storm(0, 1.0)), ("18446744073709551615:0.25", Storm(
                 2 ** 64 - 1, 0.25)), ("7:0.001", Storm(7, 0.001))):
             self.check(f"the storm {text}", storm_of(text), wanted)
+
+    def test_what_is_no_storm_is_refused(self):
         for text in ("", "a", "-1", "+1", "7:", "7:0", "7:1.1", "7:0.0001", "7:1e-1", ":1", "7:.5", "7 ", "\u0667",
                      "18446744073709551616", "7:0.5:1", "7:nan"):
             with self.assertRaises(ValueError, msg=text):
                 storm_of(text)
 
-    def test_bounds(self):
+    def test_a_course_is_of_its_seed_and_as_often_as_its_rate_says(self):
         for rate in (0.1, 0.5, 1.0):
             courses = [Course(Storm(seed, rate), "f", KINDS) for seed in range(200)]
             drawn = [[course.next()[1] for _ in range(120)] for course in courses]
@@ -86,13 +88,17 @@ class Choices(Case):
             self.check(f"{rate}: as often as it says", abs(share - wanted) < 0.1 * wanted, shown=(share, wanted))
             self.check(f"{rate}: each kind as often as the others", all(
                 abs(found.count(kind) / len(found) - 1 / len(KINDS)) < 0.05 for kind in KINDS))
+
+    def test_functions_have_storms_of_their_own(self):
         one, other = (Course(Storm(7, 0.5), name, KINDS) for name in ("f", "g"))
         self.check("functions have storms of their own", [one.next() for _ in range(99)] != [
             other.next() for _ in range(99)])
+
+    def test_what_cannot_be_made_is_not_drawn(self):
         by_hand = Course(Storm(7, 1.0), "f", (THROTTLE,))
         self.check("what cannot be made is not drawn", {by_hand.next()[1] for _ in range(30)}, {THROTTLE, None})
 
-    def test_roots(self):
+    def test_the_root_of_a_trace_is_read(self):
         for trace, wanted in (("Root=1-2-3;Parent=4;Sampled=1", "1-2-3"), ("Self=1-1-1;Root=1-2-3", "1-2-3"),
                               ("Parent=4", None), ("", None), ("NotRoot=1", None)):
             self.check(f"the root of {trace!r}", root_of([("X-Amzn-Trace-Id", trace)]), wanted)
@@ -104,7 +110,7 @@ class OfUp(Case):
         self.check("it is ready", up.until("[up] ready", READY_SECONDS))
         return up
 
-    def test_again(self):
+    def test_the_nth_invocation_meets_the_same_trouble_again_one_by_one_and_at_once(self):
         """One caller after the other, and three at once: the n-th invocation meets the same."""
         seen, met = [], set()
         for at_once in (1, 3):
@@ -142,7 +148,7 @@ class OfUp(Case):
         if not holds:
             self.check(name, False, shown=shown)
 
-    def test_spared(self):
+    def test_retries_and_inner_calls_are_spared(self):
         up = self.started(function(), function("g"), function("outer", "outer"),
                           whole={"asynchronous": {"delays": [0.1]}})
         for _ in range(8):
@@ -165,7 +171,7 @@ class OfUp(Case):
                                                     up.get("/2019-09-30/functions/f/concurrency")], [True, "{}"])
         self.check("it ends", up.end()[1], [])
 
-    def test_by_hand(self):
+    def test_what_up_has_not_started_can_only_be_throttled(self):
         """What up has not started can only be throttled; a name that there is not is as ever."""
         up = Up("--storm", "3:1", functions=[{"name": "f", "timeout": 900, "ports": [0]}], app=APP)
         self.check("it is there", up.until("callers: "))
@@ -175,7 +181,7 @@ class OfUp(Case):
         self.check("one line", [one[1:] for one in told(up)][:1], [(1, told(up)[0][2], "throttle", True)])
         self.check("it ends", up.end()[1], [])
 
-    def test_faults(self):
+    def test_faults_of_the_option_are_told(self):
         for words, wanted in ((["--storm", "x"], "--storm: invalid SEED[:RATE]"),
                               (["--storm", "7:2"], "--storm: invalid SEED[:RATE]"),
                               (["--storm", "7", "--debug", "f"], "--storm and --debug: ")):
@@ -204,7 +210,7 @@ class OfTest(Case):
         service.storm = storm
         return service.start({"f": {"timeout": 900}}, f=lambda event: event, **words)
 
-    def test_in_process(self):
+    def test_in_a_test_the_same_seed_has_the_same_course_as_in_up(self):
         began = time.monotonic()
         seen, lines = storm_over(self.service("4:1"), COUNT)
         again, _ = storm_over(self.service("4:1", asynchronous=True), COUNT)
@@ -218,6 +224,8 @@ class OfTest(Case):
         self.check("in the order of lambda_local up", seen, [wanted[drawn.next()[1]] for _ in range(COUNT)])
         self.check("the end says how many", SUMMARY.search(lines)[2], str(COUNT))
         self.check("and each has a line", len(re.findall(r"storm 4: f #", lines)), int(SUMMARY.search(lines)[1]))
+
+    def test_in_a_test_what_is_no_storm_is_refused(self):
         for storm in ("x", -1, True, 7.5, "7:2"):
             try:
                 self.service(storm)
@@ -225,7 +233,7 @@ class OfTest(Case):
             except ValueError as fault:
                 self.check(f"no storm: {storm}", str(fault).startswith("storm: "), shown=fault)
 
-    def test_events(self):
+    def test_in_a_test_events_come_through(self):
         service = self.service("7:1", asynchronous={"delays": [0.01]})
         with contextlib.redirect_stderr(io.StringIO()):
             with service:

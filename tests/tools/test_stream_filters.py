@@ -38,12 +38,12 @@ RULES = (({"UserID": [None]}, {"Name": [None]}), ({"LastName": [""]}, {"Name": [
 
 
 class StreamFilters(Case):
-    def test_rules(self) -> None:
+    def test_a_pattern_takes_what_its_rules_say(self) -> None:
         for met, unmet in RULES:
             self.check(f"{met}", (list(filters.mistakes(met, "")), filters.takes(met, EVENT)), ([], True))
             self.check(f"{unmet}", (list(filters.mistakes(unmet, "")), filters.takes(unmet, EVENT)), ([], False))
 
-    def test_mistakes(self) -> None:
+    def test_mistakes_of_patterns_are_told(self) -> None:
         deep: Dict[str, Any] = {"a": ["x"]}
         for _ in range(30):
             deep = {"a": deep}
@@ -69,7 +69,7 @@ class StreamFilters(Case):
                    "or an object")
 
     @WITH_MOTO
-    def test_by_moto(self) -> None:
+    def test_random_patterns_take_what_moto_takes(self) -> None:
         """Random patterns and events, as moto's EventBridge has them."""
         from moto.events.models import EventPattern  # type: ignore
         chosen, taken = random.Random(5), 0
@@ -104,7 +104,7 @@ class StreamFilters(Case):
         return "{}" in text or "anything-but" in json.dumps(pattern) and ("{" in text[1:] or "null" in text) or (
             "true" in text)
 
-    def test_data_of_kinesis(self) -> None:
+    def test_data_of_Kinesis_are_filtered_as_JSON(self) -> None:
         def event(data: bytes) -> Dict[str, Any]:
             return {"eventSource": "aws:kinesis", "kinesis": {"data": base64.b64encode(data).decode(),
                                                               "partitionKey": "7"}}
@@ -118,7 +118,7 @@ class StreamFilters(Case):
         self.check("one of several", filters.is_taken([{"data": ["a"]}, {"data": ["b"]}], event(b"b")))
         self.check("none are none", filters.is_taken([], event(b"b")))
 
-    def test_what_is_left_out_is_done(self) -> None:
+    def test_what_a_filter_leaves_out_is_done(self) -> None:
         kept = Kept()
         reader = Driven(FakeServer(a=[1, 2, 3, 4, 5]), checkpoints=kept, filters=[{"n": [{"numeric": ["<=", 3]}]}],
                         batchSize=2).drive(20)

@@ -22,7 +22,7 @@ MOMENT = datetime(2026, 11, 29, 12, 0, 0, 123456, tzinfo=timezone.utc)
 
 
 class StreamParts(Case):
-    def test_members(self) -> None:
+    def test_mistakes_of_streams_and_topics_are_told(self) -> None:
         good: Members = {"url": URL, "kinesis": "clicks"}
         for given, wanted in (
                 ({"stream": 5}, None), ({"stream": {}}, "stream: there is no url, which must be a string: the"),
@@ -62,7 +62,7 @@ class StreamParts(Case):
         for url in ("ftp://a", "http://", "http://a/b", "http://a?b", "http://u@a", "http://a b", "http://a:0", "x"):
             self.check(f"no address: {url}", is_endpoint(url), False)
 
-    def test_failures_in_a_result(self) -> None:
+    def test_failures_in_a_result_are_read(self) -> None:
         for result, wanted in (
                 ('{"batchItemFailures":[{"itemIdentifier":"2"}]}', 1), ('{"batchItemFailures":[]}', None),
                 ('{"batchItemFailures":null}', None), ("{}", None), ("null", None), ('"x"', None), ("x", None),
@@ -73,7 +73,7 @@ class StreamParts(Case):
                 ("[" * 100_000, None)):
             self.check(f"a result: {result[:60]}", failing_in(result.encode(), ["1", "2", "3"]), wanted)
 
-    def test_what_follows(self) -> None:
+    def test_what_follows_a_failed_batch_is_by_its_rules(self) -> None:
         def shown(then: batches.After) -> object:
             return (numbers(then.done), numbers(then.given_up), [(numbers(one.records), one.tries)
                                                                  for one in then.left], then.is_split)
@@ -92,12 +92,14 @@ class StreamParts(Case):
         self.check("old ones", [numbers(one if isinstance(one, tuple) and not isinstance(one, Batch) else one.records)
                                 for one in batches.without_old(Batch((record(1, arrived=0), record(2, arrived=9000))),
                                                                70_000, stream(maximumAge=65))], [[1], [2]])
+
+    def test_an_event_has_room_for_6_MiB_of_records(self) -> None:
         many = [record(number, 2_000_000) for number in range(5)]
         self.check("an event has room for three of these", batches.cut(many, 100), 3)
         self.check("and for none of this", batches.cut([record(1, 7_000_000)], 100), 0)
         self.check("as many as are asked for", batches.cut([record(n) for n in range(9)], 4), 4)
 
-    def test_each_batch_ends(self) -> None:
+    def test_each_record_of_a_batch_ends_once_and_in_order(self) -> None:
         """Whatever a function answers, each record is done or given up in the end, in order, and none is in more than
         its attempts allow."""
         chosen = random.Random(11)
@@ -117,7 +119,7 @@ class StreamParts(Case):
                 self.check("each record once, in order", (ended, counted, retries), None)
         self.check("each record is over once, in its order", True)
 
-    def test_what_is_sent(self) -> None:
+    def test_what_is_sent_of_a_failed_batch_is_as_the_guide_has_it(self) -> None:
         """As the Developer Guide's examples have it, member by member."""
         last = failures.Invoked("c9b8fa9f-5a7f-xmpl-af9c-0c604cde93a5", 200, "Unhandled")
         moment = 1573691886021
@@ -143,7 +145,7 @@ class StreamParts(Case):
 
     # ---- events ------------------------------------------------------------------------------------------------------
 
-    def test_records_of_kinesis(self) -> None:
+    def test_records_of_Kinesis_are_as_the_guide_has_them(self) -> None:
         server = Kinesis(None, stream(), "us-east-2", "123456789012")
         server.arn = "arn:aws:kinesis:us-east-2:123456789012:stream/lambda-stream"
         given = {"Data": b"Hello, this is a test.", "PartitionKey": "1",
@@ -165,7 +167,7 @@ class StreamParts(Case):
             self.check(f"no record: {name} is {str(wrong)[:9]}", server.record_of({**given, name: wrong}, "s"), None)
         self.check("nor is this", [server.record_of(one, "s") for one in (None, 5, [], "x", {})], [None] * 5)
 
-    def test_records_of_tables(self) -> None:
+    def test_records_of_tables_are_as_the_guide_has_them(self) -> None:
         server = DynamoDb(None, stream(), "us-east-1")
         server.arn = "arn:aws:dynamodb:us-east-1:123456789012:table/T/stream/2026-11-29T00:00:00.000"
         given = {"eventID": "1", "eventName": "REMOVE", "eventVersion": "1.1", "eventSource": "aws:dynamodb",
@@ -192,7 +194,7 @@ class StreamParts(Case):
                 **given["dynamodb"], **change}}, "s"), None)  # type: ignore[dict-item]
 
     @WITH_BOTOCORE
-    def test_by_the_model(self) -> None:
+    def test_records_of_tables_have_all_that_the_model_has(self) -> None:
         """What a record of DynamoDB Streams may have is what the event has, as botocore's model of the service says."""
         import botocore.session  # type: ignore
         shape = botocore.session.Session().get_service_model("dynamodbstreams").shape_for("Record")
@@ -206,7 +208,7 @@ class StreamParts(Case):
         self.check("all members of a record", set(made.event), {*shape.members, "eventSourceARN"})
         self.check("all of a change", set(made.event["dynamodb"]), set(whole))
 
-    def test_notifications(self) -> None:
+    def test_notifications_are_as_the_guide_has_them(self) -> None:
         given = {"Type": "Notification", "MessageId": "m", "TopicArn": "t", "Subject": "s", "Message": "text",
                  "Timestamp": "2019-01-02T12:45:07.000Z", "SignatureVersion": "1", "Signature": "x",
                  "SigningCertURL": "https://c", "UnsubscribeURL": "https://u",

@@ -28,7 +28,7 @@ WITH_BOTOCORE = unittest.skipUnless(importlib.util.find_spec("botocore"), "botoc
 
 
 class StreamReaders(Case):
-    def test_parents_first(self) -> None:
+    def test_parents_are_read_first(self) -> None:
         """A shard that is split, and two that are merged: what came of them is read after them."""
         server = FakeServer(a=[1, 2, 3], b=[1, 2], c=[4, 5], d=[4], e=[6])
         server.parents, server.closed = {"c": ["a"], "d": ["a", "b"], "e": ["c", "d"]}, {"a", "b", "c", "d"}
@@ -45,7 +45,7 @@ class StreamReaders(Case):
         reader.drive()
         self.check("one that comes later", reader.came[-1], [7])
 
-    def test_a_shard_waits_for_its_batch(self) -> None:
+    def test_a_shard_waits_for_its_batch_alone(self) -> None:
         failing = [True]
         reader = Driven(FakeServer(a=[1, 2, 3, 4], b=[9]),
                         lambda found: "failed" if failing[0] and 1 in found else None, batchSize=2)
@@ -57,13 +57,13 @@ class StreamReaders(Case):
         reader.drive(20)
         self.check("and then it goes on", reader.came[-1], [3, 4])
 
-    def test_throttles(self) -> None:
+    def test_throttles_are_no_attempts(self) -> None:
         """They are no attempts."""
         answers = [429] * 5 + [500, 429]
         reader = Driven(FakeServer(a=[1]), lambda found: answers.pop(0) if answers else None, retries=0).drive(40)
         self.check("it is invoked until it is", (reader.came, reader.handled, reader.given_up), ([[1]] * 8, 1, 0))
 
-    def test_newest(self) -> None:
+    def test_the_newest_position_leaves_out_what_was_there(self) -> None:
         server = FakeServer(a=[1, 2], b=[3])
         server.closed = {"b"}
         reader = Driven(server, position="LATEST").drive(5)
@@ -74,7 +74,7 @@ class StreamReaders(Case):
         reader.drive(20)
         self.check("what comes is read, and a new shard from its beginning", sorted(sum(reader.came, [])), [4, 5, 6])
 
-    def test_iterators(self) -> None:
+    def test_an_iterator_that_has_expired_loses_nothing(self) -> None:
         server = FakeServer(a=[1, 2, 3])
         server.faults = [AwsFault("ExpiredIteratorException"), AwsFault("ProvisionedThroughputExceededException"),
                          ValueError("what is this?")]
@@ -83,6 +83,8 @@ class StreamReaders(Case):
         self.check("one line for faults, and one for their end", [line for line in reader.lines if "it " in line], [
             "it cannot be read: AwsFault: ProvisionedThroughputExceededException: it is asked again after pauses of "
             "up to 30 s", "it is read again"], shown=reader.lines)
+
+    def test_what_is_not_kept_any_more_is_told(self) -> None:
         trimmed = FakeServer(a=[5, 6])
         ask = trimmed.iterator
 
@@ -95,7 +97,7 @@ class StreamReaders(Case):
         self.check("what is not kept any more is told, and the oldest is next", (reader.came, any(
             "are not kept any more" in line for line in reader.lines)), ([[5, 6]], True))
 
-    def test_lies(self) -> None:
+    def test_odd_and_repeated_records_end_only_themselves(self) -> None:
         server = FakeServer(a=[1, 2, 2, 1, 3])
         server.odd = ["no record", None, {}]
         reader = Driven(server).drive(20)
@@ -112,6 +114,8 @@ class StreamReaders(Case):
         reader.drive(20)
         self.check("a new stream of the same name is read from its beginning", reader.came[2:], [[1]])
         self.check("which is told", any("another stream of this name" in line for line in reader.lines))
+
+    def test_a_record_without_room_in_an_event_is_dropped_alone(self) -> None:
         large = FakeServer(a=[1, 2])
         large.record_of = lambda given, shard: record(given, 7_000_000 if given == 1 else 5)  # type: ignore
         reader = Driven(large).drive(20)
@@ -119,7 +123,7 @@ class StreamReaders(Case):
 
     # ---- positions ---------------------------------------------------------------------------------------------------
 
-    def test_positions(self) -> None:
+    def test_positions_are_kept_from_run_to_run(self) -> None:
         with tempfile.TemporaryDirectory() as folder:
             path = os.path.join(folder, "positions.json")
             server = FakeServer(a=[1, 2, 3], b=[4])
@@ -148,6 +152,10 @@ class StreamReaders(Case):
             fourth = Driven(server, function, Checkpoints(path, "w")).drive(20)
             self.check("positions of another stream are left aside", (fourth.came, any(
                 "is of another stream" in line for line in fourth.lines)), ([[1, 2, 3], [4, 5, 6]], True))
+
+    def test_wrong_positions_are_refused(self) -> None:
+        with tempfile.TemporaryDirectory() as folder:
+            path = os.path.join(folder, "positions.json")
             for text in ("", "[]", '{"stream":"x"}', '{"stream":"x","shards":{"a":5}}',
                          '{"stream":"x","shards":{"a":{"after":"x"}}}', '{"stream":"x","shards":{"a":{"after":5}}}'):
                 with open(path, "w") as file:
@@ -159,7 +167,7 @@ class StreamReaders(Case):
                     self.check(f"positions: {text}", (fault.status, "remove it to begin anew" in str(fault)), (2, True))
 
     @WITH_BOTOCORE
-    def test_a_server_that_holds(self) -> None:
+    def test_a_server_that_holds_holds_up_neither_start_nor_end(self) -> None:
         """A server that answers nothing holds up neither the start nor the end."""
         with socket.socket() as silent:
             silent.bind(("127.0.0.1", 0))
@@ -189,7 +197,7 @@ class StreamReaders(Case):
             connection.close()
 
     @WITH_BOTOCORE
-    def test_servers_that_lie(self) -> None:
+    def test_servers_that_lie_cost_a_line_and_pauses(self) -> None:
         """Whatever a server answers costs a line and pauses."""
         answers = [b"", b"{}", b"[]", b"null", b"<a/>", b"\0\xff", b'{"Shards": 5}', b'{"Topics": 7}', b"{" * 5000,
                    b'{"StreamDescriptionSummary": []}']
@@ -236,7 +244,7 @@ class StreamReaders(Case):
         server.shutdown()
         server.server_close()
 
-    def test_what_is_held(self) -> None:
+    def test_beyond_a_bound_no_further_shard_is_read(self) -> None:
         """Beyond a bound no further shard is read."""
         server = FakeServer(a=[1], b=[2], c=[3])
         server.record_of = lambda given, shard: record(given, 5_000_000)  # type: ignore
@@ -250,7 +258,7 @@ class StreamReaders(Case):
         finally:
             streams.MOST_HELD = before
 
-    def test_a_topic(self) -> None:
+    def test_a_topic_is_subscribed_again_when_its_subscription_or_queue_goes(self) -> None:
         """What a topic's server may do: the subscription goes, the queue goes, a message is none."""
         def notification(text: str) -> str:
             return json.dumps({"Type": "Notification", "MessageId": text, "TopicArn": "t", "Message": text,
@@ -288,6 +296,6 @@ class StreamReaders(Case):
         topic.step()
         self.check("no queue of AWS itself is used", (topic.queue, topic.pause), ("", 0.5))
 
-    def test_state_of_a_shard(self) -> None:
+    def test_a_shard_of_which_nothing_was_read_is_not_over(self) -> None:
         shard = Shard(SeenShard("a", (), True), "TRIM_HORIZON", stream())
         self.check("a shard that nothing was read of is not over", shard.is_over, False)

@@ -163,7 +163,7 @@ class Streaming(Case):
         self.check("it is ready", up.until("[up] ready"), True)
         return up
 
-    def test_by_url(self):
+    def test_a_streamed_response_comes_by_a_URL_as_it_is_sent(self):
         up = self.started()
         got = Got(up, parts=["one", "two", "three"], pause=0.5, type="text/plain")
         self.check("a streamed response", got.seen, (200, b"onetwothree", True))
@@ -204,7 +204,7 @@ class Streaming(Case):
         self.check("one after all that", Got(up, parts=["a", "b"]).seen, (200, b"ab", True))
         self.check("it ends", up.end(), (0, []))
 
-    def test_large(self):
+    def test_a_large_response_breaks_off_beyond_6_MiB_and_waits_for_its_reader(self):
         up = self.started(timeout=20)
         got = Got(up, parts=["x"] * 60, times=100_000)
         self.check("six million bytes", (got.status, len(got.body), got.is_whole), (200, 6_000_000, True))
@@ -225,7 +225,7 @@ class Streaming(Case):
         self.check("an invocation after that", Got(up, parts=["b"]).seen, (200, b"b", True))
         self.check("it ends", up.end(), (0, []))
 
-    def test_left(self):
+    def test_a_caller_that_goes_in_a_prelude_holds_up_no_function(self):
         """A caller that goes while a prelude comes holds up no function."""
         up = self.started(timeout=30)
         peer = socket.create_connection(("127.0.0.1", up.url))
@@ -239,7 +239,7 @@ class Streaming(Case):
         self.check("all of its response is taken", until(lambda: outputs(up) == ["x" * 360_000], 20))
         self.check("it ends", up.end(), (0, []))
 
-    def test_several(self):
+    def test_several_callers_get_each_their_own(self):
         """Callers at the same time get each their own."""
         up = self.started(environments=4)
         got = together(*(functools.partial(Got, up, parts=[letter] * 5, pause=0.1) for letter in "abcd"))
@@ -247,10 +247,12 @@ class Streaming(Case):
                    [(200, letter.encode() * 5, True) for letter in "abcd"])
         self.check("it ends", up.end(), (0, []))
 
-    def test_framing(self):
+    def test_messages_are_framed_as_AWS_does(self):
         self.check("a checksum of AWS's test suite", f"{zlib.crc32(bytes.fromhex('0000001000000000')):08x}", "05c248eb")
         self.check("messages", messages(frames.payload_chunk(b"\0a") + frames.invoke_complete("E", "why")),
                    [("PayloadChunk", b"\0a"), ("InvokeComplete", b'{"ErrorCode": "E", "ErrorDetails": "why"}')])
+
+    def test_botocore_reads_the_messages(self):
         try:
             from botocore.eventstream import EventStreamBuffer
         except ImportError:
@@ -263,7 +265,7 @@ class Streaming(Case):
                    [("PayloadChunk", "application/octet-stream", b"data"), ("InvokeComplete", "application/json",
                                                                             b"{}")])
 
-    def test_by_operation(self):
+    def test_the_operation_answers_by_messages(self):
         up = self.started(timeout=1)
         status, headers, body = ask(up, {"parts": ["one", "two"], "pause": 0.2})
         self.check("its answer", (status, headers["Content-Type"], headers["X-Amz-Executed-Version"]),
@@ -297,7 +299,7 @@ class Streaming(Case):
         self.check("its URL's configuration", got["InvokeMode"], "RESPONSE_STREAM")
         self.check("it ends", up.end(), (0, []))
 
-    def test_without_proxy(self):
+    def test_without_a_proxy_the_answer_is_one_piece(self):
         """A function without a streaming URL gives one piece."""
         up = Up(functions=[{"name": "f", "command": ["./streaming"], "timeout": 5}], files={"streaming": STREAMING})
         self.check("it is ready", up.until("[up] ready"), True)
@@ -305,7 +307,7 @@ class Streaming(Case):
                    [("PayloadChunk", b"onetwo"), ("InvokeComplete", b"{}")])
         self.check("it ends", up.end(), (0, []))
 
-    def test_by_boto3(self):
+    def test_boto3_reads_the_stream_in_pieces(self):
         try:
             import boto3
             from botocore.config import Config
@@ -327,7 +329,7 @@ class Streaming(Case):
             self.check("in pieces", len(found), 3)
         self.check("it ends", up.end(), (0, []))
 
-    def test_with_telemetry(self):
+    def test_telemetry_has_the_bytes_status_and_time_of_a_stream(self):
         settings = {**function({"x": probe()}), "url": {"invoke": "RESPONSE_STREAM"}}
         del settings["runtime"], settings["handler"]
         up = Up(functions=[{**settings, "command": ["./streaming"]}], files={"probe": PROBE, "streaming": STREAMING})
@@ -343,7 +345,7 @@ class Streaming(Case):
         self.check("and how long it took", spans["responseDuration"] > 300 > spans["responseLatency"], True)
         self.check("it ends", up.end(), (0, []))
 
-    def test_by_node(self):
+    def test_a_streaming_handler_of_Node_is_streamed(self):
         if not shutil.which("node"):
             print("note node is not here")
             return
@@ -367,7 +369,7 @@ class Streaming(Case):
             "errorMessage"]), ("InvokeComplete", "Runtime.TypeError", "late"))
         self.check("it ends", up.end(), (0, []))
 
-    def test_mistakes(self):
+    def test_another_mode_is_refused(self):
         up = Up(functions=[{"name": "f", "command": "true", "url": {"invoke": "STREAM"}}])
         status, _ = up.end(None)
         self.check("another mode is refused", (status, up.lines),

@@ -117,7 +117,7 @@ HEADERS = [("Lambda-Runtime-Function-Response-Mode", "streaming")]
 
 
 class StreamingPairs(Case):
-    def test_inner(self) -> None:
+    def test_an_inner_invocation_gets_its_own_answer(self) -> None:
         """A function that invokes another one before it answers, with the trace that it was given."""
         up = up_of()
         self.check("it is ready", up.until("[up] ready"), True)
@@ -136,7 +136,7 @@ class StreamingPairs(Case):
                        (200, b'"a"', True))
         self.check("it ends", up.end(), (0, []))
 
-    def test_forged(self) -> None:
+    def test_what_another_process_posts_goes_to_nobody(self) -> None:
         """What another process posts goes to nobody; nor does what is posted before, or after, its time."""
         up = up_of(of_a={"environments": 2})
         self.check("it is ready", up.until("[up] ready"), True)
@@ -174,7 +174,7 @@ class StreamingPairs(Case):
         self.check("does not either", asked(up, "b", answer=["mine"]), (200, b"mine", True))
         self.check("it ends", up.end(), (0, []))
 
-    def test_early(self) -> None:
+    def test_a_response_that_is_posted_in_init_is_refused_and_its_caller_gets_its_own(self) -> None:
         """A response that is posted in Init, for the invocation that waits for its end."""
         salt = 1 << 16
         identifier = "00000000-0001-8000-8001-000000000001"
@@ -185,7 +185,7 @@ class StreamingPairs(Case):
             self.check("what came early was refused", file.read() in ("400", "403"))
         self.check("it ends", up.end(), (0, []))
 
-    def test_orders(self) -> None:
+    def test_a_response_reaches_its_caller_in_whatever_order_things_are_seen(self) -> None:
         """The history, the proxies and a response may be seen in any order: it reaches its caller once the history says
         so, and no other does."""
         async def told(order: Any, environment: int, others: bool) -> Any:
@@ -217,7 +217,7 @@ class StreamingPairs(Case):
                 self.check(f"{' '.join(order)} at {environment}{', with inner ones' if others else ''}",
                            asyncio.run(told(order, environment, others)), (wanted, "r"))
 
-    def test_held(self) -> None:
+    def test_what_the_history_says_nothing_of_is_held_for_a_while_and_then_nobodys(self) -> None:
         """What the history says nothing of is held for a while, and then nobody's."""
         async def held() -> None:
             streams, before = Streams(), streaming.HELD_SECONDS
@@ -238,7 +238,7 @@ class StreamingPairs(Case):
                 streaming.HELD_SECONDS = before
         asyncio.run(held())
 
-    def test_late(self) -> None:
+    def test_what_was_streamed_counts_if_the_history_is_read_late(self) -> None:
         """What was streamed is that for its caller too if the service answers before its history is read."""
         async def late() -> None:
             streams = Streams()
@@ -255,7 +255,7 @@ class StreamingPairs(Case):
             streams.held[1].giving_up.cancel()
         asyncio.run(late())
 
-    def test_traces(self) -> None:
+    def test_traces_are_paired_with_their_callers(self) -> None:
         async def traces() -> None:
             streams = Streams()
             outer, inner = streams.expect(), streams.expect()

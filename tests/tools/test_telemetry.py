@@ -130,7 +130,7 @@ WRONG: Dict[str, Tuple[Union[bytes, Members], str]] = {
 
 
 class Telemetry(Case):
-    def test_byte_for_byte(self):
+    def test_all_passes_byte_for_byte_and_is_heard(self):
         requests, answers = NEXT + RESPONSE + CHUNKED + OTHER_PUT, ANSWERS[0] + ANSWERS[1] * 3
         heard = [("GET", "/2018-06-01/runtime/invocation/next", b"", 200, b"abc"),
                  ("POST", "/2018-06-01/runtime/invocation/7/response", b"{}", 202, b""),
@@ -150,7 +150,7 @@ class Telemetry(Case):
         self.check("it goes on once it cannot be one", (bytes(talk.to_service), talk.is_held), (b"PURGE / HTTP/1.1\r\n",
                                                                                                 False))
 
-    def test_what_is_malformed(self):
+    def test_what_is_malformed_passes_unchanged(self):
         """Mutants of requests go on unchanged, whatever reads them beside that."""
         chosen, wrong = random.Random(SEEDS), []
         for number in range(MUTANTS):
@@ -168,7 +168,7 @@ class Telemetry(Case):
         service, client, _, _ = passed(b"", b"HTTP/1.1 408 x\r\nContent-Length: 0\r\n\r\n", 9)
         self.check("an answer that nobody asked for passes", client, b"HTTP/1.1 408 x\r\nContent-Length: 0\r\n\r\n")
 
-    def test_answered_here(self):
+    def test_subscriptions_are_answered_here_and_in_their_turn(self):
         for size in (1, 3, 1000):
             service, client, ears, _ = passed(OWN + NEXT, ANSWERS[0], size)
             self.check(f"in pieces of {size} a subscription goes no further", (service, client, ears.own),
@@ -189,7 +189,7 @@ class Telemetry(Case):
         _, client, _, talk = passed(NEXT + OWN * 200, b"", 1000)
         self.check("a hundred requests wait at most on a connection", (client, talk.closes), (b"", True))
 
-    def test_subscriptions(self):
+    def test_a_subscription_is_read_strictly(self):
         found = subscription_of(TELEMETRY, json.dumps(RIGHT).encode())
         self.check("the defaults are the page's", found.buffering, Buffering(10_000, 262_144, 1.0))
         self.check("a destination", found.destination, Destination("HTTP", 8080, "sandbox.localdomain", "/path?x=1",
@@ -212,7 +212,7 @@ class Telemetry(Case):
         self.check("two faults are told in one message", refusal_of(json.dumps(two).encode()),
                    "types should not be empty; URI port is not provided")
 
-    def test_random_bodies(self):
+    def test_any_body_is_a_subscription_or_refused(self):
         """Whatever comes, it is a subscription or is refused."""
         chosen = random.Random(SEEDS)
         values: List[object] = [None, True, 0, -1, 1e300, 10**40, "", "x", "\ud83d", [], [[]], {}, URI, "http://[",
@@ -234,7 +234,7 @@ class Telemetry(Case):
                 raised.append((cut, repr(fault)))
         self.check("5,000 bodies are taken or refused, and raise nothing else", raised[:1], [])
 
-    def test_receivers(self):
+    def test_of_a_receivers_answer_only_its_status_is_read(self):
         """What of a receiver's answer is read, and how it counts."""
         async def answered(data, repeats):
             """How an answer counts, and whether no more than some of it was read."""
@@ -261,7 +261,7 @@ class Telemetry(Case):
                 ("a head that ends early", b"HTTP/1.1 200", 1, ("CutShort", False))):
             self.check(f"an answer of {name}", asyncio.run(answered(data, repeats)), wanted)
 
-    def test_desks(self):
+    def test_a_desk_takes_subscriptions_in_init_alone(self):
         said: List[str] = []
         desk = Desk(About("f", 128, "i"), said.append)
 

@@ -85,7 +85,7 @@ class TelemetryLive(Case):
         self.check("it is ready", up.until("[up] ready"), True)
         return up
 
-    def test_as_in_history(self):
+    def test_events_over_HTTP_and_TCP_are_what_the_history_says(self):
         """Events over HTTP and over TCP are the same, and are what the history says."""
         up = self.started({"x": probe(), "y": probe(protocol="TCP", body=subscription(schema="2025-01-29"))}, timeout=2)
         self.check("an invocation", up.invoke(lines=["one", "two"])[0], 1)
@@ -126,7 +126,7 @@ class TelemetryLive(Case):
         self.check("the memory is that of a process", 5 < memory < 500, True)
         self.check("it ends", up.end(), (0, []))
 
-    def test_ends(self):
+    def test_timeouts_exits_and_restarts_are_told(self):
         """Timeouts, exits and restarts."""
         up = self.started({"x": probe(events=["INVOKE", "SHUTDOWN"])}, timeout=1)
         self.check("an invocation", up.invoke()[0], 1)
@@ -145,7 +145,7 @@ class TelemetryLive(Case):
                    ["INVOKE", "INVOKE", "SHUTDOWN", "INVOKE", "SHUTDOWN", "INVOKE"])
         self.check("it ends", up.end(), (0, []))
 
-    def test_failed_init(self):
+    def test_a_failed_init_is_told_with_what_it_printed(self):
         app = 'import time\ntime.sleep(0.3)\nprint("in vain")\nimport missing_module\n'
         up = Up(functions=[function({"x": probe()})], files={"probe": PROBE}, app=app)
         self.check("the Init fails", up.until("Init failed Runtime.ImportModuleError", 60), True)
@@ -161,7 +161,7 @@ class TelemetryLive(Case):
         self.check("what it printed", "in vain" in lines, True)
         self.check("it ends", up.end(), (0, []))
 
-    def test_logs_api(self):
+    def test_the_Logs_API_has_its_own_words(self):
         up = self.started({"x": probe(LOGS, subscription(schema="2021-03-18")),
                            "y": probe(LOGS, {"types": ["platform", "extension"]}, protocol="TCP")}, timeout=1)
         self.check("an invocation", up.invoke(lines=["line"])[0], 1)
@@ -183,7 +183,7 @@ class TelemetryLive(Case):
                                                "memorySizeMB"]))
         self.check("it ends", up.end(), (0, []))
 
-    def test_json_lines(self):
+    def test_lines_in_JSON_are_objects_but_for_the_first_schema(self):
         line = json.dumps({"level": "INFO", "message": "hi"})
         up = self.started({"x": probe(), "y": probe(body=subscription(["function"], "2022-07-01"))},
                           variables={"AWS_LAMBDA_LOG_FORMAT": "JSON"})
@@ -199,7 +199,7 @@ class TelemetryLive(Case):
                    {"function"})
         self.check("it ends", up.end(), (0, []))
 
-    def test_lines_of_extensions(self):
+    def test_lines_of_extensions_come_to_who_subscribed(self):
         up = self.started({"x": probe(body=subscription(["extension"])), "y": {"events": ["INVOKE"],
                                                                                "prints": "I hear"}})
         self.check("an invocation", up.invoke(lines=["of the function"])[0], 1)
@@ -208,7 +208,7 @@ class TelemetryLive(Case):
                    [("extension", "I hear INVOKE")])
         self.check("it ends", up.end(), (0, []))
 
-    def test_refusals(self):
+    def test_wrong_subscriptions_are_refused_and_the_right_one_is_served(self):
         right = json.dumps({**subscription(), "destination": {"protocol": "TCP", "port": 4242}})
         up = self.started({"x": probe(early=[[TELEMETRY, right, {}]], late=[[TELEMETRY, right, {}], [LOGS, right, {}]],
                                       wrong=[[TELEMETRY, "{", {}], [TELEMETRY, 300_000, {}],
@@ -233,7 +233,7 @@ class TelemetryLive(Case):
                    ["start", "runtimeDone:success", "report:success"])
         self.check("it ends", up.end(), (0, []))
 
-    def test_bad_receivers(self):
+    def test_bad_receivers_cost_no_caller_anything(self):
         """What they do costs no caller anything, and those that come to themselves lose nothing."""
         wrongs = {"hangs": {"hangs": 1}, "garbage": {"garbage": 1}, "away": {"is_down": 600}}
         up = self.started({name: probe(**settings) for name, settings in wrongs.items()}, timeout=5)
@@ -248,7 +248,7 @@ class TelemetryLive(Case):
         self.check("what was lost is told", [up.count(f"{name} did not take \\d+ events") for name in wrongs],
                    [1, 1, 1])
 
-    def test_mending_receivers(self):
+    def test_receivers_that_mend_lose_nothing(self):
         wrongs = {"refuses": {"refuses": 4}, "late": {"is_down": 2}}
         up = self.started({name: probe(**settings) for name, settings in wrongs.items()}, timeout=5)
         self.check("30 invocations", [up.invoke(lines=[str(number)])[0] for number in range(30)], [1] * 30)
@@ -262,7 +262,7 @@ class TelemetryLive(Case):
         self.check("it ends", up.end(), (0, []))
         self.check("and nothing was lost", up.has("did not take"), False)
 
-    def test_flush(self):
+    def test_what_is_buffered_comes_before_the_shutdown(self):
         """What is buffered for half a minute comes before the shutdown."""
         slow = subscription(timeoutMs=30_000)
         up = self.started({"x": probe(body=slow), "y": probe(body=slow, protocol="TCP")})
@@ -287,7 +287,7 @@ class TelemetryLive(Case):
                 self.check(f"before the extension hears of its end ({name})", kinds.index("next") > max(
                     at for at, kind in enumerate(kinds) if kind == "event"), True)
 
-    def test_ignored_shutdown(self):
+    def test_an_extension_that_ignores_its_shutdown_does_not_hold_up_the_end(self):
         """An extension that does not end, and a receiver that takes nothing: the end of tools/up is in order."""
         up = self.started({"x": probe(ignores=True), "y": probe(hangs=1)})
         self.check("an invocation", up.invoke(lines=["last"])[0], 1)
@@ -298,7 +298,7 @@ class TelemetryLive(Case):
                                                           or "destroyed" in line],
                    [])
 
-    def test_stalls(self):
+    def test_what_came_and_what_was_dropped_is_all_that_was_made_for_receivers_that_stall(self):
         """A load with receivers that stall: what came and what was dropped are all that was made."""
         invocations, lines = 30, 2000
         settings = {"x": probe(stalls="go", after=3), "y": probe(protocol="TCP", stalls="go", after=4000), "z": probe()}
@@ -320,7 +320,7 @@ class TelemetryLive(Case):
         print(f"     {invocations} invocations of {lines} lines took {took:.1f} s")
         self.check("it ends", up.end(), (0, []))
 
-    def test_beside_nothing(self):
+    def test_without_telemetry_there_is_no_proxy(self):
         """Without telemetry the processes have the environment's own port."""
         up = Up(functions=[{"name": "f", "runtime": "python", "handler": "app.run"}], app=ADDRESS)
         up.until("[up] ready")
@@ -332,7 +332,7 @@ class TelemetryLive(Case):
         self.check("with it there is one", up.invoke()[0] != f"127.0.0.1:{port}", True)
         self.check("it ends", up.end(), (0, []))
 
-    def test_many_connections(self):
+    def test_a_process_that_leaks_connections_is_served(self):
         up = self.started({"x": probe()}, app=LEAKING, timeout=20)
         for sends in ("", "GET /2018-06-01/runtime/invocation/next HTTP/1.1\r\n", "PUT /2022-07-01/telemetry HT",
                       "\0\xff"):
@@ -343,7 +343,7 @@ class TelemetryLive(Case):
         self.check("its telemetry too", types(events(up)).count("report:success"), 5)
         self.check("it ends", up.end(), (0, []))
 
-    def test_connections_that_end(self):
+    def test_connections_that_end_keep_no_descriptor(self):
         """Of connections that their processes have closed nothing is kept, as of those of curl."""
         up = self.started({"x": probe()}, app=ADDRESS)
         proxy = int(up.invoke()[0].rpartition(":")[2])
@@ -355,7 +355,7 @@ class TelemetryLive(Case):
         self.check("descriptors return after 40 connections", descriptors() < before + 10, shown=descriptors())
         self.check("it ends", up.end(), (0, []))
 
-    def test_passes_what_it_is(self):
+    def test_odd_requests_get_the_services_own_answers(self):
         """The answers to odd requests are those of the environment's own port."""
         up = self.started({"x": probe()}, app=ADDRESS)
         port = json.loads(up.history().splitlines()[1])["functions"][0]["ports"][0]
@@ -382,7 +382,7 @@ class TelemetryLive(Case):
             self.check(f"{method} {path[:50]} {len(body or '')} has the service's answer", seen[1], seen[0])
         self.check("it ends", up.end(), (0, []))
 
-    def test_example(self):
+    def test_the_example_extension_prints_what_its_page_says(self):
         """The extension of examples/, as its own words and docs/telemetry.md say."""
         path = os.path.join(ROOT, "examples", "telemetry.py")
         with open(path) as file:
@@ -395,7 +395,7 @@ class TelemetryLive(Case):
             self.check(f"the example prints {text}", up.until(text, 20), True)
         self.check("it ends", up.end(), (0, []))
 
-    def test_mistakes(self):
+    def test_mistakes_in_UP_json_are_refused(self):
         for name, (members, wanted) in MISTAKES.items():
             up = Up(functions=[{"name": "f", **members}])
             status, _ = up.end(None)

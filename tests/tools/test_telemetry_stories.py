@@ -106,7 +106,7 @@ def invoked(story, clock, identifier="r"):
 
 
 class TelemetryStories(Case):
-    def test_buffers(self):
+    def test_a_batch_is_due_after_its_time_or_by_its_events(self):
         buffer = buffer_of()
         self.check("nothing waits", buffer.wait(0.0), None)
         buffer.put(b"a", 10.0)
@@ -120,16 +120,20 @@ class TelemetryStories(Case):
         self.check("it has no more than that", len(buffer.batch()), 1000)
         buffer.taken(1000, 11.0)
         self.check("the rest waits", (len(buffer.waiting), buffer.wait(11.0)), (500, 1.0))
+
+    def test_a_batch_is_due_by_its_bytes(self):
         large = buffer_of()
         for _ in range(4):
             large.put(b"x" * 100_000, 0.0)
         self.check("a batch is due by its bytes", (large.wait(0.0), [len(each) for each in large.batch()]),
                    (0.0, [100_000] * 2))
+
+    def test_an_event_that_is_longer_than_a_batch_goes_alone(self):
         single = buffer_of()
         single.put(b"x" * 2_000_000, 0.0)
         self.check("an event that is longer than a batch goes alone", len(single.batch()), 1)
 
-    def test_sums(self):
+    def test_taken_and_dropped_events_are_all_that_were_made(self):
         """However events come and go, those that were taken and those that were dropped are all of them."""
         chosen, wrong = random.Random(20261128), []
         for _ in range(50):
@@ -155,6 +159,8 @@ class TelemetryStories(Case):
                     or lost > 4 * 262_144 + 5000):
                 wrong.append((made, len(events), notes))
         self.check("taken and dropped add up to what was made, in order, within bounds", wrong[:1], [])
+
+    def test_what_was_dropped_is_told_after_what_waited_before_it(self):
         buffer = buffer_of()
         for number in range(4003):
             buffer.put(b"%d" % number, 0.0)
@@ -163,7 +169,7 @@ class TelemetryStories(Case):
         self.check("what was dropped is told after what waited before it", (buffer.waiting[-2], buffer.waiting[-1]),
                    (b"3999", b"[3, 12]"))
 
-    def test_schemas(self):
+    def test_each_event_has_its_form_in_each_schema(self):
         for (name, schema), wanted in {**OF_LOGS, **OF_TELEMETRY}.items():
             text = rendered(Event(AT, *EVENTS[name]), schema, has_json_lines=True)
             seen = None if text is None else json.loads(text)
@@ -172,7 +178,7 @@ class TelemetryStories(Case):
                                                                                       "2022-12-13") or b""),
                    {"time": "2022-10-12T00:00:00.064Z", "type": "function", "record": '{"level":"INFO"}'})
 
-    def test_stories(self):
+    def test_an_invocation_is_done_when_its_runtime_asks_and_reported_when_its_extensions_do(self):
         story, told, clock = begun()
         self.check("an Init", kinds(told), INIT)
         self.check("its time", told[-1].record["metrics"], {"durationMs": 500.0})
@@ -205,13 +211,15 @@ class TelemetryStories(Case):
         self.check("an error has its type", told[-1].record["errorType"], "Runtime.E")
         self.check("only the first report has the Init's time", "initDurationMs" in told[-1].record["metrics"], False)
 
-    def test_failures(self):
+    def test_a_timeout_is_told_once(self):
         story, told, clock = begun()
         invoked(story, clock)
         del told[:]
         story.closes("TIMEOUT")
         story.closes("FAILURE")
         self.check("a timeout", kinds(told), ["runtimeDone:timeout", "end", "report:timeout"])
+
+    def test_a_runtime_that_exits_is_told_with_its_type(self):
         story, told, clock = begun()
         invoked(story, clock)
         del told[:]
@@ -219,6 +227,8 @@ class TelemetryStories(Case):
         story.closes("FAILURE")
         self.check("a runtime that exits", kinds(told), ["fault", "runtimeDone:failure", "end", "report:failure"])
         self.check("its type", (told[1].record["errorType"], told[3].record["errorType"]), ("Runtime.ExitError", ) * 2)
+
+    def test_an_extension_that_takes_too_long_is_told(self):
         story, told, clock = begun()
         invoked(story, clock)
         story.answered("r", "success", None, 1)
@@ -226,6 +236,8 @@ class TelemetryStories(Case):
         del told[:]
         story.closes("TIMEOUT")
         self.check("an extension that takes too long", kinds(told), ["report:timeout"])
+
+    def test_an_init_that_fails_is_told_with_its_type(self):
         story, told, _ = story_of(("x", ))
         story.registers("1", "x", [])
         story.init_fails("Runtime.ImportModuleError")
@@ -234,22 +246,28 @@ class TelemetryStories(Case):
                    ["initStart", "initRuntimeDone:error", "extension", "initReport:error"])
         self.check("its extension had registered, and no more", told[2].record["state"], "Registered")
         self.check("its type", told[3].record["errorType"], "Runtime.ImportModuleError")
+
+    def test_an_init_that_takes_too_long_is_told(self):
         story, told, _ = story_of()
         story.closes("TIMEOUT")
         self.check("an Init that takes too long", kinds(told), ["initStart", "initRuntimeDone:timeout",
                                                                 "initReport:timeout"])
+
+    def test_an_extension_whose_init_fails_is_told(self):
         story, told, _ = story_of(("x", ))
         story.registers("1", "x", [])
         story.extension_fails("1", "InitError", "Extension.Bad")
         story.closes("FAILURE")
         self.check("an extension whose init fails", (told[2].record["state"], told[2].record["errorType"]),
                    ("InitError", "Extension.Bad"))
+
+    def test_a_spindown_says_nothing(self):
         story, told, _ = begun()
         del told[:]
         story.closes("SPINDOWN")
         self.check("a spindown says nothing", told, [])
 
-    def test_odd_orders(self):
+    def test_an_init_waits_for_each_extension(self):
         story, told, clock = story_of(("x", "y"))
         story.registers("1", "x", [])
         story.extension_asks("1")
@@ -259,6 +277,8 @@ class TelemetryStories(Case):
         self.check("also until that has asked", story.is_ready, False)
         story.extension_asks("2")
         self.check("then it is over", story.is_ready, True)
+
+    def test_a_Next_without_an_answer_ends_nothing_and_times_never_go_back(self):
         story, told, clock = begun()
         invoked(story, clock)
         story.runtime_asks()
@@ -271,7 +291,7 @@ class TelemetryStories(Case):
         story.line("function", "back")
         self.check("times never go back", [event.time for event in told] == sorted(event.time for event in told), True)
 
-    def test_init(self):
+    def test_of_an_init_that_prints_without_end_some_lines_are_kept(self):
         """Of an Init that prints without end, some lines are kept, and the number of the others."""
         kept = Kept()
         for kind in ("function", "extension", "function"):

@@ -49,7 +49,7 @@ def authorizers_of(made, where=None):
 
 
 class TemplateAuthorizers(Case):
-    def test_sam_rest(self):
+    def test_authorizers_of_SAMs_REST_API_are_taken(self):
         listed = {
             "Token": {"FunctionArn": ARN, "Identity": {"Header": "X-Token", "ValidationExpression": "a+",
                                                        "ReauthorizeEvery": 20}},
@@ -80,7 +80,7 @@ class TemplateAuthorizers(Case):
                       "ignores UsagePlan of Auth of the REST API R"):
             self.check(words, words.replace('\"', "") in said.replace('"', ""))
 
-    def test_sam_http(self):
+    def test_authorizers_of_SAMs_HTTP_API_are_taken(self):
         """With what Globals says, and one for all routes."""
         by = {"FunctionArn": ARN, "AuthorizerPayloadFormatVersion": 2.0, "EnableSimpleResponses": True,
               "Identity": {"Headers": ["Authorization"], "ReauthorizeEvery": 5}}
@@ -99,7 +99,7 @@ class TemplateAuthorizers(Case):
             "jwt": {"issuer": "https://me", "audience": ["a"]}, "scopes": ["read"],
             "identity": ["$request.header.X"]}, {}))
 
-    def test_resources(self):
+    def test_authorizers_of_CloudFormation_are_taken(self):
         method = of_type("ApiGateway::Method", HttpMethod="GET", ResourceId={"Fn::GetAtt": ["R", "RootResourceId"]},
                          RestApiId={"Ref": "R"}, AuthorizationType="CUSTOM", AuthorizerId={"Ref": "RA"},
                          Integration={"Type": "AWS_PROXY", "Uri": URI})
@@ -130,7 +130,7 @@ class TemplateAuthorizers(Case):
             "own": {"function": "A", "identity": ["$request.querystring.k"], "ttl": 7, "payload": "1.0"}}))
         self.check("signatures", "ignores the authorizer of the route GET /iam, AWS_IAM: it takes each" in said)
 
-    def test_open_api(self):
+    def test_authorizers_of_OpenAPI_are_those_of_SAM(self):
         """SAM's own translator writes a document of the same authorizers."""
         if not importlib.util.find_spec("samtranslator"):
             self.skipTest("aws-sam-translator is not here")
@@ -162,7 +162,7 @@ class TemplateAuthorizers(Case):
         self.check("those of the document", seen, wanted, shown=said)
         self.check("nothing is said of them", "uthoriz" in said or "security" in said, False, shown=said)
 
-    def test_serverless(self):
+    def test_authorizers_of_Serverless_are_taken(self):
         made, said = up_and_said({
             "service": "s", "provider": {"runtime": "provided", "httpApi": {"authorizers": {
                 "own": {"type": "request", "functionName": "auth", "payloadVersion": "2.0",
@@ -194,7 +194,7 @@ class TemplateAuthorizers(Case):
                       "so its routes take each caller: there is no function"):
             self.check(words, words in said)
 
-    def test_own(self):
+    def test_ones_own_authorizer_takes_the_place_of_a_templates(self):
         """One's own takes the place of a template's, as a whole and for all routes."""
         made = {"functions": [{"name": "f"}], "api": {"payload": "1.0", "authorizer": {"jwt": {}}}, "routes": {
             "GET /a": {"function": "f", "authorizer": {"jwt": {}}}, "GET /b": {"function": "f", "type": "HTTP",
@@ -208,7 +208,7 @@ class TemplateAuthorizers(Case):
             {"payload": "1.0", "authorizer": {"claims": {"sub": "a"}}},
             {"GET /a": "f", "GET /b": {"function": "f", "type": "HTTP"}, "GET /c": "f"}))
 
-    def test_runs(self):
+    def test_an_authorizer_of_a_template_lets_callers_in(self):
         """What is made of a template of SAM, with a function that authorizes."""
         app = ('def auth(event, context):\n'
                '    return {"principalId": event["authorizationToken"], "policyDocument": {"Statement": [{\n'

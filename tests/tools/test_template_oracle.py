@@ -156,7 +156,7 @@ def ours(whole):
 
 @unittest.skipUnless(HAS_TRANSLATOR, "aws-sam-translator or PyYAML is not here: pip install aws-sam-translator pyyaml")
 class TemplateOracle(Case):
-    def test_templates(self):
+    def test_templates_are_read_as_AWSs_own_translator_reads_them(self):
         count = 0
         for name, text in templates():
             count += 1

@@ -49,7 +49,7 @@ def lambda_handler(event, context):
 
 
 class TemplateRoutes(Case):
-    def test_addresses(self):
+    def test_URLs_and_routes_of_SAM_are_taken(self):
         """Function URLs and HTTP routes, of SAM and of Serverless, in JSON."""
         event = {"HttpApi": lambda **properties: {"Type": "HttpApi", "Properties": properties},
                  "Api": lambda **properties: {"Type": "Api", "Properties": properties}}
@@ -73,6 +73,8 @@ class TemplateRoutes(Case):
                       "F: ignores its event C (S3)",
                       "G: ignores the route GET /orders/{other}, since F has GET /orders/{id}"):
             self.check(f"SAM: {words}", words in said)
+
+    def test_URLs_and_routes_of_Serverless_are_taken(self):
         made, said = up_and_said({"service": "s", "provider": {"runtime": "provided"}, "functions": {
             "f": {"handler": "x", "url": True, "events": [
                 {"httpApi": "GET /a/{b}"}, {"httpApi": {"method": "*", "path": "/c"}}, {"httpApi": "*"},
@@ -85,7 +87,7 @@ class TemplateRoutes(Case):
                    [True, {"cors": {"allowOrigins": ["*"]}}])
         self.check("Serverless: what is left out", "s-dev-f: its event sqs, SQS, is not polled: set" in said)
 
-    def test_url_resources(self):
+    def test_URLs_that_are_resources_are_taken(self):
         """AWS::Lambda::Url, as CDK writes it beside its function."""
         def url(target, **properties):
             return {"Type": "AWS::Lambda::Url",
@@ -116,7 +118,7 @@ class TemplateRoutes(Case):
                       "ignores Odd, AWS::Lambda::Url: there is no function None"):
             self.check(f"URLs that are resources: {words}", words in said, shown=said)
 
-    def test_cors_of_routes(self):
+    def test_cross_origin_settings_of_HTTP_APIs_are_taken(self):
         """What an HTTP API says of cross-origin requests: for all of SAM's, for one of its own, and in Serverless."""
         def template(shared=None, **apis):
             """A function with a route of each API, and one of SAM's own if there is none."""
@@ -152,11 +154,16 @@ class TemplateRoutes(Case):
             made, said = up_and_said(given)
             self.check(f"Cors of routes: {title}", (made.get("api", {}).get("cors"), words in said), (wanted, True),
                        shown=said)
+
+    def test_an_HTTP_API_without_routes_is_none(self):
         unused = {"Resources": {"Shop": {"Type": "AWS::Serverless::HttpApi", "Properties": {"CorsConfiguration": True}},
                                 "F": {"Type": "AWS::Lambda::Function", "Properties": {"Runtime": "provided"}}}}
         made, said = up_and_said(unused)
         self.check("an HTTP API without routes",
                    ("api" in made, "ignores Shop: no route belongs to it" in said), (False, True))
+
+    def test_cross_origin_settings_of_Serverless_are_taken(self):
+        any_site = {"allowOrigins": ["*"], "allowHeaders": ["*"], "allowMethods": ["*"]}
         for cors, made_cors in ((True, any_site), ({"allowedOrigins": ["http://a"], "maxAge": 5},
                                                    {"allowOrigins": ["http://a"], "maxAge": 5})):
             made, said = up_and_said({"service": "s",
@@ -166,7 +173,7 @@ class TemplateRoutes(Case):
                        (made["api"], "ignores metrics of the HTTP API provider.httpApi" in said),
                        ({"cors": made_cors}, True))
 
-    def test_rest_of_sam(self):
+    def test_REST_APIs_of_SAM_are_taken(self):
         """AWS::Serverless::Api and the events Api: payload format 1.0, and the stage Prod of an API that is not
         named."""
         made, said = up_and_said({"Resources": {"F": function(A=event("Api", "/orders"), B=event("Api", "/all",
@@ -196,7 +203,7 @@ class TemplateRoutes(Case):
         self.check("SAM: an HTTP API's event with format 1.0", made["routes"],
                    {"GET /a": {"function": "F", "payload": "1.0", "type": "HTTP"}, "GET /b": "F"})
 
-    def test_rest_of_serverless(self):
+    def test_REST_APIs_of_Serverless_are_taken(self):
         whole = {"service": "s", "provider": {
             "runtime": "provided", "stage": "test",
             "apiGateway": {"binaryMediaTypes": ["*/*"], "minimumCompressionSize": 1}},
@@ -223,7 +230,7 @@ class TemplateRoutes(Case):
             "allowMethods": ["*"], "allowOrigins": ["http://a", "http://b"], "allowHeaders": ["x"],
             "allowCredentials": True, "maxAge": 60})
 
-    def test_rest_of_cdk(self):
+    def test_REST_APIs_of_CDK_are_taken(self):
         """A RestApi with a LambdaIntegration: what `cdk synth` writes."""
         root = {"Fn::GetAtt": ["Api", "RootResourceId"]}
         proxy = {"Type": "AWS_PROXY", "IntegrationHttpMethod": "POST"}
@@ -261,7 +268,7 @@ class TemplateRoutes(Case):
                       "ignores H, AWS::ApiGateway::Method: its function is not here"):
             self.check(f"CDK: {words}", words in said, shown=said)
 
-    def test_http_of_cdk(self):
+    def test_HTTP_APIs_of_CDK_are_taken(self):
         """An HttpApi with an HttpLambdaIntegration."""
         def route(key, integration="Integration", api="Api"):
             return of_type("ApiGatewayV2::Route", ApiId={"Ref": api}, RouteKey=key, AuthorizationType="NONE",
@@ -292,7 +299,7 @@ class TemplateRoutes(Case):
         made, _ = up_and_said({"Resources": {**FUNCTIONS, "Api": quick}})
         self.check("CloudFormation: an HTTP API of one function", made["routes"], {"$default": "Pay1"})
 
-    def test_runs(self):
+    def test_a_REST_API_of_SAM_is_answered_as_it_would_be_there(self):
         """A REST API of SAM is answered as it would be there."""
         resource = function(A=event("Api", "/orders/{id}"))
         resource["Properties"].update(Runtime="python3.12", Handler="app.lambda_handler")

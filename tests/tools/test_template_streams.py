@@ -41,7 +41,7 @@ class TemplateStreams(Case):
             functions, _, said = made_by(os.path.join(folder, name))
             return functions, said
 
-    def test_sam(self):
+    def test_streams_and_topics_of_SAM_are_taken(self):
         whole = template(F=sam(Events={
             "A": {"Type": "Kinesis", "Properties": {
                 "Stream": arn("Clicks"), "StartingPosition": "LATEST", "BatchSize": 7, "ParallelizationFactor": 3,
@@ -78,14 +78,14 @@ class TemplateStreams(Case):
         made, _ = self.made(whole, "AWS_ENDPOINT_URL_DYNAMODB")
         self.check("an address of one service", [one["dynamodb"] for one in made["F"]["stream"]], ["Orders"])
 
-    def test_own_address(self):
+    def test_an_address_of_ones_own_is_taken(self):
         whole = template(F=sam(Events={"C": {"Type": "SNS", "Properties": {"Topic": {"Ref": "News"}}}}))
         with folder_of(template_0_json=whole, lambda_local_0_json={"functions": {
                 "F": {"topic": {"url": ENDPOINT}}}}) as folder:
             made, _, _ = made_by(os.path.join(folder, "template.json"))
             self.check("as the sentence says", made["F"]["topic"], {"url": ENDPOINT, "name": "News"})
 
-    def test_resources(self):
+    def test_streams_and_topics_of_CloudFormation_are_taken(self):
         whole = template(
             G=sam(), M={"Type": "AWS::Lambda::EventSourceMapping", "Properties": {
                 "FunctionName": {"Ref": "G"}, "EventSourceArn": arn("Orders", "StreamArn"),
@@ -112,7 +112,7 @@ class TemplateStreams(Case):
                    False, shown=said)
 
     @unittest.skipUnless(HAS_YAML, "PyYAML is not here")
-    def test_serverless(self):
+    def test_streams_and_topics_of_Serverless_are_taken(self):
         text = ("service: s\nprovider: {name: aws, runtime: python3.12}\nfunctions:\n  f:\n    handler: a.b\n"
                 "    events:\n"
                 "      - stream: arn:aws:kinesis:us-east-1:123456789012:stream/clicks\n"

@@ -9,7 +9,7 @@ from tests.library.project_kit import folder_of, made_by, sam, variables_of
 
 
 class TemplateValues(Case):
-    def test_parameters(self):
+    def test_parameters_are_given_as_AWSs_tools_take_them(self):
         """The forms in which AWS's tools have them."""
         template = {"Parameters": {"A": {"Type": "String", "AllowedValues": ["x", "y z"]}, "B": {"Type": "Number"},
                                    "C": {"Type": "CommaDelimitedList", "Default": "a,b"}},
@@ -49,7 +49,7 @@ class TemplateValues(Case):
                     seen = str(fault)
                 self.check(f"parameters: {wanted}", wanted in str(seen), shown=seen)
 
-    def test_variables(self):
+    def test_variables_are_given_by_files(self):
         with folder_of(template_0_json={"Resources": {
                 "G": sam(), "F": sam(FunctionName="shop", Environment={"Variables": {"A": "template",
                                                                                     "B": "template"}})}},
@@ -70,7 +70,7 @@ class TemplateValues(Case):
             self.check("a line that is none", str(caught.exception),
                        f"--env-file {folder}/bad.env: line 2: B must be NAME=VALUE")
 
-    def test_env_files(self):
+    def test_an_env_file_is_read_as_dotenv_does(self):
         """As dotenv has them."""
         for name, text, wanted in (
                 ("ends of lines", "A=1\r\nB=2\rC=3", {"A": "1", "B": "2", "C": "3"}),
@@ -89,7 +89,7 @@ class TemplateValues(Case):
                 read_env(text, "it")
             self.check(f".env: {wanted}", str(caught.exception), wanted)
 
-    def test_samconfig(self):
+    def test_a_samconfig_is_read_in_each_form_of_TOML(self):
         """Whatever form of TOML the parameters have."""
         for name, text, wanted in (
                 ("escapes", '[default.deploy.parameters]\nparameter_overrides = "A=\\"a\\tb\\" B=\\u00e9"\n',
@@ -112,7 +112,7 @@ class TemplateValues(Case):
                 given.of_samconfig(text, "it")
             self.check(f"samconfig.toml: {wanted}", wanted in str(caught.exception), shown=str(caught.exception))
 
-    def test_own_values(self):
+    def test_own_values_are_merged_over_a_template(self):
         """lambda_local.json is merged over a template, by the rules of UP.json."""
         template = {"Resources": {"Pay": sam(FunctionName="shop-pay", Timeout=5, Environment={"Variables": {"A": "1"}}),
                                   "Far": sam(CodeUri="s3://a/b"), "Q": {"Type": "AWS::SQS::Queue"},

@@ -4,6 +4,7 @@ import os
 import subprocess
 from unittest.mock import patch
 
+from lambda_local.configuration import Members
 from lambda_local.from_template import find
 from lambda_local.from_template.given import Given
 from lambda_local.from_template.messages import Fault
@@ -14,9 +15,13 @@ from tests.library.template_kit import FROM_TEMPLATE, HAS_YAML, python
 
 SQS = "arn:aws:sqs:us-east-1:123456789012:"
 
+CDK_FUNCTION: Members = {"Type": "AWS::Lambda::Function", "Properties": {
+    "Handler": "app.run", "Runtime": "provided.al2023",
+    "Code": {"S3Bucket": {"Fn::Sub": "b-${AWS::AccountId}"}, "S3Key": "abc.zip"}}}
+
 
 class Templates(Case):
-    def test_found(self):
+    def test_files_are_found_in_the_order_of_the_page(self):
         """The order of docs/templates.md."""
         order = ["up.json", ".aws-sam/build/template.yaml", "template.yaml", "template.yml", "template.json",
                  "serverless.yml", "serverless.yaml", "serverless.json", "cdk.out"]
@@ -41,13 +46,15 @@ class Templates(Case):
                            "c.json": {"service": "s", "provider": {}, "functions": {}}, "d.json": "{"})
             self.check("by what a file has", [find.source_of(os.path.join(folder, f"{name}.json")).is_template
                                               for name in "abcd"], [False, True, True, False])
+
+    def test_a_built_template_that_is_older_is_told(self):
         with folder_of(template_0_yaml="{}", _0_aws="") as folder:
             write(folder, {".aws-sam/build/template.yaml": "{}"})
             os.utime(os.path.join(folder, ".aws-sam/build/template.yaml"), (1, 1))
             self.check("what is built is older", "template.yaml has changed since: run sam build"
                        in find.source_of(folder).note)
 
-    def test_up(self):
+    def test_one_command_serves_a_template_and_six_parallel_callers(self):
         """One command, and six parallel callers are answered."""
         app = ("import json, os, time\ndef run(event, context):\n    time.sleep(0.3)\n"
                "    return {'statusCode': 200, 'body': os.environ['STAGE'] + event['pathParameters']['id']}\n")
@@ -75,7 +82,7 @@ class Templates(Case):
                                       capture_output=True, text=True, timeout=60)
                 self.check(f"wrong: {fault}", (done.returncode, fault in done.stderr), (2, True), shown=done.stderr)
 
-    def test_eject(self):
+    def test_from_template_overwrites_what_it_wrote_itself_and_nothing_else(self):
         """from_template overwrites what it wrote itself, and nothing else."""
         with folder_of(template_0_json={"Resources": {"F": sam()}}, src__bootstrap="") as folder:
             def eject(*words):
@@ -98,7 +105,7 @@ class Templates(Case):
             write(folder, {"up.json": "{}"})
             self.check("nor what somebody else wrote", eject("template.json")[0], 2)
 
-    def test_globals(self):
+    def test_globals_are_merged_as_SAM_does(self):
         """As SAM merges them (SAM Developer Guide, "Globals section"): lists are joined, maps merged, the rest is the
         resource's own."""
         shared = {"Layers": [{"Ref": "L1"}], "Timeout": 3, "Environment": {"Variables": {"A": "g", "B": "g"}}}
@@ -119,7 +126,7 @@ class Templates(Case):
                        (["one", "two"], {"A": "g", "B": "f"}, 9))
             self.check("of an API", whole["api"]["cors"], {"allowOrigins": ["http://a", "http://b"], "maxAge": 5})
 
-    def test_nested(self):
+    def test_nested_stacks_have_what_is_passed_and_give_what_they_have(self):
         """Nested stacks, with what is passed to them and what they give, and two APIs that have the same route."""
         event = {"Get": {"Type": "HttpApi", "Properties": {"Path": "/orders", "Method": "get"}}}
         inner = {"Parameters": {"Table": {"Type": "String"}, "Mode": {"Type": "String", "Default": "off"}},
@@ -149,16 +156,17 @@ class Templates(Case):
                           f"ignores Out, AWS::Serverless::Application: ../template.json is outside of {folder}",
                           "ignores Round, AWS::Serverless::Application: "):
                 self.check(f"nested: {words}", words in said, shown=said)
+
+    def test_a_stack_in_itself_ends(self):
         circle = {"Resources": {"F": sam(), "Sub": {"Type": "AWS::Serverless::Application",
                                                     "Properties": {"Location": "template.json"}}}}
         with folder_of(template_0_json=circle) as folder:
             self.check("a stack in itself", "its stacks are nested too deep" in str(
                 made_by(os.path.join(folder, "template.json"))))
 
-    def test_assembly(self):
+    def test_an_assembly_of_CDK_is_read_with_stacks_assets_and_exports(self):
         """A folder that `cdk synth` writes: its stacks, assets, nested stacks, exports and stages."""
-        function = {"Type": "AWS::Lambda::Function", "Properties": {"Handler": "app.run", "Runtime": "provided.al2023",
-                    "Code": {"S3Bucket": {"Fn::Sub": "b-${AWS::AccountId}"}, "S3Key": "abc.zip"}}}
+        function = CDK_FUNCTION
         assets = {"version": "36", "files": {"abc": {"source": {"path": "asset.abc", "packaging": "zip"},
                                                      "destinations": {"d": {"objectKey": "abc.zip"}}}}}
         one = {"Resources": {"One": function, "Table": {"Type": "AWS::DynamoDB::Table",
@@ -185,6 +193,8 @@ class Templates(Case):
             self.check("an export", variables_of(made, "Two"), {"T": "t"})
             self.check("what deployments alone invoke", "ignores Provider, which serves custom resources" in said,
                        shown=said)
+
+    def test_a_stage_of_an_assembly_can_be_chosen(self):
         app = {"artifacts": {f"assembly-{name}": {"type": "cdk:cloud-assembly", "properties": {
             "directoryName": f"assembly-{name}"}} for name in ("Dev", "Prod")}}
         stage = {"artifacts": {"S": {"type": "aws:cloudformation:stack", "properties": {
@@ -192,7 +202,7 @@ class Templates(Case):
         with folder_of(manifest_0_json=app) as folder:
             for name in ("Dev", "Prod"):
                 write(folder, {f"assembly-{name}/manifest.json": stage, f"assembly-{name}/S.template.json": {
-                    "Resources": {name: function}}})
+                    "Resources": {name: CDK_FUNCTION}}})
             self.check("the first stage", (list(made_by(folder, is_assembly=True)[0]),
                                            "uses stage Dev" in made_by(folder, is_assembly=True)[2]),
                        (["Dev"], True))
@@ -200,7 +210,7 @@ class Templates(Case):
             self.check("none", made_by(folder, is_assembly=True, stage="x")[0],
                        "--stage x: there is no such stage; there are Dev, Prod")
 
-    def test_openapi(self):
+    def test_routes_of_OpenAPI_are_taken(self):
         """Routes of an API that OpenAPI describes (API Gateway Developer Guide, "x-amazon-apigateway-integration")."""
         def operation(uri, kind="aws_proxy", **more):
             return {"x-amazon-apigateway-integration": {"type": kind, "httpMethod": "POST", "uri": uri, **more}}
@@ -229,7 +239,7 @@ class Templates(Case):
                           "ignores DefinitionUri of Gone: ../http.json"):
                 self.check(f"OpenAPI: {words}", words in said, shown=said)
 
-    def test_serverless_variables(self):
+    def test_variables_of_serverless_have_the_sources_that_it_names(self):
         """Sources of values that a serverless.yml has (Serverless Framework, "Variables")."""
         whole = {"service": "${file(config.json):service}", "useDotenv": True, "provider": {
             "runtime": "provided", "stage": "${opt:stage, 'dev'}", "environment": "${file(env.json)}"},
@@ -263,7 +273,7 @@ class Templates(Case):
                           f"the variable K: file(link.json): link.json is outside of {folder}"):
                 self.check(f"not read: {words}", words in said, shown=said)
 
-    def test_unread(self):
+    def test_what_nobody_reads_of_a_serverless_yml_is_said(self):
         """What nobody reads is said, of each object."""
         if not HAS_YAML:
             self.skipTest("PyYAML is not here")
@@ -288,6 +298,8 @@ class Templates(Case):
                           "ignores its event stream, Kinesis: arn is not the ARN of a stream",
                           "s-dev-f: ignores tracing"):
                 self.check(f"Serverless: {words}", words in said, shown=said)
+
+    def test_what_nobody_reads_of_a_SAM_template_is_said(self):
         template = {"Resources": {"F": sam(Tracing="Active", VpcConfig={}, Role="x", Tags={"a": "b"}, Events={
             "A": {"Type": "Api", "Properties": {"Path": "/a", "Method": "get", "Auth": {"Authorizer": "x"}}},
             "B": {"Type": "ScheduleV2", "Properties": {"ScheduleExpression": "cron(0 9 * * ? *)", "KmsKeyArn": "x",
@@ -308,7 +320,7 @@ class Templates(Case):
                 self.check(f"SAM: {words.strip()}", words in said, shown=said)
             self.check("what a condition leaves out is not there", "its event C" in said, False)
 
-    def test_invoke_configs(self):
+    def test_aliases_retries_and_destinations_are_taken(self):
         """Aliases, retries and destinations."""
         config = {"MaximumRetryAttempts": 0, "MaximumEventAgeInSeconds": 60, "DestinationConfig": {"OnFailure": {
             "Type": "Lambda", "Destination": {"Fn::GetAtt": ["G", "Arn"]}}}}
@@ -342,6 +354,8 @@ class Templates(Case):
                 "arn": dead, "url": "http://127.0.0.1:1"}}}}}})
             self.check("what that line says to write", made_by(os.path.join(folder, "template.json"))[0]["G"][
                 "asynchronous"], {"retries": 1, "deadLetter": {"arn": dead, "url": "http://127.0.0.1:1"}})
+
+    def test_destinations_of_Serverless_are_taken(self):
         whole = {"service": "s", "provider": {"runtime": "provided"}, "functions": {
             "f": {"handler": "x", "maximumRetryAttempts": 2, "destinations": {
                 "onFailure": {"Ref": "GLambdaFunction"}, "onSuccess": {"type": "sqs", "arn": f"{SQS}good"}},
@@ -355,6 +369,8 @@ class Templates(Case):
                          "onSuccess": {"arn": f"{SQS}good", "url": "http://127.0.0.1:5000"},
                          "deadLetter": {"arn": "arn:aws:sns:us-east-1:123456789012:dead",
                                         "url": "http://127.0.0.1:5000"}}, "g.zip"), shown=said)
+
+    def test_a_destination_that_is_no_function_queue_or_topic_is_told(self):
         for what, given, wanted in (
                 ("OnSuccess", f"{SQS}q.fifo", "it is not a function here, a queue or a topic"),
                 ("OnFailure", "arn:aws:events:us-east-1:123456789012:event-bus/b", "not a function here, a queue"),
@@ -365,7 +381,7 @@ class Templates(Case):
                 seen = made["F"].get("asynchronous"), wanted in said
                 self.check(f"{what}, {given}", seen, (None, True), shown=said)
 
-    def test_hostile(self):
+    def test_a_hostile_template_reads_nothing_outside_of_its_folder_and_ends(self):
         """A template has no file read outside of its folder, and does not stop the tool."""
         with folder_of() as above:
             folder = os.path.join(above, "app")

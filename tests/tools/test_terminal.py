@@ -73,7 +73,7 @@ def on_terminal(words, **environ) -> Tuple[int, str]:
 
 
 class Terminal(Case):
-    def test_words(self):
+    def test_words_and_names_of_files_are_escaped(self):
         """Words of the command line and names of files."""
         with tempfile.TemporaryDirectory() as folder:
             script = os.path.join(folder, "script")
@@ -85,7 +85,7 @@ class Terminal(Case):
                 self.check(f"{' '.join(words)}", (seen, UNSAFE.findall(output + said)), (status, []),
                            shown=output + said)
 
-    def test_files(self):
+    def test_what_is_in_files_is_escaped(self):
         """What is in files."""
         with tempfile.TemporaryDirectory() as folder:
             for name, text, words, status in (
@@ -101,7 +101,7 @@ class Terminal(Case):
                 seen, output, said = run([*words, path])
                 self.check(name, (seen, UNSAFE.findall(output + said)), (status, []), shown=output + said)
 
-    def test_invoke(self):
+    def test_what_is_invoked_is_escaped_on_a_terminal_alone(self):
         """What a function printed, what it returned, and what a service says."""
         with http.server.ThreadingHTTPServer(("127.0.0.1", 0), Odd) as server:
             threading.Thread(target=server.serve_forever, args=(0.05,), daemon=True).start()

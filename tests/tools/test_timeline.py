@@ -170,7 +170,7 @@ def measured(arguments, pieces, environment=ENVIRONMENT):
 class LongOnes(TimelineCase):
     """(What a child is said to have taken is never less than what this process had: these come before the others.)"""
 
-    def test_long_ones(self):
+    def test_a_million_lines_are_drawn_within_their_memory(self):
         with tempfile.TemporaryDirectory() as folder:
             small_one, large_one = saved(folder, 50_000), saved(folder, 1_000_000)
             for form in ("text", "trace", "html"):
@@ -180,6 +180,8 @@ class LongOnes(TimelineCase):
                       f"of the processor")
                 self.check(f"a million lines as {form}", small[0] == large[0] == 0 and large[1] < 64
                            and large[1] < small[1] + 4, shown=f"{small[1]:.0f} and {large[1]:.0f} MB")
+
+    def test_a_script_of_15000_calls_is_drawn_through_the_program(self):
         calls = [ONE.replace('"region"', '"maxEntries":4000000000,"region"') + "\n"]
         calls += [f"{9 * i} next 1\n{9 * i + 1} invoke f - - ={i}\n{9 * i + 2} response 1 {i} =ok\n"
                   for i in range(1, 5001)]
@@ -189,7 +191,7 @@ class LongOnes(TimelineCase):
 
 
 class Timeline(TimelineCase):
-    def test_examples(self):
+    def test_examples_are_drawn_with_their_answers(self):
         for path in sorted(glob.glob(os.path.join(ROOT, "examples", "*.txt"))):
             name = os.path.basename(path)
             script = open(path).read()
@@ -200,7 +202,7 @@ class Timeline(TimelineCase):
                 self.check(f"{name}: call {ticket} is answered {word}", told.get(int(ticket), "").split(" ")[0] == word,
                            shown=told.get(int(ticket), ""))
 
-    def test_rows(self):
+    def test_rows_have_their_phases_and_resets(self):
         for name, configuration, calls, wanted in ROWS:
             trace = self.draw(name, f"{configuration}\n{calls}\n" if calls else configuration)
             # a phase that ends in the entry in which it began says nothing; the very first one may
@@ -212,7 +214,7 @@ class Timeline(TimelineCase):
             self.check(f"{name}: a reset for each Closing",
                        resets == [phase for phase in in_turn if phase.startswith("Closing")], shown=str(resets))
 
-    def test_worked(self):
+    def test_worked_examples_are_drawn(self):
         """Draws the cases of worked examples that are scripts without a fault."""
         drawn = 0
         for path in sorted(glob.glob(os.path.join(ROOT, "tables", "checks", "data", "scripts", "*.txt"))):
@@ -227,7 +229,7 @@ class Timeline(TimelineCase):
                     self.draw(f"{os.path.basename(path)}, {name.strip()}", script, "--limit", "100000")
         self.check("worked examples are drawn", drawn > 20, shown=str(drawn))
 
-    def test_random_scripts(self):
+    def test_random_scripts_are_drawn_as_their_answers_show(self):
         """The expiries and phases that the tool finds are those that the program's answers show."""
         for seed in range(40):
             script = random_script(seed)
@@ -249,7 +251,7 @@ class Timeline(TimelineCase):
                     for closing in closings)
                 for span in ends("shutdown")))
 
-    def test_labels(self):
+    def test_labels_tell_long_names_apart(self):
         """The rows of functions with long names are told apart, and each has the whole name as its title."""
         names = [f"my-service-production-{name}" for name in ("hello", "orders", "orders-refund-worker-of-the-night")]
         one = json.loads(ONE)
@@ -266,7 +268,7 @@ class Timeline(TimelineCase):
         self.check("a single one", short_names(["a" * 40 + "b"], 10), {"a" * 40 + "b": "aaa\u2026aaaaab"})
         self.check("with no room", short_names(["abcdef"], 1), {"abcdef": "\u2026f"})
 
-    def test_pictures(self):
+    def test_pictures_of_the_pages_are_those_that_the_tool_draws(self):
         """The pictures in docs are those that the tool draws of the examples."""
         for path in sorted(glob.glob(os.path.join(ROOT, "docs", "pictures", "*.svg"))):
             name = os.path.splitext(os.path.basename(path))[0]

@@ -71,7 +71,7 @@ FAULTS = (
 
 
 class TimelineHistory(TimelineCase):
-    def test_history(self):
+    def test_a_history_is_drawn_as_its_replay_is(self):
         """A history has its answers in it; it is drawn as its replay is."""
         replayed = (ONE + "\n0 next 1\n10 invoke f - - =1\n5000 tick\n5000 next 1\n"
                     "5001 invoke f - - =2\n5002 response 1 2 =3\n")
@@ -79,6 +79,9 @@ class TimelineHistory(TimelineCase):
         for form in ("text", "trace", "svg"):
             ours, theirs = run(f"--{form}", script=text), run(f"--{form}", script=replayed)
             self.check(f"a history as its replay: {form}", ours == theirs and ours[0] == 0, shown=ours[2] + theirs[2])
+
+    def test_a_history_that_is_cut_anywhere_is_drawn(self):
+        text = HISTORY
         for cut in range(text.index("\n0 next") + 1, len(text)):
             status, _, said = run("--trace", script=text[:cut]) if cut % 7 == 0 else (0, "{}", "")
             if status:
@@ -86,6 +89,10 @@ class TimelineHistory(TimelineCase):
                 break
         else:
             self.check("a history that is cut anywhere", True)
+
+    def test_a_saved_trace_is_drawn_and_a_wrong_one_is_told(self):
+        replayed = (ONE + "\n0 next 1\n10 invoke f - - =1\n5000 tick\n5000 next 1\n"
+                    "5001 invoke f - - =2\n5002 response 1 2 =3\n")
         answers = subprocess.run([PROGRAM, "trace"], input=replayed.encode(), capture_output=True).stdout
         with tempfile.TemporaryDirectory() as folder:
             path = os.path.join(folder, "trace.jsonl")
@@ -107,7 +114,7 @@ class TimelineHistory(TimelineCase):
                 status, _, said = run("--answers", path, script=replayed)
                 self.check(f"a trace {name}", status == 3 and words in said, shown=said)
 
-    def test_service(self):
+    def test_the_history_of_a_running_service_is_drawn(self):
         """A running service's history: two functions, a timeout, a failure, a throttle; open at its end."""
         made = Service({"account": "123456789012", "region": "us-east-2", "functions": [
             {"name": "quick", "ports": [0]}, {"name": "slow", "ports": [0], "timeout": 1}]})
@@ -161,7 +168,7 @@ class TimelineHistory(TimelineCase):
         self.check("an end before the beginning, on two axes", status == 2 and "--to is before --from" in said,
                    shown=said)
 
-    def test_edited(self):
+    def test_a_history_whose_replay_differs_says_so_and_where(self):
         """If a history's replay answers otherwise, the page and the text say so, and where."""
         without_expiry = HISTORY.replace("## 5000 expire 1\n# 2 1 timeout\n5000 tick\n# 3 3 done\n",
                                          "5000 tick\n# 2 2 done\n")
@@ -198,15 +205,19 @@ class TimelineHistory(TimelineCase):
                                status == 0 and len(notes) == 1 and words in notes[0].text and words in said, shown=said)
                     status, _, said = run("--trace", *given, script=script)
                     self.check(f"edited: {told}: trace", status == 0 and words in said, shown=said)
+
+    def test_a_history_that_agrees_with_its_replay_says_so(self):
         page, text = run("--html", script=HISTORY), run("--text", script=HISTORY)
         self.check("a history as it is",
                    "Its replay gives the same answers." in page[1] and "differs" not in text[1]
                    and page[2] == text[2] == "")
+
+    def test_a_line_that_is_cut_off_is_left_out(self):
         page, said = run("--html", script=HISTORY[:-1])[1:]
         self.check("a line that is cut off is left out", "line 15 has no line end, so it may be cut off" in said
                    and "line 14: the history ends here, but the replay also answers `6 6 accepted`" in page, shown=said)
 
-    def test_hidden(self):
+    def test_what_up_does_itself_is_shown_on_request_alone(self):
         """What lambda_local up does itself is shown on request alone."""
         up = ONE.replace('"ports":[9001]', '"ports":[9001],"extensions":["lambda_local.up"]')
         script = (up + "\n0 register 1 =lambda_local.up s -\n1 register 1 =other s -\n2 ext-next 1 1\n"
@@ -221,7 +232,7 @@ class TimelineHistory(TimelineCase):
         self.check("hidden: the calls", (calls(), calls("--all")) == (8, 11), shown=f"{calls()} {calls('--all')}")
         self.check("hidden calls do not count for --limit", calls("--limit", "8") == 8)
 
-    def test_moments(self):
+    def test_each_line_has_the_moment_at_which_it_happened(self):
         """Each line has the moment at which it happened, also if a call made it that is not shown."""
         up = ONE.replace('"ports":[9001]', '"ports":[9001],"extensions":["lambda_local.up"]')
         script = (up + "\n0 register 1 =lambda_local.up s -\n1 ext-next 1 1\n2 next 1\n3 invoke f - - =1\n"
@@ -233,7 +244,7 @@ class TimelineHistory(TimelineCase):
         found = re.findall(r"(\d+) ms  caller 1: invoke f, call 3, answered after (\d+) ms", "\n".join(shown))
         self.check("an answer comes as long after its call as its line says", found, [("60", "57")])
 
-    def test_reports(self):
+    def test_a_report_with_a_type_is_told_as_up_tells_it(self):
         """A report with a type is told as lambda_local up tells it; any other as it is."""
         python = ('{"errorMessage":%20"\'x\'",%20"errorType":%20"KeyError",%20"requestId":%20"1",%20"stackTrace":'
                   '%20["%20%20File%20\\"/at/app.py\\",%20line%207,%20in%20run\\n"]}')
@@ -244,7 +255,7 @@ class TimelineHistory(TimelineCase):
             self.check(f"a report: {told}", (shown.count(f"bytes: {told}: accepted"),
                                              shown.count(f"error {told}\n")) == (1, 1), shown=shown)
 
-    def test_failed(self):
+    def test_failed_calls_are_listed_with_links_to_their_places(self):
         """Failed calls are listed on the page, each with a link to its place."""
         script = (ONE.replace('"region"', '"maxEntries":13,"region"')
                   + "\n0 next 1\n1 invoke f - - =1\n2 invoke f - - =2\n"
@@ -274,11 +285,13 @@ class TimelineHistory(TimelineCase):
         self.check("failed: those that are left out are counted", "3 of them failed, the first at 2 ms" in said,
                    shown=said)
 
-    def test_faults(self):
+    def test_faults_are_told_in_a_line(self):
         for name, arguments, script, wanted, words in FAULTS:
             status, _, said = run(*arguments, script=script)
             self.check(f"fault: {name}", status == wanted and words in said and "Traceback" not in said,
                        shown=f"status {status}: {said}")
+
+    def test_a_fault_leaves_the_page_as_it_was(self):
         with tempfile.TemporaryDirectory() as folder:
             path = os.path.join(folder, "page.html")
             self.check("a page", run("-o", path, script=ONE + "\n0 tick\n")[0] == 0
@@ -286,17 +299,22 @@ class TimelineHistory(TimelineCase):
             before = open(path).read()
             self.check("a fault leaves the page as it was", run("-o", path, script=ONE + "\n0 tock\n")[0] == 2
                        and open(path).read() == before and os.listdir(folder) == ["page.html"])
+
+    def test_the_ending_of_the_file_names_the_form(self):
+        with tempfile.TemporaryDirectory() as folder:
             for ending, beginning in ((".json", '{"displayTimeUnit"'), (".svg", "<svg "), (".txt", "      0 ms")):
                 path = os.path.join(folder, "other" + ending)
                 self.check(f"the form of {ending}",
                            run("-o", path, script=ONE + "\n0 tick\n")[0] == 0
                            and open(path).read().startswith(beginning))
+
+    def test_the_help_is_printed(self):
         status, said, _ = run("--help")
         self.check("--help", status == 0 and all(word in said for word in (
             "--text", "--trace", "--html", "--svg", "--program", "--answers", "--script", "--limit", "--from", "--to",
             "--all", "--live", "--scale", "-o FILE")))
 
-    def test_rest(self):
+    def test_what_comes_after_the_window_is_counted_as_if_it_was_followed(self):
         """What comes after the window of a log is counted as it would be if all of it was followed."""
         path = os.path.join(ROOT, "tests", "compatibility", "1.0", "histories", "many.txt")
         moments = sorted({int(line.split()[0]) for line in text_of(path).splitlines()[2:] if line[:1].isdigit()})
@@ -321,7 +339,7 @@ class TimelineHistory(TimelineCase):
         shown(["--limit", "3"], None)
         self.check("it is not followed", len(counted), 1)
 
-    def test_windows(self):
+    def test_what_is_left_out_is_said_in_each_form(self):
         """What is left out is said, and the rest is drawn, in each form."""
         script = ONE + "\n" + "".join(f"{10 * i} tick\n" for i in range(50))
         shown = {"html": lambda page: page.count('<g class="call '), "svg": lambda page: page.count('<g class="call '),
@@ -349,14 +367,17 @@ class TimelineHistory(TimelineCase):
                         ElementTree.fromstring(page.replace("<!DOCTYPE html>\n", ""))
                     except ElementTree.ParseError as fault:
                         self.check(f"{name}: XML", False, shown=str(fault))
+
+    def test_a_thousand_calls_are_drawn_without_a_limit(self):
+        shown = {"html": lambda page: page.count('<g class="call '), "svg": lambda page: page.count('<g class="call '),
+                 "text": lambda text: text.count("tick, call"), "trace": lambda text: len(events(text, "call"))}
         many = ONE.replace('"region"', '"maxEntries":9999,"region"') + "\n" + "".join(f"{i} tick\n"
                                                                                       for i in range(1100))
         self.check("without --limit, 1,000 calls are drawn, and all are in the text and the trace",
                    [count(run(f"--{form}", script=many)[1]) for form, count in shown.items()] == [1000, 1000, 1100,
                                                                                                   1100])
-        self.waits()
 
-    def waits(self):
+    def test_of_what_lasts_the_part_in_the_window_is_drawn(self):
         """Of what lasts, that of which a part lies in the window is drawn."""
         script = ONE + "\n0 next 1\n" + "".join(f"{i} tick\n" for i in range(1, 50)) + "60 invoke f - - =1\n"
         page = run("--html", "--from", "40", "--to", "45", script=script)[1]
@@ -366,13 +387,12 @@ class TimelineHistory(TimelineCase):
                    [event["name"] for event in events(trace, "call")].count("next: deliver") == 1)
         self.check("as is the phase", [event["name"] for event in events(trace, "phase")] == ["Idle"],
                    shown=str(events(trace, "phase")))
-        self.cut_by_the_end()
         text = run("--from", "60", script=script)[1]
         self.check("the text has what happens in the window", "answered after 60 ms: deliver" in text
                    and "tick" not in text,
                    shown=text)
 
-    def cut_by_the_end(self):
+    def test_a_call_whose_answer_comes_later_does_not_look_finished(self):
         """A call whose answer comes after what is shown does not look finished."""
         script = ONE + "\n0 next 1\n10 invoke f - - =1\n20 tick\n2000 response 1 1 =2\n2100 next 1\n"
         for window, where in ((("--to", "1000"), "1000"), (("--from", "15", "--to", "1000"), "1000"),

@@ -108,7 +108,7 @@ def refused(port):
 
 
 class TimelineLive(TimelineCase):
-    def test_shown(self):
+    def test_the_live_page_shows_an_invocation_and_CtrlC_ends_it_in_order(self):
         with live() as page:
             wanted = f"http://127.0.0.1:{page.port}/ shows {page.service.endpoint_url}, until Ctrl-C\n"
             self.check("the address is printed", page.line == wanted, shown=page.line)
@@ -135,10 +135,12 @@ class TimelineLive(TimelineCase):
             status, said = page.end()
             self.check("Ctrl-C ends it in order", (status, said) == (0, ""), shown=f"{status} {said}")
             self.check("and its port", refused(page.port))
+
+    def test_SIGTERM_ends_it_in_order(self):
         with live() as page:
             self.check("SIGTERM as well", page.end(signal.SIGTERM) == (0, ""))
 
-    def test_guarded(self):
+    def test_the_page_is_for_a_browser_on_this_machine_alone(self):
         """The page is for a browser on this machine, and for no other site in it."""
         with live() as page:
             own = f"http://127.0.0.1:{page.port}"
@@ -162,7 +164,7 @@ class TimelineLive(TimelineCase):
                     seen = page.get(path, headers)[0]
                     self.check(f"{name}: {path}", seen == status, shown=str(seen))
 
-    def test_bounded(self):
+    def test_the_page_shows_the_last_calls_and_stays_bounded(self):
         """The page shows the last calls, whatever there was before, and is as long after many as after few."""
         with live("--limit", "20") as page:
             page.call()
@@ -184,7 +186,7 @@ class TimelineLive(TimelineCase):
             self.check("memory", resident < 64_000, shown=f"{resident} KB")
             print(f"after 1,602 invocations: a page of {len(drawn):,} bytes, {resident / 1000:.0f} MB of memory")
 
-    def test_hidden(self):
+    def test_what_up_does_is_hidden_unless_all_is_asked_for(self):
         with live() as page, live("--all") as other:
             for each in (page, other):
                 ask(each.runtime, "POST", "/2020-01-01/extension/register", '{"events":[]}',
@@ -194,7 +196,7 @@ class TimelineLive(TimelineCase):
             drawn = page.until(lambda drawn: "1 call," in drawn)
             self.check("else it is hidden", "1 call," in drawn and "lambda_local.up" not in drawn, shown=drawn[:300])
 
-    def test_gone(self):
+    def test_a_service_that_goes_is_said_and_another_one_is_shown(self):
         """A service that goes is said to have gone; if one answers there again, its history is shown from its
         beginning."""
         port = free_ports(1, ())[0]
@@ -217,7 +219,7 @@ class TimelineLive(TimelineCase):
             is_said = len(lines) == 2 and "has been unreachable since" in lines[0] and "answers again" in lines[1]
             self.check("both are said", status == 0 and is_said, shown=said)
 
-    def test_faults(self):
+    def test_faults_of_the_command_are_told(self):
         port = free_ports(1, ())[0]
         for name, arguments, words in (
             ("no service", ("--live", f"http://127.0.0.1:{port}"),
@@ -240,6 +242,8 @@ class TimelineLive(TimelineCase):
             status, output, said = run(*arguments)
             self.check(f"fault: {name}", status == 2 and output == "" and words in said and "Traceback" not in said,
                        shown=f"{status} {said}")
+
+    def test_ports_that_are_no_service_are_told(self):
         with live() as page:
             status, _, said = run("--live", f"http://127.0.0.1:{page.port}")
             self.check("fault: another server",
@@ -249,7 +253,7 @@ class TimelineLive(TimelineCase):
             self.check("fault: the port of an environment", status == 2 and "this is not lambda_local" in said,
                        shown=said)
 
-    def test_browser(self):
+    def test_Chromium_runs_the_script_of_the_page(self):
         """In Chromium, if it is installed: the script runs, shows what is new, and leads to a failed call."""
         chromium = shutil.which("chromium")
         if not chromium:

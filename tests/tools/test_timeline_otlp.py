@@ -61,7 +61,7 @@ class Spans(TimelineCase):
         return [(span["name"], int(span["startTimeUnixNano"]) // 1_000_000, int(span["endTimeUnixNano"]) // 1_000_000,
                  span.get("status", {}).get("message")) for span in spans]
 
-    def test_worked(self):
+    def test_an_init_a_timeout_and_a_shutdown_are_spans(self):
         spans = self.spans_of("an Init, a timeout and a shutdown", ONE + "\n10 invoke f - - =1\n20 next 1\n"
                               "3020 tick\n4000 next 1\n4500 invoke f - - =2\n4600 failure 1 2 =no\n4700 spindown 1\n")
         self.check("the spans", self.told(spans), [
@@ -73,19 +73,25 @@ class Spans(TimelineCase):
         self.check("another one is by itself", "parentSpanId" in spans[3], False)
         self.check("an invocation's own trace is its request identifier", spans[1]["traceId"],
                    "00000000000080008001000000000001")
+
+    def test_a_failed_init_is_part_of_its_invocation(self):
         spans = self.spans_of("an Init that fails", ONE + "\n10 invoke f - - =1\n10010 tick\n")
         self.check("its spans", self.told(spans), [("f", 10, 10010, "init-timeout"), ("Init", 10, 10010, "TIMEOUT"),
                                                    ("Shutdown", 10010, 10010, None)])
         self.check("it is part of that invocation", spans[1]["parentSpanId"], spans[0]["spanId"])
+
+    def test_a_shutdown_lasts_until_its_extension_is_done(self):
         spans = self.spans_of("a shutdown with an extension", ONE + "\n0 register 1 =x s -\n0 ext-next 1 1\n5 next 1\n"
                               "9 spindown 1\n30 ext-next 1 1\n")
         self.check("it lasts until the extension is done", self.told(spans),
                    [("Init", 0, 5, None), ("Shutdown", 9, 30, None)])
+
+    def test_what_goes_on_ends_with_the_history(self):
         spans = self.spans_of("what goes on", ONE + "\n0 invoke f - - =1\n0 invoke f - - =2\n7 tick\n")
         self.check("it ends with the history", self.told(spans), [
             ("f", 0, 0, "throttled LocalEnvironmentLimitExceeded"), ("f", 0, 7, None)])
 
-    def test_callers(self):
+    def test_a_callers_trace_is_that_of_its_spans(self):
         """The trace of a caller's X-Amzn-Trace-Id."""
         for name, header, trace, parent in (
             ("with a parent", CALLER, CALLERS_TRACE, CALLERS_SPAN),
@@ -103,7 +109,7 @@ class Spans(TimelineCase):
                        (trace or "00000000000080008001000000000001", parent))
             self.check(f"a trace {name}: the Init is in it too", spans[0]["traceId"], spans[-1]["traceId"])
 
-    def test_random_scripts(self):
+    def test_random_scripts_have_a_span_for_each_invocation(self):
         for seed in range(12):
             script = random_script(seed)
             spans = self.spans_of(f"random script {seed}", script)
@@ -118,14 +124,18 @@ class Spans(TimelineCase):
             self.check(f"random script {seed}: a span a shutdown that is over", resets - 3 <= over <= resets, shown=(
                 over, resets))
 
-    def test_windows(self):
+    def test_a_window_has_its_spans(self):
         script = ONE + "\n0 next 1\n" + "".join(f"{100 * i} invoke f - - =1\n{100 * i + 50} response 1 {i} =2\n"
                                                 f"{100 * i + 60} next 1\n" for i in range(1, 20))
         self.check("in a window", len(self.spans_of("a window", script, "--from", "500", "--to", "720")), 3)
+
+    def test_more_spans_than_are_in_memory_are_written(self):
         many = ONE.replace('"region"', '"maxEntries":99999,"region"') + "\n0 next 1\n" + "".join(
             f"{i} invoke f - - =1\n{i} response 1 {i} =2\n{i} next 1\n" for i in range(1, 2500))
         spans = self.spans_of("many", many)
         self.check("more spans than are in memory", len(spans), 2500)
+
+    def test_a_fault_leaves_no_file(self):
         with tempfile.TemporaryDirectory() as folder:
             path = os.path.join(folder, "spans.json")
             status, _, said = run("--otlp", "-o", path, script=ONE + "\n0 tock\n")

@@ -126,7 +126,7 @@ def once(names):
 
 
 class Traces(TimelineCase):
-    def test_random_scripts(self):
+    def test_traces_of_random_scripts_lose_nothing_and_are_read_as_they_are(self):
         for seed in range(int(os.environ.get("TRACES", "40"))):
             script = random_script(seed)
             trace = traced(script)
@@ -136,7 +136,7 @@ class Traces(TimelineCase):
             self.as_read(seed, script, trace)
             self.without_bodies(seed, script, trace)
 
-    def test_bodies(self):
+    def test_bodies_of_each_byte_are_in_the_trace(self):
         """Bodies of each byte, and of none."""
         bodies = [bytes([byte]) for byte in range(256)] + [b"", bytes(range(256)), "\u00e9\U0001f600".encode()]
         lines = "".join(f"0 invoke f - - ={''.join(f'%{byte:02x}' for byte in body)}\n" for body in bodies)

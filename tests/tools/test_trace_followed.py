@@ -15,6 +15,7 @@ from lambda_local.history.running import Running
 from lambda_local.service import RUNTIME, Service, ask, wait_for
 from tests.library.cases import Case
 from tests.library.timelines import PROGRAM
+from tests.library.up_kit import until
 
 CONFIGURATION = {"account": "123456789012", "region": "us-east-2",
                  "functions": [{"name": name, "ports": [0], "timeout": 600} for name in "fg"]}
@@ -94,8 +95,7 @@ def invoke(service, name, environment):
     before = service.stats()["entries"]
     runtime = threading.Thread(target=serve, args=(service.configuration["functions"][environment]["ports"][0],))
     runtime.start()
-    while service.stats()["entries"] == before:
-        time.sleep(0.01)
+    until(lambda: service.stats()["entries"] != before, PATIENCE)
     ask(service.port, "POST", f"/2015-03-31/functions/{name}/invocations", b'{"n":1}', timeout=PATIENCE)
     runtime.join(PATIENCE)
 
@@ -160,7 +160,7 @@ def answer_large(service, byte):
 
 
 class TraceFollowed(Case):
-    def test_follows(self):
+    def test_followers_get_each_line_as_it_comes_until_the_stop(self):
         service = Service(CONFIGURATION)
         try:
             early = Follower(service.port)
@@ -201,7 +201,7 @@ class TraceFollowed(Case):
         finally:
             service.kill()
 
-    def test_rests(self):
+    def test_a_follower_that_waits_is_no_work(self):
         """A follower that waits is no work, and its place is free once it has gone."""
         service = Service(CONFIGURATION)
         try:
@@ -215,7 +215,7 @@ class TraceFollowed(Case):
         finally:
             service.kill()
 
-    def test_ends_as_fast(self):
+    def test_a_service_that_is_followed_ends_as_fast(self):
         """The least of some tries, since most of them may wait for a processor. (A look at a timer would be 60 ms.)"""
         tries = [(is_over_in(0), is_over_in(3)) for _ in range(9)]
         followed = [it for _, it in tries]
@@ -225,7 +225,7 @@ class TraceFollowed(Case):
                    shown=f"{1000 * taken:.1f} ms, alone {1000 * alone:.1f} ms")
         print(f"      (it took {1000 * taken:.1f} ms, alone {1000 * alone:.1f} ms)")
 
-    def test_has_few_followers(self):
+    def test_no_more_than_64_follow_and_the_counts_and_the_stop_have_a_place(self):
         """Further ones are turned away, until one has gone. The counts and the stop have a place."""
         service = Service(CONFIGURATION)
         try:
@@ -253,7 +253,7 @@ class TraceFollowed(Case):
         finally:
             service.kill()
 
-    def test_holds_little_for_readers(self):
+    def test_readers_that_do_not_read_on_hold_little(self):
         """After one large output, of bytes that are escaped, many readers that do not read on."""
         for path in "/_local/history", "/_local/trace", FOLLOWED:
             for byte in b"\x01", b"\xff":

@@ -67,7 +67,7 @@ def fault_of(kind, server):
 
 
 class Trouble(Case):
-    def test_each(self):
+    def test_each_kind_of_trouble_comes_about_once_and_all_rest_after_it(self):
         function = {"name": "f", "runtime": "python", "handler": "app.run", "timeout": 900, "environments": 2}
         up = Up(*READY, functions=[function], app=APP)
         self.check("it is ready", up.until("[up] ready", READY_SECONDS) and rests(up, 0))
@@ -117,7 +117,7 @@ class Trouble(Case):
                                         isinstance(up.invoke()[0], int)), (0, True))
         self.check("it ends", up.end(), (0, []))
 
-    def test_refusals(self):
+    def test_what_is_no_trouble_is_refused(self):
         up = Up(*READY, functions=[{"name": "f", "runtime": "python", "handler": "app.run", "timeout": 9},
                                    {"name": "g", "runtime": "python", "handler": "app.run",
                                     "environments": {"min": 0, "max": 2}}], app=APP)
@@ -142,7 +142,7 @@ class Trouble(Case):
         self.check("and the function answers", isinstance(up.invoke()[0], int))
         self.check("it ends", up.end(), (0, []))
 
-    def test_other_answers(self):
+    def test_a_server_that_answers_otherwise_is_told_in_a_line(self):
         """A server that is none of lambda_local, or lies: one line."""
         server = http.server.ThreadingHTTPServer(("127.0.0.1", 0), Answers)
         server.cut = 0
@@ -178,7 +178,7 @@ class Trouble(Case):
             thread.join()
             server.server_close()
 
-    def test_faults(self):
+    def test_faults_of_the_command_are_told(self):
         for words, wanted in (
                 (["f", "fire"], "fire: write throttle, cold, crash, timeout or init"),
                 (["f", "cold", "{}"], "cold {}: only crash, timeout and init have a payload"),
@@ -189,6 +189,8 @@ class Trouble(Case):
                        (2, "", 1, True), shown=said)
         status, output, said = trouble("f", "cold", endpoint="http://127.0.0.1:1")
         self.check("a service that is not there", (status, said.startswith("trouble: http://127.0.0.1:1: ")), (4, True))
+
+    def test_a_service_without_up_has_cold_starts_alone(self):
         with LambdaLocal(f=lambda event: event) as service:
             self.check("one without lambda_local up", trouble("f", "crash", endpoint=service.endpoint_url),
                        (3, "", "trouble: crash needs a function of `lambda_local up`: the service is without it\n"))

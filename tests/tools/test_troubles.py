@@ -11,6 +11,7 @@ from lambda_local.in_process import FunctionError, LambdaLocal
 from tests.library.cases import Case
 from tests.library.clock_kit import EVENT, INVOKE, course_of, posted
 from tests.library.traces import entries_in
+from tests.library.up_kit import until
 
 ROUNDS = 20
 
@@ -26,7 +27,7 @@ def fault_of(call):
 
 
 class Clock(Case):
-    def test_set(self):
+    def test_the_clock_is_paused_and_advanced(self):
         with LambdaLocal(f=lambda event: event) as service:
             clock = service.clock
             with clock.paused():
@@ -40,6 +41,10 @@ class Clock(Case):
                     pass
                 self.check("an inner pause leaves an outer one", clock.is_paused)
             self.check("after it the clock goes on", clock.is_paused, False)
+
+    def test_what_is_no_advance_is_refused(self):
+        with LambdaLocal(f=lambda event: event) as service:
+            clock = service.clock
             for words, wanted in (((0,), "it is 0 milliseconds"), ((-1,), "seconds is -1"), (("3",), "seconds is '3'"),
                                   ((True,), "seconds is True"), ((float("nan"),), "seconds is nan"),
                                   ((float("inf"),), "seconds is inf"), ((2 ** 53,), "seconds is 9007"),
@@ -48,10 +53,12 @@ class Clock(Case):
                 self.check(f"no advance: {words}", (kind, wanted in text), ("ValueError", True), shown=text)
             kind, text = fault_of(lambda: clock.advance(milliseconds=2 ** 53 - 1))
             self.check("too far an advance", (kind, "past 9007199254740991" in text), ("ValueError", True), shown=text)
+
+    def test_without_a_service_there_is_no_clock(self):
         kind, text = fault_of(lambda: LambdaLocal().clock.now())
         self.check("no service", (kind, "no function is started yet" in text), ("RuntimeError", True), shown=text)
 
-    def test_remaining_time(self):
+    def test_a_timeout_in_a_pause_comes_by_an_advance_alone(self):
         """A timeout in a pause comes by an advance alone."""
         def waits(event):
             entered.append(event)
@@ -62,8 +69,7 @@ class Clock(Case):
         with LambdaLocal({"waits": {"timeout": 1}}, waits=waits) as service, service.clock.paused():
             thread = threading.Thread(target=lambda: got.append(fault_of(lambda: service.invoke("waits", 1))))
             thread.start()
-            while not entered:
-                time.sleep(0.01)
+            until(lambda: bool(entered), 30)
             time.sleep(1.2)
             self.check("no real second ends it", got, [])
             service.clock.advance(seconds=1)
@@ -71,7 +77,7 @@ class Clock(Case):
             self.check("an advance does", got[0][0], "Function.Timeout")
             over.append(1)
 
-    def test_events(self):
+    def test_equal_courses_make_equal_histories(self):
         """Equal courses make equal histories: an event with two retries in each round, and a timeout."""
         def fails(_event):
             raise KeyError("missing")
@@ -110,7 +116,7 @@ class Clock(Case):
 
 
 class Troubles(Case):
-    def test_throttled(self):
+    def test_a_throttled_function_refuses_each_caller_until_it_is_over(self):
         with LambdaLocal({"f": {"environments": 2, "reserved": 1}}, f=lambda event: event,
                          g=lambda event: 2) as service:
             with service.throttled("f"):
@@ -125,7 +131,7 @@ class Troubles(Case):
                 pass
             self.check("nor has one that had none", service._reserved("g"), None)
 
-    def test_times_out(self):
+    def test_a_timeout_is_reported_at_once_and_the_handler_not_called(self):
         seen = []
         with LambdaLocal({"f": {"timeout": 900}}, f=seen.append) as service:
             begun = time.monotonic()
@@ -140,7 +146,7 @@ class Troubles(Case):
             service.invoke("f", "after it")
             self.check("its handler was not called", seen, ["after it"])
 
-    def test_crashes(self):
+    def test_a_crash_is_reported_and_the_environment_starts_anew(self):
         seen = []
         with LambdaLocal(f=seen.append) as service:
             self.check("its caller gets Lambda's report", service.crashes("f", 1), {
@@ -151,14 +157,14 @@ class Troubles(Case):
             self.check("its environment starts anew in between", [kind for kind in kinds if kind != "next"],
                        ["invoke", "failure", "spindown", "invoke", "response"])
 
-    def test_cold(self):
+    def test_a_cold_function_has_new_environments(self):
         with LambdaLocal({"f": {"environments": 3}}, f=lambda event: event) as service:
             service.invoke("f")
             ended = service.cold("f")
             self.check("its environments end", 1 <= ended <= 3, shown=ended)
             self.check("and new ones begin", service.invoke("f", 2), 2)
 
-    def test_slow_init(self):
+    def test_a_slow_init_takes_its_time_or_times_out(self):
         with LambdaLocal(f=lambda event: event) as service:
             before = service.clock.now()
             service.slow_init("f", 5)
@@ -171,7 +177,7 @@ class Troubles(Case):
                        ("Init.Timeout", True), shown=text)
             self.check("the next one is as always", service.invoke("f", 3), 3)
 
-    def test_faults(self):
+    def test_faults_are_told_and_leave_nothing(self):
         with LambdaLocal(f=lambda event: event) as service:
             for call, wanted in (
                     (lambda: service.throttled("g").__enter__(), "there is no function 'g': there are f"),

@@ -6,11 +6,10 @@ import signal
 import subprocess
 import sys
 import tempfile
-import time
 
 from tests import ROOT
 from tests.library.cases import Case
-from tests.library.up_kit import HANDLER, Up
+from tests.library.up_kit import HANDLER, Up, until
 
 
 def extension_that(seconds):
@@ -24,68 +23,101 @@ def extension_that(seconds):
             "c.getresponse().read()"]
 
 
+class OneRuntime(Case):
+    """The tests share one `up`, and each leaves a runtime that serves."""
+
+    @classmethod
+    def setUpClass(cls):
+        cls.up = Up()
+        cls.addClassCleanup(cls.up.end)
+        cls.up.until("[up] ready")
+
+    def setUp(self):
+        self.check("it is ready", self.up.has("[up] ready"))
+
+    def a_new_one_serves(self, before):
+        after = self.up.invoke()[0]
+        self.check("a new process serves", isinstance(after, int) and after != before)
+
+    def test_a_runtime_has_its_variables(self):
+        self.check("the variables are set", self.up.invoke(do="name")[0], ["f", "index.handler", "hello"])
+
+    def test_a_crash_in_the_handler_is_told_at_once_and_a_new_process_serves(self):
+        before = self.up.invoke()[0]
+        answer, took = self.up.invoke(do="crash")
+        self.check("a crash in the handler is told at once", (answer, took < 0.9), ("Runtime.ExitError", True))
+        self.a_new_one_serves(before)
+
+    def test_a_handler_that_hangs_times_out_and_its_process_is_ended(self):
+        before = self.up.invoke()[0]
+        self.check("a handler that hangs is a timeout", self.up.invoke(do="hang")[0], "Function.Timeout")
+        self.a_new_one_serves(before)
+        self.check("its process is ended", os.path.exists(f"/proc/{before}"), False)
+
+    def test_an_exit_while_idle_is_seen_and_a_new_process_serves(self):
+        before = self.up.invoke()[0]
+        self.up.invoke(do="later")
+        self.check("an exit while idle is seen", self.up.until("exit status 9", 5))
+        self.a_new_one_serves(before)
+
+    def test_a_runtime_that_ends_in_its_init_is_paused_and_its_caller_hears(self):
+        open(os.path.join(self.up.at, "broken"), "w").close()
+        self.addCleanup(until, lambda: isinstance(self.up.invoke()[0], int), 30)
+        self.addCleanup(os.remove, os.path.join(self.up.at, "broken"))
+        self.check("the crash is told", self.up.invoke(do="crash")[0], "Runtime.ExitError")
+        self.check("a runtime that ends in its Init is paused", self.up.until("restarting in", 15))
+        self.check("and its caller hears", self.up.invoke()[0], "Runtime.ExitError")
+
+
 class UpTest(Case):
-    def test_runtimes(self):
+    def test_term_stops_in_order_after_a_crash_and_the_counts_are_said(self):
         up = Up()
         self.check("it is ready", up.until("[up] ready"))
-        self.check("the variables are set", up.invoke(do="name")[0], ["f", "index.handler", "hello"])
-        first = up.invoke()[0]
-        answer, took = up.invoke(do="crash")
-        self.check("a crash in the handler is told at once", (answer, took < 0.9), ("Runtime.ExitError", True))
-        second = up.invoke()[0]
-        self.check("a new process serves", isinstance(second, int) and second != first)
-        self.check("a handler that hangs is a timeout", up.invoke(do="hang")[0], "Function.Timeout")
-        third = up.invoke()[0]
-        self.check("its process is ended, and a new one serves",
-                   isinstance(third, int) and third != second and not os.path.exists(f"/proc/{second}"))
-        up.invoke(do="later")
-        self.check("an exit while idle is seen", up.until("exit status 9", 5))
-        self.check("and a new one serves after it", isinstance(up.invoke()[0], int))
-        open(os.path.join(up.at, "broken"), "w").close()
-        self.check("the crash is told", up.invoke(do="crash")[0], "Runtime.ExitError")
-        self.check("a runtime that ends in its Init is paused", up.until("restarting in", 15))
-        self.check("and its caller hears", up.invoke()[0], "Runtime.ExitError")
-        os.remove(os.path.join(up.at, "broken"))
+        up.invoke(do="crash")
         self.check("TERM stops in order, nothing is left", up.end(), (0, []))
         self.check("counts are said", any("admitted" in line for line in up.lines))
 
-    def test_commands(self):
+    def test_a_command_that_fails_gives_its_status_and_leaves_its_history(self):
         up = Up(command=["--", "sh", "-c", "test -n \"$AWS_ENDPOINT_URL_LAMBDA\" && exit 7"])
         self.check("the command's status", up.process.wait(40), 7)
         self.check("the history of a command that fails is saved",
                    os.path.exists(os.path.join(up.at, "lambda_local.history.txt")))
         self.check("nothing is left after a command", up.end(None), (7, []))
+
+    def test_a_command_that_succeeds_leaves_nothing(self):
         up = Up(command=["--", "true"])
         self.check("a command that succeeds", up.process.wait(40), 0)
         self.check("leaves no history", os.path.exists(os.path.join(up.at, "lambda_local.history.txt")), False)
         self.check("and nothing else", up.end(None), (0, []))
-        up = Up(command=["--", "sleep", "100"])
-        up.until("[up] ready")
-        time.sleep(0.3)
+
+    def test_term_ends_the_command(self):
+        up = Up(command=["--", "sh", "-c", "touch started; exec sleep 100"])
+        until(lambda: os.path.exists(os.path.join(up.at, "started")), 60)
         self.check("TERM ends the command", up.end(), (143, []))
+
+    def test_term_ends_it_before_the_service_listens(self):
         with tempfile.TemporaryDirectory() as folder:
             silent = os.path.join(folder, "silent")
             with open(silent, "w") as file:
                 file.write('#!/bin/sh\n: > "$0.started"\nexec sleep 100\n')
             os.chmod(silent, 0o755)
             up = Up("--program", silent)
-            for _ in range(3000):
-                if os.path.exists(silent + ".started"):
-                    break
-                time.sleep(0.02)
+            until(lambda: os.path.exists(silent + ".started"), 60)
             self.check("TERM ends it before the service listens", up.end(), (143, []))
+
+    def test_64_environments_are_ready_and_INT_ends_them(self):
         up = Up(environments=64)
         self.check("64 environments are ready", up.until("[up] ready", 60))
         self.check("INT ends 64", up.end(signal.SIGINT), (0, []))
 
-    def test_extensions(self):
+    def test_an_extension_that_crashes_is_told_and_its_environment_serves_again(self):
         up = Up(extensions={"x": extension_that(1.5)})
         self.check("it is ready with an extension", up.until("[up] ready"))
         self.check("an extension that crashes is told", up.until("Extension exited with error: exit status 5", 10))
         self.check("and its environment serves again", isinstance(up.invoke()[0], int))
         self.check("nothing is left of extensions", up.end(), (0, []))
 
-    def test_reload(self):
+    def test_a_changed_file_is_served_by_a_new_process(self):
         up = Up("--reload")
         up.until("[up] ready")
         first = up.invoke()[0]
@@ -96,8 +128,7 @@ class UpTest(Case):
         self.check("a new process serves the changed file", isinstance(second, int) and second != first)
         self.check("nothing is left after a reload", up.end(), (0, []))
 
-    def test_own_log(self):
-        """What lambda_local up writes into a watched folder does not count as a change."""
+    def test_its_own_log_in_a_watched_folder_is_no_change(self):
         with tempfile.TemporaryDirectory() as folder:
             with open(os.path.join(folder, "up.json"), "w") as file:
                 json.dump({"functions": [{"name": "f", "command": ["sleep", "100"]}]}, file)
@@ -114,7 +145,7 @@ class UpTest(Case):
                 self.check("its own log in a watched folder begins nothing anew",
                            (status, "restarting f" in log.read()), (0, False))
 
-    def test_debug(self):
+    def test_a_function_to_debug_has_its_clock_paused_and_no_limit_of_time(self):
         up = Up("--debug", "f")
         self.check("a function to debug begins",
                    up.until("waiting for a debugger: Init has no time limit until f is invoked", 10))
@@ -123,6 +154,8 @@ class UpTest(Case):
         self.check("and serves", isinstance(up.invoke()[0], int))
         self.check("longer than its timeout", isinstance(up.invoke(do="long")[0], int))
         self.check("nothing is left of it", up.end(), (0, []))
+
+    def test_a_command_waits_for_a_function_that_is_debugged_for_longer_than_an_init_has(self):
         # As at a breakpoint, for longer than an Init has (10 s) and than others are waited for.
         held = "import time; time.sleep(12)\n"
         up = Up("--debug", "f", "--ready", "5",

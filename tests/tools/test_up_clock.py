@@ -62,7 +62,7 @@ def send(up, name, body=b"{}"):
 
 
 class UpClock(Case):
-    def test_course(self):
+    def test_equal_courses_of_a_timeout_retries_and_a_schedule_have_equal_histories(self):
         """A timeout of 15 minutes, two retries after a minute and two, and a daily schedule, in each round."""
         up = started(self, function("hangs"), function("fails"), function("daily", schedule="rate(1 day)"),
                      options=("--salt", "7"), whole={"asynchronous": {"delays": [60, 120]}})
@@ -112,7 +112,7 @@ class UpClock(Case):
         if seen != wanted:
             self.check(name, seen, wanted)
 
-    def test_paused(self):
+    def test_what_is_due_in_a_pause_happens_once_the_clock_goes_on(self):
         """What is due by a clock that stands does not happen, and happens once it goes on; handlers that hang are
         killed."""
         up = started(self, function("hangs", timeout=1), function("fails"),
@@ -139,7 +139,7 @@ class UpClock(Case):
                    up.until("schedule rate(1 minute): event", 20))
         self.check("it ends", up.end(), (0, []))
 
-    def test_idle(self):
+    def test_no_environment_is_idle_in_a_pause(self):
         up = started(self, function("short", environments={"min": 1, "max": 2, "idle": 1}))
         pause(up.endpoint)
         pids = together(*2 * [lambda: up.invoke("short", sleep=1)[0]])
@@ -154,7 +154,7 @@ class UpClock(Case):
         self.check("and ends", until(lambda: [lives(pid) for pid in pids].count(True) == 1, 20))
         self.check("it ends", up.end(), (0, []))
 
-    def test_pauses_between_starts(self):
+    def test_no_start_is_tried_in_a_pause_and_an_advance_starts_it_at_once(self):
         up = Up(*READY, files={"broken": ""}, timeout=900)
         self.check("it keeps exiting", up.until("restarting in 1 s"))
         pause(up.endpoint)
@@ -167,7 +167,7 @@ class UpClock(Case):
         self.check("an advance starts it at once", up.until("[up] ready", 60))
         self.check("it ends", up.end(), (0, []))
 
-    def test_own_init(self):
+    def test_an_init_has_its_own_limit_by_the_clock(self):
         up = Up("--allow-unready", *READY, functions=[function("slow", init=300)],
                 app="import time\ntime.sleep(600)\ndef slow(event): return 1\n")
         self.check("it starts", up.until("callers: "))
@@ -179,7 +179,7 @@ class UpClock(Case):
         self.check("until its own limit", up.until("Init failed: Init timed out after 300 s", 20))
         self.check("it ends", up.end()[1], [])
 
-    def test_age(self):
+    def test_an_event_is_too_old_by_the_clock(self):
         up = started(self, function("f", "short", reserved=0), whole={"asynchronous": {"maximumAge": 3600}})
         pause(up.endpoint)
         self.check("an event is taken", send(up, "f"), 202)
@@ -194,7 +194,7 @@ class UpClock(Case):
         self.check("it ends", up.end(), (0, []))
 
     @WITH_BOTO3
-    def test_window(self):
+    def test_a_window_of_a_queue_is_over_by_the_clock(self):
         with Server() as server:
             up = started(self, function("f", "short", queue={"url": server.url, "batchSize": 100, "window": 300}))
             pause(up.endpoint)
@@ -206,7 +206,7 @@ class UpClock(Case):
             self.check("until its window is over", up.until("a batch of 1 ok", 20))
             self.check("it ends", up.end(), (0, []))
 
-    def test_stop(self):
+    def test_a_stop_in_a_pause_is_as_one_without(self):
         """In a pause, a stop is as one without: an extension that does not end has two seconds."""
         for by_request in (False, True):
             up = started(self, function("f", "short", extensions={
@@ -223,7 +223,7 @@ class UpClock(Case):
                 self.check("a signal ends it", up.end(), (0, []))
             self.check("in seconds", time.monotonic() - begun < 15, shown=time.monotonic() - begun)
 
-    def test_remaining_time(self):
+    def test_the_remaining_time_is_as_the_service_counts_it(self):
         """What is left of an invocation's time, by the bundled runtimes: as the service counts it, at no request."""
         up = started(self, function("py", timeout=60),
                      {"name": "js", "runtime": "node", "handler": "index.js", "timeout": 60, "environments": 1},

@@ -77,13 +77,15 @@ def is_answered(up):
 
 
 class UpCommand(Case):
-    def test_interrupts(self):
+    def test_CtrlC_lets_the_command_end_by_itself(self):
         for name, send in (("its group is interrupted", os.killpg), ("it alone is interrupted", os.kill)):
             up = running(TIDY)
             send(up.process.pid, signal.SIGINT)
             up.process.wait(30)
             torn_down = is_there(up, "torn_down")
             self.check(f"if {name}, the command ends by itself", (up.end(None), torn_down), ((2, []), True))
+
+    def test_a_second_CtrlC_kills_a_command_that_goes_on(self):
         up = running(STUBBORN)
         up.process.send_signal(signal.SIGINT)
         up.until("Ctrl-C again to kill it")
@@ -91,7 +93,7 @@ class UpCommand(Case):
         self.check("a command that goes on is waited for", up.process.poll(), None)
         self.check("a second Ctrl-C ends it", up.end(signal.SIGINT), (128 + signal.SIGTERM, []))
 
-    def test_in_a_terminal(self):
+    def test_in_a_terminal_CtrlC_leaves_time_for_the_commands_end(self):
         up = Up(command=["--", "true"], files={"tidy.py": TIDY})  # (for its folder)
         up.process.wait(30)
         child, terminal = pty.fork()
@@ -111,7 +113,7 @@ class UpCommand(Case):
                    (os.WEXITSTATUS(status), is_there(up, "torn_down")), (2, True))
         self.check("nothing is left of it", up.end(None), (0, []))
 
-    def test_killed(self):
+    def test_kill_9_leaves_no_process_and_no_file(self):
         for name, words in (("while it serves", []), ("while a command runs", ["--", sys.executable, "tidy.py"])):
             up = Up(command=words,
                     files={"tidy.py": TIDY, "x": "#!/bin/sh\nsleep 1000 & sleep 1000\n"},
@@ -130,7 +132,7 @@ class UpCommand(Case):
             self.check(f"kill -9 {name} leaves no file", until(lambda: not os.path.exists(os.path.dirname(folder)), 5))
             up.end(None)
 
-    def test_credentials(self):
+    def test_the_command_and_the_function_have_dummy_credentials(self):
         real = {
             "AWS_ACCESS_KEY_ID": "real", "AWS_SECRET_ACCESS_KEY": "real", "AWS_SESSION_TOKEN": "real",
             "AWS_PROFILE": "production",
@@ -152,20 +154,27 @@ class UpCommand(Case):
                        (True, "false"))
         self.check("true, numbers and texts are variables as in JSON", [seen[1].get(name) for name in "TNX"],
                    ["true", "1.5", "x"])
+
+    def test_credentials_are_kept_if_that_is_asked(self):
+        real = {
+            "AWS_ACCESS_KEY_ID": "real", "AWS_SECRET_ACCESS_KEY": "real", "AWS_SESSION_TOKEN": "real",
+            "AWS_PROFILE": "production",
+            "AWS_REGION": "eu-west-1", "AWS_DEFAULT_REGION": "eu-west-1", "AWS_IGNORE_CONFIGURED_ENDPOINT_URLS": "true"
+        }
         for who, values in zip(("the command", "the function"), variables_of(["--keep-credentials"], real)):
             self.check(f"{who} keeps credentials if asked",
                        [values.get(name) for name in ("AWS_ACCESS_KEY_ID", "AWS_SESSION_TOKEN", "AWS_PROFILE")],
                        ["real", "real", "production"])
             self.check(f"{who} has the region all the same", values.get("AWS_REGION"), "us-west-2")
 
-    def test_proxies(self):
+    def test_a_proxy_of_the_shell_is_passed_by(self):
         """A proxy that the shell names gets no payload: curl, as most clients, would send it there."""
         real = {"http_proxy": "http://127.0.0.1:9", "HTTP_PROXY": "http://127.0.0.1:9", "no_proxy": "example.org"}
         for who, values in zip(("the command", "the function"), variables_of([], real)):
             self.check(f"{who} passes a proxy by", (values.get("no_proxy"), values.get("NO_PROXY")),
                        2 * ("example.org,127.0.0.1,localhost",))
 
-    def test_old_clients(self):
+    def test_clients_that_do_not_read_the_endpoint_are_told(self):
         clients: Tuple[Tuple[Tuple[str, str], List[str]], ...] = (
             (("2.9.19", "1.26.27"), ["aws 2.9 ignores", "boto3 1.26 ignores"]),
             (("1.22.34", "1.28.0"), ["aws 1.22 ignores"]), (("2.13.0", "1.43.1"), []))
@@ -186,7 +195,7 @@ class UpCommand(Case):
                            sorted(re.findall(r"\b(?:aws|boto3) [0-9.]+ ignores", "\n".join(up.lines))), wanted)
                 up.end()
 
-    def test_identifiers(self):
+    def test_two_runs_have_other_identifiers_unless_a_salt_is_given(self):
         seen = []
         for options, whole in (((), {}), ((), {}), (("--salt", str(0x0123456789ABCDEF)), {"salt": 7}),
                                ((), {"salt": 7})):
@@ -200,7 +209,7 @@ class UpCommand(Case):
         self.check("--salt gives them again", seen[2], "01234567-89ab-8def-8001-000000000001")
         self.check("so does UP.json", seen[3], "00000000-0000-8007-8001-000000000001")
 
-    def test_taken_ports(self):
+    def test_a_taken_port_is_named(self):
         with socket.socket() as listener:
             listener.bind(("127.0.0.1", 0))
             listener.listen()
@@ -213,7 +222,7 @@ class UpCommand(Case):
                             [f"up: up.json: port {port} ({name}): another program listens there: "
                              "leave the port out, and a free one is used"]))
 
-    def test_full_history(self):
+    def test_a_history_that_is_nearly_full_is_told_and_a_full_one_ends_in_order(self):
         up = Up(whole={"maxEntries": 600})
         up.until("[up] ready")
         until(lambda: not is_answered(up), 60)
@@ -223,16 +232,20 @@ class UpCommand(Case):
                    (1, 1))
         self.check("and all ends in order", up.end(), (0, []))
 
-    def test_other_ends(self):
+    def test_a_stop_from_outside_is_no_fault(self):
         up = Up()
         up.until("[up] ready")
         up.get("/_local/stop", b"", "POST")
         self.check("a stop from outside is no fault",
                    (up.end(None), up.has("the service was stopped by POST /_local/stop")),
                    ((0, []), True))
+
+    def test_a_command_without_its_dashes_is_told(self):
         up = Up(command=["pytest", "-x"])
         self.check("a command without -- is told", (up.end(None), up.lines),
                    ((2, []), ["up: write -- before the command: lambda_local up up.json -- pytest -x"]))
+
+    def test_what_is_not_ready_is_told_with_who_is_waited_for_and_why(self):
         up = Up("--ready", "1", command=["--", "true"], extensions={"late": ["sleep", "100"]})
         self.check("what is not ready is told with who is waited for",
                    (up.end(None)[0], up.has("not ready after 1 s: f/1, which waited for its extension late, which must "
@@ -244,7 +257,7 @@ class UpCommand(Case):
                    (up.end(None)[0], up.has("not ready: f/1, whose Init fails: Runtime.ImportModuleError")),
                    (5, True))
 
-    def test_runtimes(self):
+    def test_a_bundled_runtime_serves_by_its_name(self):
         node = "export const run = async (event, context) => ({ name: context.functionName, hello: event.name });\n"
         python = "def run(event, context):\n    return {'name': context.function_name, 'hello': event['name']}\n"
         functions = [{"name": "snake", "runtime": "python", "handler": "app.run"},
@@ -254,6 +267,10 @@ class UpCommand(Case):
         for name in ("snake", "node"):
             self.check(f"the bundled runtime of {name}", up.invoke(name, name="Ada")[0], {"name": name, "hello": "Ada"})
         self.check("nothing is left of bundled runtimes", up.end(), (0, []))
+
+    def test_a_node_that_is_not_here_is_named(self):
+        functions = [{"name": "snake", "runtime": "python", "handler": "app.run"},
+                     {"name": "node", "runtime": "node", "handler": "index.run"}]
         with tempfile.TemporaryDirectory() as folder:
             path = os.path.join(folder, "up.json")
             with open(path, "w") as file:

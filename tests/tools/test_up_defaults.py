@@ -52,7 +52,7 @@ def got(url):
 
 
 class UpDefaults(Case):
-    def test_room(self):
+    def test_ten_environments_by_default_and_256_in_all(self):
         run: Members = {"command": "x"}
         self.check("ten by default, as many as are reserved, or exactly what is written",
                    counts(run, {**run, "reserved": 3}, {**run, "environments": 2}, {**run, "ports": [1, 2, 3]},
@@ -65,6 +65,8 @@ class UpDefaults(Case):
             "each function has up to 3 environments, and not 10: 256 are the most in all",
             "f2 reserves 3, and not 40: 256 environments are the most in all"]))
         self.check("a reservation of none", counts({**run, "reserved": 0})[0], [10])
+
+    def test_the_service_takes_what_is_reserved(self):
         with tempfile.TemporaryDirectory() as folder:
             path = os.path.join(folder, "up.json")
             with open(path, "w") as file:
@@ -75,7 +77,7 @@ class UpDefaults(Case):
                                                 {one["reserved"] for one in configuration["functions"]},
                                                 {function.least for function in functions}), (240, {12}, {1}))
 
-    def test_callers(self):
+    def test_six_callers_at_once_are_answered_and_events_are_taken(self):
         """As on Lambda, six callers at once are answered, and events are taken."""
         functions = [{"name": "f", "environments": {"min": 1, "max": 10}, "timeout": 60, **PYTHON},
                      {"name": "once", "timeout": 60, "environments": 1, **PYTHON}]
@@ -89,12 +91,14 @@ class UpDefaults(Case):
         self.check("a throttle says what to write", up.until(
             'no environment is free ("environments": {"min": 1, "max": 10} allows 10)', 10))
         self.check("nothing is left", up.end(), (0, []))
+
+    def test_events_are_refused_if_that_is_written(self):
         up = Up(whole={"asynchronous": False}, functions=[{"name": "f", **PYTHON}], app=APP)
         up.until("[up] ready", 60)
         self.check("events are refused if that is written", status_of(up, INVOKE.format("f"), "Event"), 400)
         up.end()
 
-    def test_aliases(self):
+    def test_an_alias_is_invoked_and_has_the_functions_settings(self):
         arn = "arn:aws:lambda:us-east-1:123456789012:function:f"
         functions = [{"name": "f", "aliases": ["live"], "asynchronous": {"retries": 0}, "timeout": 9, **PYTHON},
                      {"name": "g", "command": RUNTIME, "timeout": 9}]
@@ -117,7 +121,7 @@ class UpDefaults(Case):
         up.end()
         self.check("without aliases nothing is looked at", Aliases({}).without("anything"), "anything")
 
-    def test_apis(self):
+    def test_two_APIs_with_the_same_route_have_ports_of_their_own(self):
         """Two APIs with the same route, each at its own port, whose addresses the command and functions have."""
         functions = [{"name": "my-f", "url": True, "timeout": 9, **PYTHON}, {"name": "g", "timeout": 9, **PYTHON}]
         up = Up(functions=functions, app=APP.replace('return {"pid"', 'event.pop("sleep", 0); return {"pid"'), whole={
@@ -129,13 +133,16 @@ class UpDefaults(Case):
                    (first, True, up.told(r"my-f: its URL is (\S+)")))
         self.check("routes are printed as links", up.has(f"GET {first}/orders -> my-f"))
         up.end()
+
+    def test_a_command_has_the_addresses_of_the_APIs(self):
+        functions = [{"name": "my-f", "url": True, "timeout": 9, **PYTHON}, {"name": "g", "timeout": 9, **PYTHON}]
         up = Up(functions=functions, app=APP, whole={"routes": {"GET /": "g"}, "apis": {"x": {"routes": {
             "GET /": "g"}}}}, command=["--", "sh", "-c", "env | grep ^LAMBDA_LOCAL_[RU].*= | cut -d= -f1 | sort"])
         up.end(None)
         self.check("the command has the addresses", up.output.split(), [
             "LAMBDA_LOCAL_ROUTES", "LAMBDA_LOCAL_ROUTES_X", "LAMBDA_LOCAL_RUN", "LAMBDA_LOCAL_URL_MY_F"])
 
-    def test_code(self):
+    def test_code_in_UP_json_and_in_a_zip_file_is_served(self):
         """Code in UP.json itself, and in a .zip file."""
         def packed(at):
             with zipfile.ZipFile(os.path.join(at, "code.zip"), "w") as archive:
@@ -148,7 +155,7 @@ class UpDefaults(Case):
         self.check("they serve", (up.invoke("inline")[0], up.invoke("zip")[0]), ("inline", "zipped"))
         self.check("nothing is left", up.end(), (0, []))
 
-    def test_mistakes(self):
+    def test_mistakes_in_UP_json_are_told(self):
         base: Members = {"name": "f", "runtime": "python", "handler": "app.run"}
         for whole, wanted in (
                 ({"functions": [{**base, "aliases": ["1"]}]}, "function f: aliases must be a list of names"),

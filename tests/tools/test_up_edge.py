@@ -83,7 +83,7 @@ class UpEdge(Case):
         self.check("a module has left three processes", len(here), 3)
         return up
 
-    def test_of_sessions_of_their_own(self):
+    def test_what_a_runtime_has_started_ends_with_it_whatever_its_session(self):
         up = self.leaving()
         first = up.invoke()[0]
         self.check("a handler that hangs times out", up.invoke(do="hang")[0], "Function.Timeout")
@@ -93,7 +93,7 @@ class UpEdge(Case):
                    until(lambda: not [pid for pid in with_word("994") if up.is_here(pid)], 5), True)
         self.check("after TERM nothing is left", up.end(), (0, []))
 
-    def test_left_by_a_crash(self):
+    def test_what_a_crash_has_left_ends_and_others_go_on(self):
         """What a runtime that has crashed has left in sessions of its own ends with it, and what the other environment
         has goes on; a fresh one, and one that was forked."""
         up = Up(functions=[{"name": name, "runtime": "python", "handler": "app.run", "timeout": 5} for name in "fg"],
@@ -112,17 +112,23 @@ class UpEdge(Case):
         self.check("the other one goes on", {int(up.invoke("g")[0])}, of_g)
         self.check("after TERM nothing is left", up.end(), (0, []))
 
-    def test_killed(self):
+    def test_after_kill_9_of_up_nothing_is_left(self):
         """kill -9 of each process of lambda_local up, but those of functions."""
         up = self.leaving()
         self.check("after kill -9 of lambda_local up nothing is left", end_by(up, up.process.pid), (-9, []))
+
+    def test_after_kill_9_of_its_guard_nothing_is_left(self):
         up = self.leaving()
         guard = next(pid for pid in children(up.process.pid) if "guard_process.py" in command_of(pid))
         self.check("after kill -9 of its guard nothing is left", end_by(up, guard), (70, []))
         self.check("which it tells", up.has("stopping: its guard process has ended"), True)
+
+    def test_after_kill_9_of_its_service_nothing_is_left(self):
         up = self.leaving()
         service = next(pid for pid in children(up.process.pid) if "serve" in command_of(pid).split("\0"))
         self.check("after kill -9 of its service nothing is left", end_by(up, service), (4, []))
+
+    def test_after_kill_9_of_all_but_its_guard_nothing_is_left(self):
         up = self.leaving()
         everyone = children(up.process.pid)
         for pid in everyone:
@@ -131,7 +137,7 @@ class UpEdge(Case):
         self.check("after kill -9 of lambda_local up and all but its guard nothing is left", end_by(up, up.process.pid),
                    (-9, []))
 
-    def test_killed_with_a_command(self):
+    def test_after_kill_9_nothing_is_left_of_its_command(self):
         """What the command of a killed lambda_local up has started ends too, whatever session that is in."""
         for everyone in (False, True):
             up = Up(command=COMMAND)
@@ -144,6 +150,8 @@ class UpEdge(Case):
                     kill(pid)
             self.check(f"after kill -9 of lambda_local up{' and of its command' if everyone else ''} nothing is left",
                        end_by(up, up.process.pid), (-9, []))
+
+    def test_what_a_command_that_has_ended_leaves_behind_stays(self):
         up = Up(command=["--", "sh", "-c", "setsid sleep 998 >/dev/null 2>&1 &"])
         until(lambda: up.process.poll() is not None, 60)
         status, left = up.end(None)
@@ -151,7 +159,7 @@ class UpEdge(Case):
         for pid in left:
             kill(int(pid))
 
-    def test_private_files(self):
+    def test_a_saved_history_is_for_its_user_alone(self):
         """A saved history has payloads: its user alone may read it."""
         up = Up("--history", "saved", command=["--", "true"], functions=[{"name": "f"}])
         until(lambda: up.process.poll() is not None, 60)
@@ -160,7 +168,7 @@ class UpEdge(Case):
         up.end(None)
         self.check("a saved history is its user's", seen, ("0o600", "form 2\n"))
 
-    def test_few_ports(self):
+    def test_twelve_services_have_six_ports_by_turns(self):
         """Services one after the other on few ports, whose connections have ended a moment ago."""
         first = free_range(6)
         os.environ["LAMBDA_LOCAL_PORTS"] = f"{first}-{first + 5}"
@@ -179,7 +187,7 @@ class UpEdge(Case):
             del os.environ["LAMBDA_LOCAL_PORTS"]
         self.check("twelve services have six ports by turns", seen, [0] * 12)
 
-    def test_out_of_memory(self):
+    def test_a_lack_of_memory_is_told_and_TERM_ends_it(self):
         """What a limit of memory does to lambda_local up: it is told, and TERM ends it."""
         up = Up("--drain", "0", functions=[{"name": "f", "command": ["./slow"], "timeout": 900}],
                 files={"slow": "#!/bin/sh\nulimit -v unlimited; exec " + " ".join(RUNTIME) + "\n"},
@@ -202,7 +210,7 @@ class UpEdge(Case):
         self.check("TERM ends it, and nothing is left", (status != "hangs", time.monotonic() - begun < 35, left),
                    (True, True, []))
 
-    def test_out_of_descriptors(self):
+    def test_without_descriptors_it_goes_on_once_there_are_some(self):
         """lambda_local up without descriptors goes on once there are some, also with limits that it reads from
         files."""
         up = Up(functions=[{"name": "f", "command": ["./slow"], "timeout": 60}],
@@ -221,7 +229,7 @@ class UpEdge(Case):
         self.check("its threads go on", up.has("cannot go on"), False)
         self.check("and it ends as always", up.end(), (0, []))
 
-    def test_out_of_descriptors_at_the_history(self):
+    def test_without_descriptors_the_history_is_read_once_there_are_some(self):
         """The thread that reads the history needs a descriptor if its connection has ended."""
         service = Service({"account": "123456789012", "region": "us-east-1",
                            "functions": [{"name": "f", "ports": [0]}]})
@@ -258,7 +266,7 @@ class UpEdge(Case):
                    [1])
         service.kill()
 
-    def test_taken(self):
+    def test_what_is_up_to_date_was_given_to_all_who_follow_once(self):
         """What is up to date was given to all who follow, however long these take, and once to each."""
         service = Service({"account": "123456789012", "region": "us-east-1",
                            "functions": [{"name": "f", "ports": [0]}]})
@@ -284,7 +292,7 @@ class UpEdge(Case):
         stream.close()
         service.kill()
 
-    def test_history_that_is_none(self):
+    def test_a_service_without_a_history_is_asked_again_and_that_is_told_once(self):
         """A service that gives no history is asked again, and that is told once."""
         service = Service({"account": "123456789012", "region": "us-east-1",
                            "functions": [{"name": "f", "ports": [0]}]})

@@ -116,7 +116,7 @@ ask("event/next", None, {"Lambda-Extension-Identifier": registered.headers["Lamb
 
 
 class UpFailures(Case):
-    def test_wrong_names(self):
+    def test_an_extension_of_another_name_and_a_handler_that_is_not_there_are_told_before_the_init_is_over(self):
         """An extension under another name than UP.json has is told before its Init is over, one that has its own name
         is not; a handler that is not named is told if there is no module for the default."""
         function = {"runtime": "python", "handler": "app.run"}
@@ -130,13 +130,15 @@ class UpFailures(Case):
         self.check("no handler", up.has('h: there is no "handler", and no module index for index.handler'))
         self.check("the end of the Init says it too", up.until("(flush.sh has registered)", 30))
         self.check("nothing is left", up.end(), (0, []))
+
+    def test_a_handler_that_is_not_named_is_told_unless_its_default_is_there(self):
         up = Up(files={"index.py": "handler = lambda event, context: 1\n"},
                 functions=[{"name": "h", "runtime": "python"}])
         self.check("one whose default is there", (up.until("[up] ready"), up.has('no "handler"')), (True, False))
         self.check("it serves", up.invoke("h")[0], 1)
         up.end()
 
-    def test_init_failures(self):
+    def test_failed_inits_are_told_and_started_again_after_pauses(self):
         late = Up(extensions={"late": ["sleep", "100"]})  # (its Init takes 10 s to fail)
         four, two = failing(environments=4), failing("--reload", environments=2, watch=["mended"])
         self.check("a failed Init is told with type, message and place",
@@ -170,7 +172,7 @@ class UpFailures(Case):
         self.check("a change starts it again", until(lambda: isinstance(up.invoke()[0], int), 10))
         self.check("nothing is left of mended ones", up.end(), (0, []))
 
-    def test_stop(self):
+    def test_an_invocation_that_a_stop_ends_is_told_before_the_end(self):
         """What a stop ends is told before the end."""
         up = Up(timeout=60)
         up.until("[up] ready")
@@ -181,7 +183,7 @@ class UpFailures(Case):
         caller.join(60)
         self.check("and that is told", [" ended by the stop" in line for line in up.lines[-2:]], [True, False])
 
-    def test_pauses(self):
+    def test_pauses_grow_behind_early_ends_in_a_row(self):
         restarts, seen = Restarts(False), []
         for _ in range(6):
             restarts.note(True)
@@ -191,7 +193,7 @@ class UpFailures(Case):
         self.check("one that ends well makes no pause", restarts.pause, 0)
         self.check("without --reload no change is waited for", restarts.needs_a_change, False)
 
-    def test_crashing_extension(self):
+    def test_an_extension_that_exits_in_init_is_told_in_one_line_each_time(self):
         up = Up("--ready", "5", command=["--", "true"], extensions={"bad": ["sh", "-c", "exit 4"]})
         self.check("an extension that exits in Init", up.end(None)[0], 5)
         self.check("is told in one line each time",
@@ -220,7 +222,7 @@ class UpFailures(Case):
         self.check("nothing is left of them", up.end(None), (0, []))
         return entries, resets, [reset[-1].moment - reset[0].moment for reset in resets], stop
 
-    def test_extensions(self):
+    def test_an_extension_that_exits_at_shutdown_delays_no_reset_and_no_stop(self):
         _, _, plain, plain_stop = self.reset_and_stop()
         entries, resets, took, stop = self.reset_and_stop(extensions={"exiting": ["./exiting"]})
         self.check("the extension is told each end",
@@ -238,7 +240,7 @@ class UpFailures(Case):
             stops.append((self.reset_and_stop(extensions={"exiting": ["./exiting"]})[3], self.reset_and_stop()[3]))
         self.check("and so does a stop", stops[-1][0] < max(0.4, 2.5 * stops[-1][1]), shown=stops)
 
-    def test_lines(self):
+    def test_each_invocation_has_a_line_and_a_burst_of_throttles_has_one(self):
         up = Up(functions=[{"name": "f", "command": RUNTIME, "timeout": 1}, {"name": "none", "ports": [0],
                                                                              "reserved": 0}])
         up.until("[up] ready")
@@ -261,7 +263,7 @@ class UpFailures(Case):
                    re.findall(f"({REQUEST}) ok", "\n".join(up.lines))[0] in up.history())
         self.check("nothing is left of lines", up.end(), (0, []))
 
-    def test_as_json(self):
+    def test_with_log_json_each_line_is_an_object(self):
         up = Up("--log",
                 "json",
                 functions=[{"name": "f", "command": RUNTIME, "timeout": 1}],
@@ -286,7 +288,7 @@ class UpFailures(Case):
                    [line["source"] for line in seen if line["kind"] == "output" and line["text"] == "from here"],
                    ["f/1"])
 
-    def test_quietly(self):
+    def test_quietly_only_what_is_printed_and_what_fails_is_told(self):
         up = Up("--quiet",
                 functions=[{"name": "f", "command": RUNTIME, "timeout": 1}],
                 app="def run(event):\n    print('from here')\n    return event['x']\n")
@@ -301,17 +303,17 @@ class UpFailures(Case):
         self.check("all else is not", [line for line in up.lines if " ok " in line or "ready" in line
                                        or "admitted" in line], [])
 
-    def test_colours(self):
+    def test_an_ok_is_green_on_a_terminal_unless_NO_COLOR_is_set(self):
         self.check("on a terminal an ok is green", bool(re.search(rf"\x1b\[32m{REQUEST} ok \d+ ms\x1b\[0m",
                                                                   on_a_terminal())))
         self.check("not if NO_COLOR is set", "\x1b" in on_a_terminal(NO_COLOR="1"), False)
 
-    def test_reports(self):
+    def test_a_report_is_told_by_type_message_and_place(self):
         for name, (body, wanted) in REPORTS.items():
             self.check(f"a report {name}", str(Report(json.dumps(body).encode(), "/at")), wanted)
         self.check("a report that is no JSON", str(Report(b"it broke", "/at")), "it broke")
 
-    def test_told_once(self):
+    def test_the_trace_of_a_failed_init_is_told_once(self):
         """The trace that the bundled runtime has printed of a failed Init is not told again."""
         up = Up("--ready", "60", command=("--", "true"), app='def helper():\n    return {}["missing"]\nhelper()\n',
                 functions=[{"name": "f", "runtime": "python", "handler": "app.run"}])

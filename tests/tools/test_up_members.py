@@ -163,7 +163,7 @@ PLACES = {
 
 
 class UpMembers(Case):
-    def test_mistakes(self):
+    def test_mistakes_of_members_are_told_in_a_line(self):
         with tempfile.TemporaryDirectory() as folder:
             for name, (members, line) in OF_FUNCTION.items():
                 seen = told({"functions": [{"name": "greet", "command": ["true"], **members}]}, folder)
@@ -176,6 +176,9 @@ class UpMembers(Case):
                        (2, ['up: up.json: it must be an object with a list of "functions", not [1]']))
             self.check("no JSON is told with line and column", told('{"functions": [}', folder),
                        (2, ["up: up.json: this is not JSON: Expecting value: line 1 column 16 (char 15)"]))
+
+    def test_deep_JSON_is_refused_in_a_line(self):
+        with tempfile.TemporaryDirectory() as folder:
             for name, text in {"a million brackets": "[" * 1_000_000, "101 levels": "[" * 101 + "]" * 101}.items():
                 status, lines = told(text, folder)
                 self.check(f"{name} are told in a line",
@@ -184,7 +187,7 @@ class UpMembers(Case):
                            (2, [True]))
             self.check("nothing is left of them", sorted(os.listdir(folder)), ["up.json"])
 
-    def test_absent(self):
+    def test_what_is_absent_is_told_in_a_line(self):
         one = {"functions": [{"name": "greet", "command": ["./none"]}]}
         with tempfile.TemporaryDirectory() as folder:
             self.check("an absent program", told(one, folder),
@@ -211,7 +214,7 @@ class UpMembers(Case):
                        (2, "error"))
             self.check("nothing is left of those", os.listdir(folder), [])
 
-    def test_faults(self):
+    def test_faults_of_the_service_are_explained_with_their_places(self):
         """The service gives each of these names to a configuration that has it, and each is explained."""
         # (the program itself: the launcher explains what it refuses)
         program = subprocess.run([LAUNCHER, "path"], stdout=subprocess.PIPE, text=True, check=True).stdout.rstrip("\n")
@@ -232,7 +235,7 @@ class UpMembers(Case):
         self.check("all of them", set(FAULTS), set(SENTENCES))
         self.check("a name that nobody knows is not explained", explained("Other", {"functions": []}), "")
 
-    def test_examples(self):
+    def test_each_UP_json_of_the_examples_runs(self):
         for path in glob.glob(os.path.join(ROOT, "examples", "**", "up*.json"), recursive=True):
             with tempfile.TemporaryDirectory() as folder:
                 done = subprocess.run([LAUNCHER, "up", path, "--", "true"], cwd=folder, capture_output=True,

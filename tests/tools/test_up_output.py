@@ -86,19 +86,21 @@ def is_json(text):
 
 
 class UpOutput(Case):
-    def test_reports(self):
+    def test_a_hostile_report_is_a_line_and_takes_no_time(self):
         begun = time.monotonic()
         for name, body in HOSTILE.items():
             report = Report(body, "/at")
             seen = [type(report.members), *map(type, (str(report), *report.lines))]
             self.check(f"a report with {name} is a line", set(seen), {dict, str})
         self.check("and none of them takes long", time.monotonic() - begun < 10, True)
+
+    def test_a_type_that_is_no_header_is_none(self):
         self.check("a type for a header", kind_in(b'{"errorType":"Runtime.Bad"}', "X"), "Runtime.Bad")
         for body in (json.dumps({"errorType": "Ошибка"}).encode(), b'{"errorType":"a\\r\\nb: c"}', b"[", b"[1]",
                      b"{}", b'{"errorType":" "}', b'{"errorType":"' + b"a" * 2000 + b'"}'):
             self.check(f"{body[:24]!r} has none", kind_in(body, "X"), "X")
 
-    def test_jsons(self):
+    def test_JSON_of_any_depth_is_read_or_refused(self):
         deep = read_json("[" * 100 + "]" * 100)
         self.check("100 levels are read", (is_deeper(deep, 99), is_deeper(deep, 100)), (True, False))
         texts: Dict[str, Union[str, bytes]] = {
@@ -108,7 +110,7 @@ class UpOutput(Case):
             self.check(f"JSON of {name} is refused", is_json(text), False)
         self.check("half a character is read", read_json(b'"\\ud83d"'), "\ud83d")
 
-    def test_hostile_reports(self):
+    def test_hostile_reports_have_their_lines(self):
         up = Up(functions=[{"name": "f", "command": ["./reporting"], "timeout": 60}], files={"reporting": REPORTING})
         up.until("[up] ready")
         for body in HOSTILE.values():
@@ -121,7 +123,7 @@ class UpOutput(Case):
         self.check("none of them is a trace", (up.has("Traceback"), up.has("could not")), (False, False))
         self.check("nothing is left of them", up.end(), (0, []))
 
-    def test_foreign_names(self):
+    def test_a_name_of_foreign_letters_is_told(self):
         """An Init that fails by an exception whose name is of letters that no header has."""
         app = 'class Ошибка(Exception):\n    pass\nraise Ошибка("нет")\n'
         up = Up(functions=[{"name": "f", "runtime": "python", "handler": "app.run", "timeout": 1}], app=app)
@@ -132,7 +134,7 @@ class UpOutput(Case):
         self.check("the thread that tells goes on", up.has("cannot go on"), False)
         self.check("nothing is left of it", up.end(), (0, []))
 
-    def test_unread_log(self):
+    def test_a_log_that_no_one_reads_holds_up_nothing(self):
         """lambda_local up whose standard error is a pipe that no one reads."""
         folder = tempfile.TemporaryDirectory()
         with open(os.path.join(folder.name, "app.py"), "w") as file:
@@ -158,7 +160,7 @@ class UpOutput(Case):
         process.stderr.close()
         folder.cleanup()
 
-    def test_dropped_lines(self):
+    def test_each_line_is_written_or_counted(self):
         log, stream = pipe_log()
         begun = time.monotonic()
         for number in range(100_000):
@@ -184,7 +186,7 @@ class UpOutput(Case):
                    (written == list(range(len(written))), lines[-2] == notes[0], lines[-1].endswith("the last one")),
                    (True, True, True))
 
-    def test_slow_reader(self):
+    def test_a_slow_reader_gets_each_line(self):
         """A process that prints waits for a reader who reads, so that no line is lost."""
         log, stream = pipe_log()
         lines = []
@@ -204,7 +206,7 @@ class UpOutput(Case):
         reader.join(20)
         self.check("a slow reader gets each line that a process prints", len(lines), 60_000)
 
-    def test_long_lines(self):
+    def test_a_line_of_300_MB_comes_in_parts(self):
         sizes = []
         before = resource.getrusage(resource.RUSAGE_SELF).ru_maxrss
         read_lines(Endless(300 << 20), lambda line: sizes.append(len(line)))
@@ -213,7 +215,7 @@ class UpOutput(Case):
                    (300 << 20, True))
         self.check("and takes little memory (MB)", grown < 16, shown=grown)
 
-    def test_split_characters(self):
+    def test_letters_that_come_byte_by_byte_are_whole(self):
         lines: List[str] = []
 
         class Bytes(Endless):
@@ -226,7 +228,7 @@ class UpOutput(Case):
         read_lines(Bytes("é\r\nб\n\n\U0001f600".encode() + b"\xff"), lines.append)
         self.check("letters that come byte by byte", lines, ["é", "б", "", "\U0001f600\ufffd"])
 
-    def test_escapes(self):
+    def test_escapes_reach_no_terminal(self):
         self.check("a line feed begins no line", printable("a\n12:00 [up] b\r"), "a\\n12:00 [up] b\\r")
         self.check("a terminal gets no control character", printable("\x1b[2J\x9b2J\x7f\u2028\u202e\ud83d"),
                    "\\x1b[2J\\x9b2J\\x7f\\u2028\\u202e\\ud83d")
@@ -239,7 +241,7 @@ class UpOutput(Case):
         self.check("a value of a header", [header_value(text, "-") for text in ("a b", "a\r\nb", "é", "", " a")],
                    ["a b", "-", "-", "-", "-"])
 
-    def test_forged_lines(self):
+    def test_forged_lines_have_their_own_source(self):
         message = "x\n12:00:00.000 [service] forged\x1b[2J"
         up = Up(functions=[{"name": "f", "runtime": "python", "handler": "app.run"}],
                 app=f"import sys\nclass E(Exception): pass\nE.__name__ = {message!r}\n"

@@ -83,7 +83,7 @@ NODE = "const shop = require('shop');\nexports.run = async () => shop.name;\n"
 
 
 class UpProjects(Case):
-    def test_hostile_layers(self):
+    def test_a_hostile_layer_is_refused_and_leaves_nothing(self):
         before = set(glob.glob(os.path.join(tempfile.gettempdir(), "lambda_local.*")))
         with tempfile.TemporaryDirectory() as folder:
             for number, (name, (members, wanted)) in enumerate(HOSTILE.items()):
@@ -109,7 +109,7 @@ class UpProjects(Case):
                 if os.path.isdir(folder) and not os.path.exists(f"{folder}/configuration.json") and os.listdir(folder)]
         self.check("nothing is left of what is refused", left, [])
 
-    def test_good_layers(self):
+    def test_a_good_layer_is_unpacked_once(self):
         with tempfile.TemporaryDirectory() as folder:
             path = file_of(packed(("python/shop/__init__.py", b"", 0o644), ("bin/tool", b"#!/bin/sh\n", 0o755),
                                   ("lib/", b"", stat.S_IFDIR | 0o755), ("lib/x.so.1", b"elf", 0o444),
@@ -120,6 +120,9 @@ class UpProjects(Case):
                         os.readlink(f"{there}/lib/x.so"), os.path.isfile(f"{there}/lib/x.so")), (True, False, "x.so.1",
                                                                                                  True))
             self.check("the same file is unpacked once", layers.folders_of([path], folder, "here"), [there])
+
+    def test_parts_of_layers_are_on_Lambdas_paths(self):
+        with tempfile.TemporaryDirectory() as folder:
             one, two = os.path.join(folder, "one"), os.path.join(folder, "two")
             for place in (f"{one}/python", f"{one}/nodejs/node20/node_modules", f"{one}/bin",
                           f"{two}/python/lib/python3.9/"
@@ -134,7 +137,7 @@ class UpProjects(Case):
                 "PATH": f"/programs:{one}/bin",
                 "LD_LIBRARY_PATH": ":".join([f"{two}/lib", *filter(None, [os.environ.get("LD_LIBRARY_PATH")])])})
 
-    def test_a_project(self):
+    def test_a_project_with_layers_and_functions_that_cannot_start_is_served(self):
         """A layer of each kind, another Python, an Init of more than 10 s, and functions that cannot be started."""
         functions = [
             {"name": "py", "runtime": "python3.9", "handler": "app.run", "layers": ["layer.zip"], "python": "./mine"},
@@ -167,18 +170,21 @@ class UpProjects(Case):
         self.check("and one of a broken function", (answer, took < 9), ("Runtime.ImportModuleError", True))
         self.check("all ends", up.end(), (143, []))
 
-    def test_some_functions(self):
+    def test_only_leaves_the_others_out(self):
         functions = [{"name": "one", "runtime": "python", "handler": "app.run"},
                      {"name": "two", "command": "./not_there"}, {"name": "three", "command": "./not_there"}]
         up = Up("--only", "one", functions=functions, command=["--", "true"],
                 whole={"routes": {"GET /": "two", "GET /one": {"function": "one"}},
                        "asynchronous": {"onFailure": "three"}})
         self.check("--only leaves the others out", up.end(None), (0, []))
+
+    def test_only_of_a_name_that_is_none_is_told(self):
+        functions = [{"name": name, "command": "./not_there"} for name in ("one", "two")]
         up = Up("--only", "one,tow", functions=functions, command=["--", "true"])
         self.check("a name that is none", (up.end(None), up.lines),
                    ((2, []), ["up: --only tow: up.json has no such function, did you mean two?"]))
 
-    def test_long_inits(self):
+    def test_an_init_that_takes_longer_than_its_own_limit_is_told(self):
         up = Up("--ready", "30", functions=[{"name": "f", "runtime": "python", "handler": "slow.run", "init": 1}],
                 files={"slow.py": SLOW}, command=["--", "true"])
         self.check("an Init that takes longer than its own limit", up.until("Init failed: Init timed out after 1 s",
@@ -186,7 +192,7 @@ class UpProjects(Case):
         self.check("a caller hears that", up.invoke()[0], "Init.Timeout")
         up.end()
 
-    def test_wrong_members(self):
+    def test_mistakes_of_layers_and_runtimes_are_told(self):
         base: Members = {"name": "f", "runtime": "python", "handler": "app.run"}
         mistakes: Tuple[Tuple[Members, str], ...] = (
             ({"runtime": "ruby3.2"},
@@ -214,14 +220,17 @@ class UpProjects(Case):
                     self.check(f"wrong: {wanted}", False)
                 except Fault as fault:
                     self.check(f"wrong: {wanted}", wanted in str(fault), shown=str(fault))
+
+    def test_a_project_without_functions_is_told(self):
         with tempfile.TemporaryDirectory() as folder:
             path = file_of(b'{"functions": []}', folder, "up.json")
             try:
                 load(path)
+                self.check("no function", False)
             except Fault as fault:
                 self.check("no function", str(fault), f"{path}: functions: there is no function: write at least one")
 
-    def test_interpreters(self):
+    def test_an_interpreter_is_found_by_its_name_or_path(self):
         self.check("by default the interpreter that runs the tool", programs.python_of("python", None, "/at"),
                    (sys.executable, ""))
         self.check("a name on PATH, or a path from the directory", [programs.python_of("python", name, "/at")[0]
@@ -234,6 +243,8 @@ class UpProjects(Case):
         self.check("a version that is not here is told",
                    (program, note.startswith("python3.99 not found, using 3.")),
                    (sys.executable, True))
+
+    def test_an_interpreter_that_does_not_start_is_told(self):
         with tempfile.TemporaryDirectory() as folder:  # (as a manager of versions has them on PATH)
             for name, does in (("python3.97", "exit 127"), ("python3.98", "echo 3.98")):
                 path = os.path.join(folder, name)
@@ -249,6 +260,8 @@ class UpProjects(Case):
                 self.check("one that does is taken", programs.python_of("python3.98", None, "/at"), ("python3.98", ""))
             finally:
                 os.environ["PATH"] = path
+
+    def test_the_help_has_the_options(self):
         self.check("versions", (programs.version_of(sys.executable, "python"), programs.version_of("/nowhere", "node")),
                    ("%d.%d" % sys.version_info[:2], ""))
         done = subprocess.run([sys.executable, os.path.join(ROOT, "tools"), "up", "--help"], capture_output=True,

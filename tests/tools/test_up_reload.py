@@ -28,7 +28,7 @@ def seen_below(root, **members):
 
 
 class UpReload(Case):
-    def test_watched(self):
+    def test_files_are_watched_but_for_what_git_ignores(self):
         with tempfile.TemporaryDirectory() as root:
             for name in FILES:
                 os.makedirs(os.path.dirname(os.path.join(root, name)), exist_ok=True)
@@ -48,7 +48,7 @@ class UpReload(Case):
             os.symlink(root, os.path.join(root, "lib", "loop"))
             self.check("a link to a folder above ends", "lib/x.py" in seen_below(root))
 
-    def test_one_walk(self):
+    def test_the_same_files_are_walked_once(self):
         with tempfile.TemporaryDirectory() as root:
             functions = [types.SimpleNamespace(name=name, watch=[root], handler=handler, command=["x"])
                          for name, handler in (("a", "app.run"), ("b", "app.run"), ("c", "other.run"))]
@@ -57,7 +57,7 @@ class UpReload(Case):
                 looker.look({function.name: reload.Files(function) for function in functions})
             self.check("functions with the same files are walked once", walk.call_count, 2)
 
-    def test_under_up(self):
+    def test_a_change_of_UP_json_is_reported_and_one_of_the_code_restarts(self):
         up = Up("--reload", functions=[{"name": "f", "command": RUNTIME}], files={".gitignore": "data\n"})
         up.until("[up] ready")
         up.write("data", "changed")
@@ -71,7 +71,7 @@ class UpReload(Case):
         self.check("a change of the code does", up.until("restarting f: app.py changed", 20))
         self.check("nothing is left", up.end(), (0, []))
 
-    def test_layers(self):
+    def test_a_layer_that_is_a_folder_is_watched(self):
         """A layer that is a folder is watched."""
         up = Up("--reload", functions=[{"name": "f", "runtime": "python", "handler": "app.run", "layers": ["layer"]}],
                 app="import shared\ndef run(event, context):\n    return shared.NAME\n",
@@ -83,7 +83,7 @@ class UpReload(Case):
         self.check("the new code answers", until(lambda: up.invoke("f", 20)[0] == "another", 30))
         up.end()
 
-    def test_typescript(self):
+    def test_a_source_that_has_to_be_compiled_is_named_and_its_output_served(self):
         """A source that has to be compiled is named, with the command that does so; --reload sees what that writes."""
         if not shutil.which("node"):
             return

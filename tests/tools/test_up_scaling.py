@@ -62,7 +62,7 @@ HISTORY = """0 invoke f - - =1
 
 
 class UpScaling(Case):
-    def test_callers(self):
+    def test_callers_at_once_get_processes_of_their_own_that_end_when_idle(self):
         up = scaled({"min": 1, "max": 4, "idle": 4})
         self.check("the least number is ready", up.until("[up] ready", 60))
         self.check("no other is started", (up.has("starting: all other"), up.invoke()[1] < 20), (False, True))
@@ -85,7 +85,7 @@ class UpScaling(Case):
         self.check("and come again when they are needed", len(processes(at_once(up, 2, sleep=3))), 2)
         self.check("nothing is left of them", up.end(), (0, []))
 
-    def test_one_after_the_other(self):
+    def test_one_caller_after_the_other_has_one_process_and_six_at_once_have_six(self):
         # (a shell starts a process to ask again, which on a busy machine takes more than the usual patience)
         up = scaled({"min": 1, "max": 6}, environ={**os.environ, "LAMBDA_LOCAL_PATIENCE_MS": "2000"})
         up.until("[up] ready", 60)
@@ -95,7 +95,7 @@ class UpScaling(Case):
         self.check("six callers at once get six processes", len(processes(seen)), 6)
         self.check("nothing is left of the six", up.end(), (0, []))
 
-    def test_from_nothing(self):
+    def test_with_none_at_the_start_the_first_caller_starts_one(self):
         up = scaled({"min": 0, "max": 2})
         self.check("with none at the start it is ready at once", up.until("[up] ready", 60))
         self.check("the first caller waits for a process, and no longer", isinstance(up.invoke()[0], list))
@@ -111,14 +111,14 @@ class UpScaling(Case):
         self.check("and is mended", until(lambda: isinstance(up.invoke()[0], list), 20))
         self.check("nothing is left of it", up.end(), (0, []))
 
-    def test_reserved(self):
+    def test_reserved_concurrency_is_exact(self):
         up = scaled({"min": 1, "max": 4}, reserved=2)
         up.until("[up] ready", 60)
         seen = at_once(up, 4, sleep=4)
         self.check("reserved concurrency is exact", (len(processes(seen)), seen.count("status 429")), (2, 2))
         self.check("nothing is left of reserved ones", up.end(), (0, []))
 
-    def test_placement(self):
+    def test_invocations_are_bound_where_the_history_says(self):
         life = Life(CONFIGURATION)
         seen = []
         for entry in entries_in(f"form 2\n{json.dumps(CONFIGURATION)}\n{HISTORY}"):
