@@ -1,5 +1,5 @@
-"""For each file of tests/tools a deliberate fault at which it has to fail: its own words (pieces of the names of the
-tests that are run, else all, and variables), the file with the fault, what stands there, and the fault."""
+"""For each file of tests a deliberate fault at which it has to fail: its own words (pieces of the names of the tests
+that are run, else all, and variables), the file with the fault, what stands there, and the fault."""
 import ast
 import os
 import re
@@ -8,7 +8,8 @@ from typing import Dict, Iterator, Tuple
 from tests.library import tool_tests
 
 NOTED = os.path.join("tests", "library", "lies.noted")
-OF_TOOLS = "tools/lambda_local/"
+OF_TOOLS, OF_SUITE = "tools/lambda_local/", "conformance/src/lambda_conformance/"
+OF = {"": "", "OF_TOOLS": OF_TOOLS, "OF_SUITE": OF_SUITE}
 LIES: Dict[str, Tuple[str, str, str, str]] = {
     "alb_events": ("several_values", OF_TOOLS + "front/alb.py", "found.setdefault(name.lower(), []).append(value)",
                    "found[name.lower()] = [value]"),
@@ -24,20 +25,20 @@ LIES: Dict[str, Tuple[str, str, str, str]] = {
                  '        if trouble == "crash":', '        if trouble == "cash":'),
     "compatibility": ("is_found", "tests/compatibility/run", 'return "" if old == new else', 'return "" if True else'),
     "api_stages": ("mistakes_of_stages", OF_TOOLS + "front/settings.py", 'given.get("stage") == NO_STAGE', "False"),
-    "conformance": ("a_failure_is_explained", OF_TOOLS + "conformance/report.py",
+    "conformance": ("a_failure_is_explained", OF_SUITE + "report.py",
                     "return 1 if self.counts[FAIL]", "return 0 if self.counts[FAIL]"),
-    "conformance_parts": ("memory", OF_TOOLS + "conformance/leaks.py",
+    "conformance_parts": ("memory", OF_SUITE + "leaks.py",
                           "or grown < rule.least:", "or grown < 9 * rule.least:"),
-    "conformance_proxy": ("each_way", OF_TOOLS + "conformance/proxy.py",
+    "conformance_proxy": ("each_way", OF_SUITE + "proxy.py",
                           "            service.sendall(data)", "            service.sendall(data[:1000])"),
-    "conformance_remote": ("what_is_beyond_this_machine", OF_TOOLS + "conformance/service/remote.py",
+    "conformance_remote": ("what_is_beyond_this_machine", OF_SUITE + "service/remote.py",
                            'host.endswith(".localhost")', '"localhost" in host'),
-    "conformance_reports": ("parts", OF_TOOLS + "conformance/kit.py",
+    "conformance_reports": ("parts", OF_SUITE + "kit.py",
                             "self._begun.setdefault(name, self._part_begun())", "self._moments[0]"),
     "conformance_service": ("each_fault_is_found CONFORMANCE_FAULTS=registers-late",
-                            OF_TOOLS + "conformance/service/judge.py",
+                            OF_SUITE + "service/judge.py",
                             "if exchange.status != wanted:", "if False:"),
-    "conformance_service_parts": ("timeouts_on_a_busy_machine", OF_TOOLS + "conformance/service/judge.py",
+    "conformance_service_parts": ("timeouts_on_a_busy_machine", OF_SUITE + "service/judge.py",
                                   "fits = -TOLERANCE <= late <= most", "fits = late <= most"),
     "counting": ("a_check_counts", "tests/library/counted.py",
                  "isinstance(wanted, bool) and not isinstance(seen, bool):", "False:"),
@@ -171,7 +172,7 @@ def notes(root: str) -> Dict[str, str]:
 
 
 def untried(root: str) -> Iterator[str]:
-    """What files of tests/tools have no lie, or one that was not found yet."""
+    """What files of tests have no lie, or one that was not found yet."""
     found = notes(root)
     for name, module in tool_tests.files(root).items():
         if name not in LIES:
@@ -180,7 +181,7 @@ def untried(root: str) -> Iterator[str]:
             yield f"the lie of {module} was not found yet: tests/lies {name}"
 
 
-TABLE = re.compile(r'^    "(\w+)": \("[^"]*",\s+(OF_TOOLS \+ )?"([^"]*)",\s+'
+TABLE = re.compile(r'^    "(\w+)": \("[^"]*",\s+(?:(OF_\w+) \+ )?"([^"]*)",\s+'
                    r'("(?:[^"\\]|\\.)*"|\'(?:[^\'\\]|\\.)*\'),', re.M)
 
 
@@ -190,8 +191,8 @@ def misfits(root: str) -> Iterator[str]:
         listed = TABLE.findall(file.read())
     if len(listed) < len(LIES):
         yield f"{len(listed)} lies can be read, of {len(LIES)}"
-    for name, of_tools, path, old in listed:
-        words, where = ast.literal_eval(old), (OF_TOOLS if of_tools else "") + path
+    for name, of, path, old in listed:
+        words, where = ast.literal_eval(old), OF[of] + path
         try:
             with open(os.path.join(root, where), encoding="utf-8") as file:
                 if words not in file.read():

@@ -27,6 +27,9 @@ LINTERS: Tuple[Linter, ...] = (
     ("sh", ("shellcheck",), ["-f", "gcc", "-S", "warning"], "shellcheck", "0.9"),
 )
 MYPY = "1.0"
+OF_TESTS = r"(tests/library/[\w/]+|(tests/tools|conformance/tests)/\w+)\.py"
+FOUND_BY_TESTS = ("tools", "tools/library", "conformance/src", "conformance/programs/wrong",
+                  "conformance/programs/sound")
 # What mypy says of a library without types, which it then knows nothing of.
 WITHOUT_STUBS = re.compile(r'module named "(pytest)"|Library stubs not installed for "([\w.]+)"')
 without_stubs: Set[str] = set()  # the libraries of which mypy had none in this run
@@ -109,18 +112,18 @@ def is_left_alone(root, finding):
 
 def checks_of_types(root):
     """Whether tools/ is as `mypy --strict` has it, if it is here (Debian: mypy): its packages, modules and Python
-    programs, which have names without an ending. Of tests/library and tests/tools it looks into definitions without
-    types too."""
+    programs, which have names without an ending; and so the suite in conformance/src. Of tests/library, tests/tools and
+    conformance/tests it looks into definitions without types too."""
     tools = os.path.join(root, "tools")
     names = [name for name in sorted(os.listdir(tools)) if os.path.exists(os.path.join(tools, name, "__init__.py"))
              or os.path.isfile(os.path.join(tools, name)) and kind_of(os.path.join(tools, name), name) == "python"]
     names += [os.path.join("library", name) for name in sorted(os.listdir(os.path.join(tools, "library")))
               if kind_of(os.path.join(tools, "library", name), name) == "python"]
     yield from types_found(root, "mypy --strict", tools, ["--strict", "--scripts-are-modules"], names)
-    names = [name for name in files_of(root) if re.fullmatch(r"tests/(library/[\w/]+|tools/\w+)\.py", name)]
-    paths = ":".join(os.path.join(root, *parts) for parts in (("tools",), ("tools", "library"),
-                                                              ("tests", "tools", "wrong_programs"),
-                                                              ("tests", "tools", "sound_programs")))
+    yield from types_found(root, "mypy --strict of the suite", os.path.join(root, "conformance", "src"), ["--strict"],
+                           ["lambda_conformance"], MYPYPATH=tools)
+    names = [name for name in files_of(root) if re.fullmatch(OF_TESTS, name)]
+    paths = ":".join(os.path.join(root, *parts.split("/")) for parts in FOUND_BY_TESTS)
     yield from types_found(root, "mypy of tests", root,
                            ["--check-untyped-defs", "--ignore-missing-imports", "--namespace-packages",
                             "--explicit-package-bases"], names, MYPYPATH=paths)

@@ -9,7 +9,7 @@ from typing import Dict
 from crate_list import uses
 from tests.library import changes, drawings, tools_map
 
-FOLDERS = ("bench", "crates", "docs", "examples", "tables", "tests", "tools")
+FOLDERS = ("bench", "conformance", "crates", "docs", "examples", "tables", "tests", "tools")
 FENCED = re.compile(r"(?:^<!-- (\w[\w ]*) -->\n)?^```(\w*)\n(.*?)^```$", re.M | re.S)
 NUMBERS = {word: number for number, word in enumerate(
     "one two three four five six seven eight nine ten eleven twelve thirteen fourteen fifteen sixteen seventeen "
@@ -250,7 +250,7 @@ def of_architecture(root, page, text):
 
 def of_variables(root, page, text):
     """The page has each variable of this project's own that something reads, and no other."""
-    folders = [f"{root}/{folder}" for folder in ("crates", "tools", "examples")]
+    folders = [f"{root}/{folder}" for folder in ("conformance/src", "crates", "tools", "examples")]
     found = [path for folder in folders for path in glob.glob(f"{folder}/**/*", recursive=True)]
     paths = [path for path in found if os.path.isfile(path) and "/out/" not in path]
     words = ["grep", "-ohIE", "LAMBDA_LOCAL_[A-Z_]+", f"{root}/lambda_local", *paths]

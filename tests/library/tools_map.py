@@ -1,39 +1,42 @@
 """The map of the tools (docs/tools.md), held against their imports: each package with exactly those that it imports,
-each in the drawing, and each file that the page names."""
+each in the drawing, and each file that the page names. The suite, in a house of its own, is a package like them."""
 import ast
 import glob
 import os
 import re
-from typing import Dict, Iterator, List, Set
+from typing import Dict, Iterator, List, Set, Tuple
 
-HOME = os.path.join("tools", "lambda_local")
+HOME, SUITE = os.path.join("tools", "lambda_local"), os.path.join("conformance", "src")
+OTHERS = "lambda_conformance"  # the package in SUITE
 
 
-def package_of(root: str, path: str) -> "list[str]":
-    """The parts of a module's name below lambda_local."""
-    return os.path.relpath(path, os.path.join(root, HOME))[:-len(".py")].split(os.sep)
+def modules_of(root: str) -> Iterator[Tuple[List[str], str]]:
+    """The parts of each module's name, below lambda_local if it is of the tools, and its path."""
+    for home in (HOME, SUITE):
+        for path in glob.glob(os.path.join(root, home, "**", "*.py"), recursive=True):
+            yield os.path.relpath(path, os.path.join(root, home))[:-len(".py")].split(os.sep), path
 
 
 def imported_by(module: List[str], node: ast.AST) -> Iterator[List[str]]:
-    """The modules below lambda_local that a statement imports, by the parts of their names."""
+    """The modules that a statement imports, by the parts of their names: below lambda_local, or of the suite."""
     if isinstance(node, ast.ImportFrom):
         named = (node.module or "").split(".") if node.module else []
         if node.level:
             named = [*module[:-node.level], *named]
         elif named[:1] == ["lambda_local"]:
             named = named[1:]
-        else:
+        elif named[:1] != [OTHERS]:
             return
         yield from [named] if named else [[it.name] for it in node.names]
     elif isinstance(node, ast.Import):
         yield from (it.name.split(".")[1:] for it in node.names if it.name.startswith("lambda_local."))
+        yield from ([OTHERS] for it in node.names if it.name.split(".")[0] == OTHERS)
 
 
 def imports(root: str) -> Dict[str, Set[str]]:
     """The packages, and modules that stand alone, with the others that each imports."""
     found: Dict[str, Set[str]] = {}
-    for path in glob.glob(os.path.join(root, HOME, "**", "*.py"), recursive=True):
-        module = package_of(root, path)
+    for module, path in modules_of(root):
         if module[0] in ("__init__", "__main__"):
             continue
         with open(path, encoding="utf-8") as file:

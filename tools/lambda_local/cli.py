@@ -8,13 +8,13 @@ from typing import List, Tuple
 from . import explain, program as found
 from .ending import leave
 from .outgoing import tell
-from .paths import LAUNCHER, LIMITS, PACKAGE, own_program
+from .paths import LAUNCHER, LIMITS, PACKAGE, own_program, suite
 
-# The modules of this package that have the `main` of a tool.
+# The modules that have the `main` of a tool: of this package, or of the suite beside it.
 TOOLS = {
     "check": ".check",
     "clock": ".clock.command",
-    "conformance": ".conformance.command",
+    "conformance": "lambda_conformance.command",
     "from_template": ".from_template",
     "invoke": ".invoke",
     "rerun": ".rerun",
@@ -85,6 +85,8 @@ def run() -> int:
         return 0
     if words and words[0] in TOOLS:
         sys.argv[:] = [f"lambda_local {words[0]}", *words[1:]]
+        if not TOOLS[words[0]].startswith("."):
+            sys.path.insert(0, suite())
         return int(importlib.import_module(TOOLS[words[0]], __package__).main() or 0)
     if words not in SHAPES and not (words[:1] == ["serve"] and len(words) == 2):
         told = ("serve takes one file: lambda_local serve CONFIGURATION" if words[0] == "serve"

@@ -34,6 +34,13 @@ def own_program() -> str:
     return installed if os.path.isfile(installed) else LAUNCHER
 
 
+def suite() -> str:
+    """The folder with the package lambda_conformance: that of this package if pip installed both, else a checkout's."""
+    above = os.path.dirname(PACKAGE)
+    has_it = os.path.isdir(os.path.join(above, "lambda_conformance"))
+    return above if has_it else os.path.join(ROOT, "conformance", "src")
+
+
 def tool(name: str) -> List[str]:
     """Returns the words that start one of the tools with this Python, wherever they are."""
     above = os.path.dirname(PACKAGE)

@@ -82,7 +82,7 @@ def packed(text: Union[str, bytes]) -> bytes:
 def lay_out(source: Commit, root: str) -> None:
     """The files as they are installed, below root."""
     for name, (mode, data) in source.files.items():
-        if name.startswith(("tools/", "examples/")) or name in ("lambda_local", "VERSION"):
+        if name.startswith(("tools/", "conformance/", "examples/")) or name in ("lambda_local", "VERSION"):
             of_node = data.startswith(b"#!/usr/bin/env node")  # which this package does not depend on
             write(root, f"{LIB}/{name}", data.replace(b"#!/usr/bin/env python3", b"#!/usr/bin/python3", 1),
                   0o644 if of_node else mode)

@@ -8,7 +8,7 @@ from typing import Callable, Iterator, Tuple
 
 from .source import ROOT, File, Source, is_executable, launched, read, version_of
 
-NEEDED = ("LICENSE", "README.md", "docs", "examples", "tools/lambda_local")
+NEEDED = ("LICENSE", "README.md", "docs", "examples", "tools/lambda_local", "conformance/src")
 FIRST_MOMENT = 315532800  # 1980, the first that a zip file knows
 
 

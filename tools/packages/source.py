@@ -11,6 +11,7 @@ from typing import Any, Callable, Dict, Iterator, Optional, Tuple
 
 ROOT = os.path.dirname(os.path.dirname(os.path.dirname(os.path.realpath(__file__))))
 PACKAGED = ("lambda_local", "README.md", "CHANGELOG.md", "LICENSE", "VERSION", "docs", "examples", "tools",
+            "conformance/src",
             "tests/clients", "tests/__init__.py",
             *(f"tests/library/{name}" for name in ("__init__.py", "clients", "counted.py", "day.c", "ports.py")))
 # which only a checkout has

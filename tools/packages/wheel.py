@@ -42,6 +42,7 @@ def folder_of(version: str) -> str:
 def contents(source: Source) -> Dict[str, File]:
     """The name of each file in the wheel, with its mode and contents."""
     files = {f"lambda_local/{name}": file for name, file in source.below("tools/lambda_local").items()}
+    files.update(source.below("conformance/src"))
     files.update({f"lambda_local/examples/{name}": file for name, file in source.below("examples").items()
                   if name.startswith(("runtime.", "events/"))})
     files.update({f"lambda_local/docs/{name}": file for name, file in source.below("docs").items()})

@@ -11,6 +11,7 @@ from .syntax import (BEGUN_FIELD, BEGUN_REQUEST_LINE, BEGUN_STATUS_LINE, ONE_FIE
 PIECE = 256 << 10  # bytes of a body that are given at once
 LOOKED_AT = 4 << 10  # bytes of a line that has not ended; so a slow peer costs no more than its bytes
 END = re.compile(rb"\n\r?\n")
+BARE = "each line of a head must end with CR LF"
 EMPTY_LINES = re.compile(rb"(?:\r?\n)+")
 
 
@@ -68,7 +69,7 @@ class Reader:
         most = self.limits.head - self._blank
         end_of_head = END.search(self.buffer, max(0, self._seen - 2), max(0, most))
         if end_of_head and self._is_bare:
-            raise Malformed(400, "each line of a head must end with CR LF")
+            raise Malformed(400, BARE)
         if end_of_head:
             return self._message(self._take(end_of_head.end()).decode("latin-1"))
         if len(self.buffer) >= most:
@@ -201,7 +202,8 @@ class RequestReader(Reader):
     def _message(self, text: str) -> Event:
         line = REQUEST_LINE.match(text)
         if not line:
-            raise Malformed(400, "a request begins with METHOD TARGET HTTP/1.1")
+            is_bare = not text[:text.find("\n")].endswith("\r")
+            raise Malformed(400, BARE if is_bare else "a request begins with METHOD TARGET HTTP/1.1")
         method, target, version = line.groups()
         parts = target_of(target)
         headers = fields_of(text, line.end(), self.limits.fields)
