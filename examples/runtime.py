@@ -20,6 +20,7 @@ import re
 import select
 import socket
 import sys
+import threading
 import time
 import traceback
 from types import SimpleNamespace
@@ -489,6 +490,47 @@ def serve(environment, handler, begin, outcome=outcome, sets_trace=True):
                   flush=True)
 
 
+class Debugged:
+    """Tells `./lambda_local up` while a client of a debugger is attached, by a file: the clock is paused then. Costs
+    nothing until pydevd is imported, on which debugpy and PyCharm rest: then a thread looks."""
+    BETWEEN = 0.1  # seconds
+
+    def __init__(self, path):
+        self.path = path
+        if "pydevd" in sys.modules:
+            self.begin()
+        else:
+            sys.meta_path.insert(0, self)
+
+    def find_spec(self, name, path=None, target=None):
+        """(as one that finds modules: it is asked for each that is imported for the first time)"""
+        if name == "pydevd" and self in sys.meta_path:
+            sys.meta_path.remove(self)
+            self.begin()
+
+    def begin(self):
+        looking = threading.Thread(target=self.look, name="debugged", daemon=True)
+        looking.pydev_do_not_trace = looking.is_pydev_daemon_thread = True  # (a debugger that stands lets it go on)
+        looking.start()
+
+    def look(self):
+        was_attached, never = False, threading.Event()
+        while True:
+            if self.is_attached() != was_attached:
+                was_attached = not was_attached
+                with contextlib.suppress(OSError):
+                    open(self.path, "w").close() if was_attached else os.unlink(self.path)
+            never.wait(self.BETWEEN)
+
+    @staticmethod
+    def is_attached():
+        found = sys.modules.get("pydevd")
+        try:
+            return bool(found._is_attached() if hasattr(found, "_is_attached") else getattr(found, "connected", False))
+        except Exception:  # (it is only half imported, or another one)
+            return False
+
+
 def init(environment, name):
     """The handler; none if there is a fault in its module, which is reported."""
     sys.path[0] = os.environ.get("LAMBDA_TASK_ROOT") or os.getcwd()  # in place of this program's folder
@@ -513,6 +555,8 @@ def main():
     address = (addresses or [os.environ.get("AWS_LAMBDA_RUNTIME_API") or "127.0.0.1:9001"])[0]
     Context.clock_file = os.environ.pop("LAMBDA_LOCAL_CLOCK", None)
     environment, begin = Environment(address), marks_invocations()
+    if Context.clock_file:
+        Debugged(f"{Context.clock_file}.debugger.{os.getpid()}")
     try:
         handler = init(environment, (names or [os.environ.get("_HANDLER")])[0])
         if handler is None:

@@ -14,6 +14,7 @@ class Troubles {
   // `isOfFile` says that `lambda_local up` has the function's processes, and so makes what happens to them.
   constructor(service, isOfFile) {
     Object.assign(this, { service, isOfFile, kinds: new Map(), slowInits: new Map(), endings: [] });
+    this.begun = new Set(); // environments whose runtime is about to ask, or has asked
   }
 
   async environments() {
@@ -69,7 +70,7 @@ class Troubles {
   async end(name, number) {
     for (const end = Date.now() + PATIENCE; ; await sleep(REST)) {
       const { phase } = await this.environment(number);
-      if (phase === "starting") return false;
+      if (phase === "starting" && !this.begun.has(number)) return false;
       if (phase === "idle") {
         const { status } = await this.service.asked("POST", `/_local/env/${number}/spindown`);
         if (status === 202) return true;
@@ -112,15 +113,20 @@ class Troubles {
   // Before a runtime's first request: if its Init is to be slow, waits until an invocation waits for it, and lets the
   // time go by.
   async holdInit(name, number) {
-    while (this.slowInits.has(name) && !this.service.hasEnded()) {
-      const { bound } = await this.environment(number);
-      const seconds = this.slowInits.get(name);
-      if (bound !== undefined && seconds !== undefined) {
-        this.slowInits.delete(name);
-        await this.service.clock.advance({ milliseconds: Math.round(1000 * seconds) });
-        return;
+    this.begun.delete(number);
+    try {
+      while (this.slowInits.has(name) && !this.service.hasEnded()) {
+        const { bound } = await this.environment(number);
+        const seconds = this.slowInits.get(name);
+        if (bound !== undefined && seconds !== undefined) {
+          this.slowInits.delete(name);
+          await this.service.clock.advance({ milliseconds: Math.round(1000 * seconds) });
+          return;
+        }
+        await sleep(REST, undefined, { ref: false });
       }
-      await sleep(REST, undefined, { ref: false });
+    } finally {
+      this.begun.add(number);
     }
   }
 }

@@ -13,6 +13,8 @@ import urllib.error
 import urllib.request
 from typing import List, Union
 
+from lambda_local.guard import GUARD
+
 ROOT = os.path.dirname(os.path.dirname(os.path.dirname(os.path.realpath(__file__))))
 TOOLS, LAUNCHER = os.path.join(ROOT, "tools"), os.path.join(ROOT, "lambda_local")
 RUNTIME = [sys.executable, os.path.join(ROOT, "examples", "runtime.py"), "app:run"]
@@ -94,11 +96,16 @@ class Up:
         self.process = subprocess.Popen([LAUNCHER, "up", *options, "up.json", *command], cwd=self.at,
                                         env=environ, stdin=subprocess.DEVNULL, stderr=subprocess.PIPE,
                                         stdout=subprocess.PIPE, text=True, start_new_session=True)
-        atexit.register(self.process.kill)  # (if a check fails on the way; what it has started goes with it)
+        GUARD.hold(self.process.pid)  # (if this process is killed; what it has started goes with it)
+        atexit.register(self.leave)  # (if a check fails on the way)
         self.reading = threading.Event()  # (cleared, what it writes is not read)
         self.reading.set()
         self.reader = threading.Thread(target=self.read, daemon=True)
         self.reader.start()
+
+    def leave(self):
+        self.process.kill()
+        GUARD.release(self.process.pid)
 
     def write(self, name, text):
         path = os.path.join(self.at, name)
@@ -160,6 +167,7 @@ class Up:
         """Its status after this signal, and the processes that it leaves."""
         if number:
             self.process.send_signal(number)
+        GUARD.release(self.process.pid)  # (while its number cannot be another's)
         assert self.process.stdout is not None and self.process.stderr is not None
         status: Union[int, str]
         try:

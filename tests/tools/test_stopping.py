@@ -15,6 +15,7 @@ from typing import Set, Union
 
 from lambda_local.service import RUNTIME, Fault, Service, ask, wait_for
 from tests.library.cases import Case
+from tests.library.trees import write
 
 CONFIGURATION = {"account": "123456789012", "region": "us-east-2", "functions": [{"name": "f", "ports": [0]}]}
 
@@ -101,9 +102,7 @@ class Stopping(Case):
         """A program that closes its standard error and goes on is no service: it is ended."""
         with tempfile.TemporaryDirectory() as folder:
             program = os.path.join(folder, "program")
-            with open(program, "w") as file:
-                file.write(f"#!/bin/sh\necho $$ >{folder}/pid\nexec sleep 1000 2>&-\n")
-            os.chmod(program, 0o755)
+            write(program, f"#!/bin/sh\necho $$ >{folder}/pid\nexec sleep 1000 2>&-\n".encode(), 0o755)
             with self.assertRaises(Fault) as raised:
                 Service(CONFIGURATION, program=program)
             self.check("it says that it did not start", str(raised.exception).partition(":")[0],

@@ -85,7 +85,7 @@ class Clock(Case):
         with contextlib.redirect_stderr(io.StringIO()), LambdaLocal(
                 {"fails": {}, "slow": {"timeout": 900}}, asynchronous={"delays": [60, 120]}, fails=fails,
                 slow=lambda event: event) as service, service.clock.paused() as clock:
-            service.settled()
+            self.check("all rest at first", service.settled() and self.rests(service))
             for _ in range(ROUNDS):
                 first, at, begun = len(entries_in(service.history())), clock.now(), time.monotonic()
                 posted(service.endpoint_url, INVOKE.format("fails"), b"{}", EVENT)
@@ -176,6 +176,15 @@ class Troubles(Case):
             self.check("more than 10 s time out", (kind, text.endswith(" Init timed out after 10 seconds")),
                        ("Init.Timeout", True), shown=text)
             self.check("the next one is as always", service.invoke("f", 3), 3)
+
+    def test_an_init_that_is_asked_for_at_once_is_slow(self):
+        """Right after the start, when a runtime may be about to ask."""
+        seen = []
+        for _ in range(5):
+            with LambdaLocal(f=lambda event: event) as service:
+                service.slow_init("f", 12)
+                seen.append(fault_of(lambda: service.invoke("f", 1))[0])
+        self.check("an Init that is slow at once", seen, 5 * ["Init.Timeout"])
 
     def test_faults_are_told_and_leave_nothing(self):
         with LambdaLocal(f=lambda event: event) as service:

@@ -2,6 +2,7 @@
 daily schedule in a moment, again and again with equal histories; idle environments, pauses between starts, Inits with
 their own limit, the greatest age of an event, the window of a queue's batch, and a stop in a pause. The program is
 LAMBDA_LOCAL_PROGRAM, else ./lambda_local."""
+import contextlib
 import importlib.util
 import json
 import os
@@ -29,6 +30,10 @@ def fails(event): raise KeyError("missing")
 def daily(event): return event["time"]
 def short(event): time.sleep(event.get("sleep", 0)); return os.getpid()
 """
+HANGS = ["sh", "-c", 'curl -s -D h -d \'{"events":["SHUTDOWN"]}\' -H "Lambda-Extension-Name: hangs" '
+         'http://$AWS_LAMBDA_RUNTIME_API/2020-01-01/extension/register; curl -s -H "$(grep -i '
+         'lambda-extension-identifier h | tr -d "\\r")" '
+         "http://$AWS_LAMBDA_RUNTIME_API/2020-01-01/extension/event/next; sleep 600"]
 WITH_BOTO3 = unittest.skipUnless(importlib.util.find_spec("boto3"), "boto3 is not here: queues")
 
 
@@ -209,11 +214,7 @@ class UpClock(Case):
     def test_a_stop_in_a_pause_is_as_one_without(self):
         """In a pause, a stop is as one without: an extension that does not end has two seconds."""
         for by_request in (False, True):
-            up = started(self, function("f", "short", extensions={
-                "hangs": ["sh", "-c", 'curl -s -D h -d \'{"events":["SHUTDOWN"]}\' -H "Lambda-Extension-Name: hangs" '
-                          'http://$AWS_LAMBDA_RUNTIME_API/2020-01-01/extension/register; curl -s -H "$(grep -i '
-                          'lambda-extension-identifier h | tr -d "\\r")" '
-                          "http://$AWS_LAMBDA_RUNTIME_API/2020-01-01/extension/event/next; sleep 600"]}))
+            up = started(self, function("f", "short", extensions={"hangs": HANGS}))
             pause(up.endpoint)
             begun = time.monotonic()
             if by_request:
@@ -222,6 +223,23 @@ class UpClock(Case):
             else:
                 self.check("a signal ends it", up.end(), (0, []))
             self.check("in seconds", time.monotonic() - begun < 15, shown=time.monotonic() - begun)
+
+    def test_a_stop_ends_it_though_somebody_pauses_the_clock_again(self):
+        """Somebody pauses the clock again and again while it stops."""
+        up = started(self, function("f", "short", extensions={"hangs": HANGS}))
+        over = threading.Event()
+
+        def pauses():
+            while not over.wait(0.02):
+                with contextlib.suppress(OSError):
+                    posted(address, f"{clock_kit.CLOCK}/pause")
+        address = behind(up)
+        threading.Thread(target=pauses, daemon=True).start()
+        self.check("it is paused", until(lambda: not json.loads(up.get(clock_kit.CLOCK))["running"], 20))
+        begun = time.monotonic()
+        self.check("a signal ends it all the same", up.end(), (0, []))
+        over.set()
+        self.check("in its time", time.monotonic() - begun < 15, shown=time.monotonic() - begun)
 
     def test_the_remaining_time_is_as_the_service_counts_it(self):
         """What is left of an invocation's time, by the bundled runtimes: as the service counts it, at no request."""

@@ -4,7 +4,7 @@ import threading
 import time
 from typing import TYPE_CHECKING, Callable, ContextManager, Dict, Optional, Sequence
 
-from .storm import COLD, CRASH, INIT, KINDS, THROTTLE, TIMEOUT, NotMade, Outcome, Progress
+from .storm import COLD, CRASH, INIT, KINDS, THROTTLE, TIMEOUT, NotMade, Ordered, Progress
 
 if TYPE_CHECKING:
     from .in_process import LambdaLocal
@@ -15,17 +15,12 @@ QUIET_SECONDS = 2.0  # until nothing else works whose time would go by too
 BUSY, IDLE, STARTING = "busy", "idle", "starting"
 
 
-class InOrder:
+class InOrder(Ordered):
     """Trouble that waits for its invocation, or has it."""
 
     def __init__(self, owner: "InMaker", function: str, kind: str, progress: Progress) -> None:
-        self.owner, self.function, self.kind, self.progress = owner, function, kind, progress
-        self.is_over = threading.Event()
-
-    def end(self, has_come: bool, request: str = "", why: str = "") -> None:
-        if not self.is_over.is_set():
-            self.progress(Outcome(has_come, request, why))
-            self.is_over.set()
+        super().__init__(function, kind, progress)
+        self.owner = owner
 
     def call_off(self, why: str) -> None:
         if not self.owner.withdraw(self):

@@ -3,6 +3,7 @@ seed, the function's name and n alone, so it is the same whatever the timing. An
 by SPARED of the function that have none: whoever tries again comes through."""
 import hashlib
 import re
+import threading
 from collections import Counter
 from typing import Callable, Counter as Counts, Dict, List, NamedTuple, Optional, Protocol, Sequence, Tuple, Union
 
@@ -104,6 +105,19 @@ class Order(Protocol):
 
     def call_off(self, why: str) -> None:
         """The invocation is over, or never came. Its progress has ended when this returns."""
+
+
+class Ordered:
+    """What is told of it: what became of it, once."""
+
+    def __init__(self, function: str, kind: str, progress: Progress) -> None:
+        self.function, self.kind, self.progress = function, kind, progress
+        self.is_over = threading.Event()
+
+    def end(self, has_come: bool, request: str = "", why: str = "") -> None:
+        if not self.is_over.is_set():
+            self.progress(Outcome(has_come, request, why))
+            self.is_over.set()
 
 
 class Maker(Protocol):

@@ -8,7 +8,7 @@ import http.client
 import json
 import threading
 import time
-from typing import TYPE_CHECKING, Any, Dict, Iterator, List, Optional, Tuple
+from typing import TYPE_CHECKING, Any, Dict, Iterator, List, Optional, Set, Tuple
 from urllib.parse import urlsplit
 
 from .service import ask
@@ -46,6 +46,8 @@ class Troubled:
     def __init__(self) -> None:
         self.troubles: Dict[str, List[str]] = {}  # by function, the last one counts
         self.slow_inits: Dict[str, SlowInit] = {}
+        self.beginning = threading.Lock()
+        self.begun: Set[int] = set()  # environments whose runtime is about to ask, or has asked
         self.endings: List[threading.Thread] = []  # of environments whose runtime has crashed
 
     # (what LambdaLocal has)
@@ -114,7 +116,7 @@ class Troubled:
     def _end(self, name: str, number: int) -> bool:
         """Ends an environment once it is idle; whether it had begun."""
         end = time.monotonic() + PATIENCE
-        while (phase := self.phases()[number]["phase"]) != "starting":
+        while (phase := self.phases()[number]["phase"]) != "starting" or number in self.begun:
             if phase == "idle" and self.spin_down(number):
                 return True
             if time.monotonic() > end:
@@ -128,7 +130,8 @@ class Troubled:
         if isinstance(seconds, bool) or not isinstance(seconds, (int, float)) or not 0 < seconds <= LONGEST_INIT:
             raise ValueError(f"slow_init: {seconds!r}: give a number of seconds, up to {LONGEST_INIT}")
         self.numbers_of(name)
-        self.slow_inits[name] = SlowInit(seconds)
+        with self.beginning:
+            self.slow_inits[name] = SlowInit(seconds)
         self.cold(name)
 
     # ---- for the runtimes --------------------------------------------------------------------------------------------
@@ -156,14 +159,21 @@ class Troubled:
     def hold_init(self, name: str, number: int) -> None:
         """Before a runtime's first request: if its Init is to be slow, waits until an invocation waits for it, and lets
         the time go by."""
-        slow = self.slow_inits.get(name)
-        while slow and not slow.is_over.is_set() and not self.has_ended():
-            if "bound" in self.phases()[number]:
-                if slow.begin():
-                    self.clock.advance(seconds=slow.seconds)
-                    self.slow_inits.pop(name, None)
-                return
+        self.begun.discard(number)
+        while slow := self._slow_or_begun(name, number):
+            if "bound" in self.phases()[number] and slow.begin():
+                self.clock.advance(seconds=slow.seconds)
+                self.slow_inits.pop(name, None)
             time.sleep(REST)
+
+    def _slow_or_begun(self, name: str, number: int) -> Optional[SlowInit]:
+        """The slow Init that a runtime is to wait for; without one it begins."""
+        with self.beginning:
+            slow = self.slow_inits.get(name)
+            if slow is not None and not slow.is_over.is_set() and not self.has_ended():
+                return slow
+            self.begun.add(number)
+            return None
 
     # ---- what is asked -----------------------------------------------------------------------------------------------
 

@@ -23,7 +23,7 @@ from typing import Callable, Iterator, List, Optional, Tuple
 
 from ..outgoing import renew
 from ..service import ask
-from .asked import PAUSE, RESUME, SHOW, NotClock, Reading, reading_of
+from .asked import PAUSE, RESUME, SHOW, NotClock, Reading, advance, reading_of
 
 BETWEEN_ASKS = 0.25  # seconds, while the clock is known to be paused and something waits
 LONGEST_REST = 30.0  # seconds, after which it is asked in any case: the time of day may have been set
@@ -79,7 +79,8 @@ class Clock:
         self._numbers = itertools.count()
         self._calling: Optional[Timer] = None
         self._thread: Optional[threading.Thread] = None
-        self._is_closed = False
+        self._keeper: Optional[threading.Thread] = None  # that lets it go on
+        self._is_closed, self._closing = False, threading.Event()
         self._shared: Optional[Shared] = None
 
     # ---- what it reads -----------------------------------------------------------------------------------------------
@@ -129,19 +130,22 @@ class Clock:
             self._count_from(max(self._known, reading.now))
             self._changed.notify_all()
 
-    def ask(self) -> None:
-        """Has the service say what it reads. If it says nothing, as one that has ended, its clock is taken to run."""
+    def ask(self) -> bool:
+        """Has the service say what it reads; whether it does. If not, as one that has ended, its clock is taken to
+        run."""
         self._asked = time.monotonic()
         try:
             if self._has_clock:
                 status, _, body = ask(self.port, *SHOW, timeout=ASK_SECONDS)
-                return self._take(reading_of(status, body))
+                self._take(reading_of(status, body))
+                return True
         except NotClock as fault:
             self._has_clock = fault.status >= 500  # (one that has no memory just now may have one)
         except (OSError, http.client.HTTPException):
             pass
         with self._changed:
             self._take(Reading(self._now(), True))
+        return False
 
     def reached(self, moment: int) -> bool:
         """Whether it has come to this moment: of that the service is asked."""
@@ -168,8 +172,23 @@ class Clock:
                 self._changed.notify_all()
 
     def resume(self) -> None:
-        """Lets it go on, as before a stop: in a pause an environment that shuts down would be waited for."""
+        """Lets it go on."""
         self._set(RESUME)
+
+    def go_on(self) -> None:
+        """Before a stop: lets it go on, and again whenever somebody pauses it, until the service has ended. In a pause
+        an environment that shuts down would be waited for."""
+        with self._changed:
+            if self._keeper is None:
+                self._keeper = threading.Thread(target=self._keep_going, name="clock goes on", daemon=True)
+                self._keeper.start()
+        self.resume()
+
+    def _keep_going(self) -> None:
+        while not self._closing.wait(BETWEEN_ASKS) and self.ask():
+            if not self._is_running:  # (what it has missed is made up for, whoever pauses it again and again)
+                self._set(advance(round(1000 * BETWEEN_ASKS)))
+                self.resume()
 
     def pause(self) -> None:
         """Pauses it, as for a debugger; `is_paused` says whether the service has such a clock."""
@@ -218,6 +237,7 @@ class Clock:
 
     def close(self) -> None:
         """Nothing more is called."""
+        self._closing.set()
         with self._changed:
             self._is_closed = True
             self._timers.clear()

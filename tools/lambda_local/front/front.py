@@ -1,5 +1,6 @@
 """Everything in front of the functions of one run: its ports, and the thread that serves them."""
 import asyncio
+import concurrent.futures
 import contextlib
 import re
 import socket
@@ -171,6 +172,8 @@ class Front(threading.Thread):
     def run(self) -> None:
         asyncio.set_event_loop(self.loop)
         self.loop.set_exception_handler(self.tell)
+        workers = concurrent.futures.ThreadPoolExecutor(thread_name_prefix="front")
+        self.loop.set_default_executor(workers)
         for server in self.servers:
             self.loop.run_until_complete(server.start())
         self.loop.run_forever()
@@ -180,6 +183,7 @@ class Front(threading.Thread):
             self.loop.run_until_complete(server.stop())
         self.client.close()
         self.loop.run_until_complete(self.loop.shutdown_asyncgens())
+        workers.shutdown(wait=False, cancel_futures=True)  # (this process ends once what has begun there has ended)
         self.loop.close()
 
     def tell(self, _loop: asyncio.AbstractEventLoop, context: Dict[str, Any]) -> None:

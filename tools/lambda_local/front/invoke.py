@@ -92,7 +92,7 @@ class InvokePort:
         """Before a stop, a paused clock goes on, and events are waited for. Once the clock was set, what is due by it
         has begun before the answer."""
         if request.path == "/_local/stop":
-            await asyncio.get_running_loop().run_in_executor(None, self.clock.resume)
+            await asyncio.get_running_loop().run_in_executor(None, self.clock.go_on)
             if self.queue:
                 await self.queue.drain(self.drain_seconds)
         if not request.path.startswith(PATHS):

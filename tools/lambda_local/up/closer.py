@@ -19,8 +19,8 @@ BETWEEN_LOOKS = 0.02
 class Closer:
     """Those of all functions; `environments` are what `up` starts."""
 
-    def __init__(self, sidecars: Sidecars, service: Service, watch: Watch, log: Log):
-        self.sidecars, self.service, self.watch, self.log = sidecars, service, watch, log
+    def __init__(self, sidecars: Sidecars, service: Service, watch: Watch, log: Log, stopping: threading.Event):
+        self.sidecars, self.service, self.watch, self.log, self.stopping = sidecars, service, watch, log, stopping
         self.environments: List[Environment] = []
         self.lock = threading.Lock()
         self.told: Set[str] = set()  # functions
@@ -33,13 +33,15 @@ class Closer:
     def prepare(self, function: str) -> None:
         """Waits until what the function's environments print is divided. One that is busy is left for the next caller,
         unless there is no other."""
-        with self.lock:
+        end = time.monotonic() + LONGEST_SECONDS
+        if not self.lock.acquire(timeout=LONGEST_SECONDS):
+            return
+        try:
             whole = [each for each in self.environments if each.function.name == function]
             for environment in whole:
                 self.sidecars.divide(environment.number)
             asked: Set[Environment] = set()
-            end = time.monotonic() + LONGEST_SECONDS
-            while time.monotonic() < end:
+            while time.monotonic() < end and not self.stopping.is_set():
                 due = [each for each in whole if each.is_started and not is_divided(each)]
                 if due and function not in self.told:
                     self.tell(function)
@@ -48,6 +50,8 @@ class Closer:
                 if all(map(self.is_ready, asked)) and not begins and (asked or len(due) < len(whole)):
                     return
                 time.sleep(BETWEEN_LOOKS)
+        finally:
+            self.lock.release()
 
     def is_ready(self, environment: Environment) -> bool:
         """Whether one that was spun down has been started again, if it is to be."""

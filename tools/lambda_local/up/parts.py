@@ -18,6 +18,7 @@ from ..guard import GUARD
 from ..service import Fault, Service
 from ..telemetry.sidecars import Sidecars
 from . import patience, surroundings
+from .attached import Attached
 from .closer import Closer
 from .environments import Environment
 from .invocation_lines import Line, Printed
@@ -132,8 +133,9 @@ class Parts:
 
     def serve(self) -> None:
         """Has the front answer, and the proxies with it."""
-        self.closer, storm = Closer(self.sidecars, self.service, self.watch, self.log), self.options.storm
-        self.troubles = Troubles(self.functions, self.watch, self.log)
+        self.closer = Closer(self.sidecars, self.service, self.watch, self.log, self.stopping)
+        storm = self.options.storm
+        self.troubles = Troubles(self.functions, self.watch, self.log, self.stopping)
         self.front.serve(self.service, Tails(self.invocations, self.watch, self.closer),
                          self.sidecars.serve(self.service.configuration, self.printed), self.sidecars.streams,
                          self.limits.answered, self.watch.clock, (storm, self.troubles) if storm else None)
@@ -153,7 +155,10 @@ class Parts:
         self.closer.environments += self.environments
         unnamed = Unnamed(self.watch.life.environments.values(),
                           lambda name, line: self.log(name, f"-- {line}", level="warning", kind="init"))
-        self.looks.hooks += [Hook("look after trouble that was called for", troubles.look),
+        attached = Attached(self.environments, self.printed, self.watch.clock, self.clock_file,
+                            lambda name, line, level: self.log(name, f"-- {line}", level=level, kind="debugger"))
+        self.looks.hooks += [Hook("see whether a debugger is attached", attached.look),
+                             Hook("look after trouble that was called for", troubles.look),
                              Hook("look for extensions under another name", unnamed.look),
                              *(Hook("answer a caller in a pause", environment.answer_callers)
                                for environment in self.environments)]

@@ -165,7 +165,7 @@ class Session(Parts):
         """Stops the service and all processes in order; the service's status, or 4 if the history is not saved. It is
         saved if that is asked, or the command failed."""
         self.ending.set()
-        self.step("letting the clock go on", self.watch.clock.resume)
+        self.step("letting the clock go on", self.watch.clock.go_on)
         self.step("waiting for events", lambda: self.front.drain(lambda: self.service.process.poll() is not None))
         self.step("looking at limits", self.limits.look_at_the_end)
         gone = self.service.process.poll() is not None

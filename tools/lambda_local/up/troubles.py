@@ -14,7 +14,7 @@ from ..clock.asked import advance
 from ..history.words import CLOSING, IDLE, STARTING
 from ..life import Begun, Ended, Event, Invocation, Throttled
 from ..service import ask
-from ..storm import COLD, CRASH, INIT, KINDS, THROTTLE, TIMEOUT, NotMade, Outcome, Progress
+from ..storm import COLD, CRASH, INIT, KINDS, THROTTLE, TIMEOUT, NotMade, Ordered, Progress
 from .environments import Environment
 from .log import Log
 from .members import Function
@@ -41,19 +41,14 @@ def signalled(environment: Environment, number: int) -> bool:
         return False
 
 
-class Order:
+class Order(Ordered):
     """Trouble that waits for its invocation. A gentle one is a storm's: it spares all others."""
 
     def __init__(self, owner: "Troubles", function: str, kind: str, progress: Progress, is_gentle: bool) -> None:
-        self.owner, self.function, self.kind, self.progress, self.is_gentle = owner, function, kind, progress, is_gentle
+        super().__init__(function, kind, progress)
+        self.owner, self.is_gentle = owner, is_gentle
         self.until = time.monotonic() + (STORM_SECONDS if is_gentle else WAIT_SECONDS)
         self.stopped: List[Environment] = []
-        self.is_over = threading.Event()
-
-    def end(self, has_come: bool, request: str = "", why: str = "") -> None:
-        if not self.is_over.is_set():
-            self.progress(Outcome(has_come, request, why))
-            self.is_over.set()
 
     def call_off(self, why: str) -> None:
         self.owner.watch.refresh()  # (the invocation may have come)
@@ -67,8 +62,8 @@ class Troubles:
     """The orders of a run: at most one for each function at a time. `take`, `look` and `holds` are called by the watch,
     by the looks and by environments, the others by the front."""
 
-    def __init__(self, functions: Iterable[Function], watch: Watch, log: Log) -> None:
-        self.watch, self.log, self.lock = watch, log, threading.Lock()
+    def __init__(self, functions: Iterable[Function], watch: Watch, log: Log, stopping: threading.Event) -> None:
+        self.watch, self.log, self.stopping, self.lock = watch, log, stopping, threading.Lock()
         self.orders: Dict[str, Order] = {}
         self.functions = {function.name: function for function in functions}
         self.environments: Dict[str, List[Environment]] = {name: [] for name, function in self.functions.items()
@@ -118,7 +113,7 @@ class Troubles:
         """Sees to it that an environment of the function is idle."""
         end = time.monotonic() + ENDING_SECONDS
         while not self._in(function, IDLE):
-            if time.monotonic() > end:
+            if time.monotonic() > end or self.stopping.is_set():
                 raise NotMade("none of its environments is idle")
             fresh = [one for one in self.environments[function] if one.is_extra and not one.is_started]
             if fresh and not self._in(function, STARTING, CLOSING, started=True):
@@ -157,7 +152,7 @@ class Troubles:
             while (idle := self._in(order.function, IDLE, CLOSING)) or order.function in self._beginning():
                 for environment in idle:
                     ask(self.watch.service.port, "POST", f"/_local/env/{environment.number}/spindown")
-                if time.monotonic() > end:
+                if time.monotonic() > end or self.stopping.is_set():
                     raise NotMade("its environments do not end")
                 time.sleep(REST)
                 self.watch.refresh()
@@ -256,7 +251,7 @@ class Troubles:
         """The clock moves to the deadline once no other invocation loses more than half of its time by it and no Init
         goes on; till then it comes nearer by itself."""
         deadline, end = begun + self._timeout_of(order.function), time.monotonic() + STORM_SECONDS
-        while not invocation.is_over:
+        while not invocation.is_over and not self.stopping.is_set():
             if time.monotonic() > end and not self.watch.clock.reached(deadline - INIT_MS):
                 signalled(here, signal.SIGCONT)
                 return order.end(False, invocation.identifier, "others would have run out of time too")
@@ -269,7 +264,7 @@ class Troubles:
                         return order.end(False, invocation.identifier, "the clock is not moved")
                 self.watch.refresh()
             time.sleep(4 * REST)
-        order.end(True, invocation.identifier)
+        order.end(not self.stopping.is_set(), invocation.identifier, "the run has ended")
 
     @contextlib.contextmanager
     def _moving(self) -> Iterator[None]:
