@@ -72,7 +72,7 @@ def named(name: str) -> str:
 
 def mistakes_of(members: Mapping[str, object], kinds: Mapping[str, Kind], where: str,
                 required: Sequence[str] = ()) -> Iterator[str]:
-    """What is wrong with the members of an object, one sentence each."""
+    """What is wrong with the names and types of an object's members, one sentence each."""
     for name, value in members.items():
         if name not in kinds:
             near = nearest(name, value, kinds)
@@ -83,6 +83,13 @@ def mistakes_of(members: Mapping[str, object], kinds: Mapping[str, Kind], where:
     for name in required:
         if name not in members:
             yield f"{where}there is no {name}, which must be {kinds[name].expected}"
+
+
+def mistakes_within(members: Members, kinds: Mapping[str, Kind], where: str, required: Sequence[str],
+                    further: Callable[[Members, str], Iterator[str]]) -> Iterator[str]:
+    """The same, and if there are none, what `further` finds at this place."""
+    wrong = list(mistakes_of(members, kinds, where, required))
+    yield from wrong or further(members, where)
 
 
 def place_of(member: Members, number: int) -> str:

@@ -7,6 +7,7 @@ import functools
 import os
 import re
 import threading
+import time
 from typing import Any, Dict, Mapping, Optional, Tuple
 from urllib.parse import urlsplit
 
@@ -15,6 +16,7 @@ from .reports import shorten
 
 CONNECT_SECONDS = 2
 ANSWER_SECONDS = 10.0  # for an answer that a server does not hold back on purpose
+POLL_SECONDS = 1  # for which a server is asked to hold a poll; an end waits half as long again for its answer
 ARN = re.compile(r"arn:[a-z-]{1,32}:(sqs|sns):([a-z0-9-]{1,64}):(\d{12}):([A-Za-z0-9_.-]{1,256})")
 Attributes = Mapping[str, Tuple[str, str]]  # of a message: the type of each, and its value
 EXAMPLE = "arn:aws:sqs:us-east-1:123456789012:failed"
@@ -93,6 +95,37 @@ def endpoint_of(service: str) -> Optional[str]:
 def is_refused(url: str, keeps_credentials: bool) -> bool:
     """Whether a request to this address would go to AWS itself, which nobody has asked for."""
     return not keeps_credentials and is_of_aws(host_of(url))
+
+
+class Asking(threading.Thread):
+    """A thread that asks a server again and again. At the end of all it is waited for, but not for a server that holds
+    a request for longer than it was asked to."""
+    asks_since: Optional[float] = None  # when the server was asked what it has not answered
+
+    def __init__(self, name: str) -> None:
+        super().__init__(name=name, daemon=True)
+
+    def asked(self, operation: Any, **members: Any) -> Dict[str, Any]:
+        """The server's answer to an operation of a client."""
+        self.asks_since = time.monotonic()
+        try:
+            answer = operation(**members)
+            return answer if isinstance(answer, dict) else {}
+        finally:
+            self.asks_since = None
+
+    def since(self) -> Optional[float]:
+        return self.asks_since
+
+    @property
+    def is_held(self) -> bool:
+        since = self.since()
+        return since is not None and time.monotonic() - since > 1.5 * POLL_SECONDS
+
+    def join(self, timeout: Optional[float] = None) -> None:
+        end = None if timeout is None else time.monotonic() + timeout
+        while self.is_alive() and not self.is_held and (end is None or time.monotonic() < end):
+            super().join(0.05)
 
 
 class Destination:

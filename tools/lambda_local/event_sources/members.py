@@ -2,7 +2,7 @@
 import re
 from typing import Any, Dict, Iterator, List, NamedTuple, Optional, Tuple
 
-from ..configuration import Kind, is_text, is_whole, mistakes_of, shown
+from ..configuration import Kind, is_text, is_whole, mistakes_within, shown
 from ..other_server import ARN, is_endpoint
 from ..other_server import EXAMPLE as QUEUE
 from . import filters
@@ -144,10 +144,10 @@ def mistakes_of_url(given: Dict[str, Any], where: str) -> Iterator[str]:
 
 
 def mistakes_of_stream(given: Dict[str, Any], where: str) -> Iterator[str]:
-    wrong = list(mistakes_of(given, OF_STREAM, where, ["url"]))
-    yield from wrong
-    if wrong:
-        return
+    yield from mistakes_within(given, OF_STREAM, where, ["url"], mistakes_in_stream)
+
+
+def mistakes_in_stream(given: Dict[str, Any], where: str) -> Iterator[str]:
     services = [service for service in (KINESIS, DYNAMODB) if service in given]
     if len(services) != 1:
         yield (f"{where}there is no kinesis or dynamodb, one of which names the stream" if not services
@@ -162,10 +162,10 @@ def mistakes_of_stream(given: Dict[str, Any], where: str) -> Iterator[str]:
 
 
 def mistakes_of_topic(given: Dict[str, Any], where: str) -> Iterator[str]:
-    wrong = list(mistakes_of(given, OF_TOPIC, where, ["url", "name"]))
-    yield from wrong
-    if wrong:
-        return
+    yield from mistakes_within(given, OF_TOPIC, where, ["url", "name"], mistakes_in_topic)
+
+
+def mistakes_in_topic(given: Dict[str, Any], where: str) -> Iterator[str]:
     found = OF_TOPIC_NAME.fullmatch(given["name"])
     if found is None:
         yield f"{where}name: {shown(given['name'])} must be the name or the ARN of a topic"

@@ -9,7 +9,7 @@ import time
 from typing import Any, Dict, List, Optional
 
 from ..clock.followed import Clock
-from ..other_server import Destination, NoClient, client_of, code_of, one_line
+from ..other_server import Asking, Destination, NoClient, client_of, code_of, one_line
 from ..outgoing import Log, several
 from .batches import TOO_LARGE
 from .checkpoints import Checkpoints, Position
@@ -297,20 +297,17 @@ class Reader(Handling):
         self.say(f"{counts}; {then}")
 
 
-class Worker(threading.Thread):
+class Worker(Asking):
     """Does what is due in a stream: several do, since an invocation takes its time."""
 
     def __init__(self, reader: Reader, number: int) -> None:
-        super().__init__(name=f"{reader.name} of {reader.stream.function}, {number}", daemon=True)
+        super().__init__(f"{reader.name} of {reader.stream.function}, {number}")
         self.reader = reader
         self.task: Optional[Task] = None
 
-    @property
-    def is_held(self) -> bool:
-        """Whether a server holds a request of its: its end is not waited for."""
+    def since(self) -> Optional[float]:
         task = self.task
-        since = task.asks_since if task else None
-        return since is not None and time.monotonic() - since > 1.5
+        return task.asks_since if task else None
 
     def run(self) -> None:
         if not self.reader.connect():
@@ -319,12 +316,6 @@ class Worker(threading.Thread):
             self.task = self.reader.take()
             if self.task is not None:
                 self.reader.step(self.task)
-
-    def join(self, timeout: Optional[float] = None) -> None:
-        """Waits for a batch that is being handled, and for a request to the server a little."""
-        end = None if timeout is None else time.monotonic() + timeout
-        while self.is_alive() and not self.is_held and (end is None or time.monotonic() < end):
-            super().join(0.05)
 
 
 def workers_of(reader: Reader, environments: int) -> List[Worker]:

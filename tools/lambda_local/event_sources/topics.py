@@ -13,13 +13,12 @@ import uuid
 from typing import Any, Dict, List, Optional
 
 from ..clock.followed import Clock
-from ..other_server import ANSWER_SECONDS, NoClient, client_of, code_of, is_refused, one_line
+from ..other_server import ANSWER_SECONDS, POLL_SECONDS, Asking, NoClient, client_of, code_of, is_refused, one_line
 from ..outgoing import Log
 from ..service import ask
 from .members import OF_TOPIC_NAME, Topic
 from .notifications import Confirmation, Notification, read
 
-POLL_SECONDS = 1  # for which the queue holds a poll
 AT_ONCE = 10  # messages in one answer of a queue
 VISIBILITY = 30  # seconds, after which a message that was not deleted comes again
 FIRST_PAUSE, LONGEST_PAUSE = 0.5, 30.0  # seconds, after a fault of the server; each further one doubles it
@@ -35,35 +34,23 @@ class NoTopic(Exception):
     """There is no such topic, or not yet."""
 
 
-class Subscriber(threading.Thread):
+class Subscriber(Asking):
     """Gives a function the notifications of a topic. (Its queue holds a poll, and the function's events may have to
     wait: so each topic has a thread.)"""
 
     def __init__(self, topic: Topic, service: Any, clock: Clock, keeps_credentials: bool, stopping: threading.Event,
                  log: Log) -> None:
-        super().__init__(name=f"topic of {topic.function}", daemon=True)
+        super().__init__(f"topic of {topic.function}")
         self.topic, self.service, self.clock, self.stopping, self.log = topic, service, clock, stopping, log
         self.keeps_credentials, self.configuration = keeps_credentials, service.configuration
         self.region: str = topic.region or self.configuration["region"]
         self.arn = self.queue = self.queue_arn = self.subscription = ""
         self.begun = threading.Event()  # it is subscribed, or cannot be now
         self.pause, self.looked_at = 0.0, 0.0
-        self.asks_since: Optional[float] = None
 
     def say(self, text: str, level: str = "info", **members: object) -> None:
         self.log(self.topic.function, f"topic {self.topic.name}: {text}", level=level, kind="topic",
                  always=False, function=self.topic.function, **members)
-
-    @property
-    def is_held(self) -> bool:
-        """Whether the server holds a request for longer than it was asked to: its end is not waited for."""
-        since = self.asks_since
-        return since is not None and time.monotonic() - since > 1.5 * POLL_SECONDS
-
-    def join(self, timeout: Optional[float] = None) -> None:
-        end = None if timeout is None else time.monotonic() + timeout
-        while self.is_alive() and not self.is_held and (end is None or time.monotonic() < end):
-            super().join(0.05)
 
     def run(self) -> None:
         try:
@@ -98,15 +85,6 @@ class Subscriber(threading.Thread):
         for message in messages:
             if not self.stopping.is_set():
                 self.take(message)
-
-    def asked(self, operation: Any, **members: Any) -> Dict[str, Any]:
-        """The server's answer to an operation of a client."""
-        self.asks_since = time.monotonic()
-        try:
-            answer = operation(**members)
-            return answer if isinstance(answer, dict) else {}
-        finally:
-            self.asks_since = None
 
     def wait_after(self, fault: Exception) -> None:
         is_absent = isinstance(fault, NoTopic) or code_of(fault) in ABSENT

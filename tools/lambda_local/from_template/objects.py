@@ -1,5 +1,5 @@
 """An object of a template whose members are handed out one by one; at the end it says which nobody has asked for."""
-from typing import Callable, Dict, Iterable, List, Optional, Set
+from typing import Callable, Container, Dict, Iterable, Iterator, List, Optional, Set, Tuple
 
 from ..configuration import Members
 from .messages import excerpt
@@ -76,3 +76,10 @@ def members_by_key(given: object, scope: Scope) -> Dict[str, Members]:
     found = {str(key): scope.chosen(member) for key, member in chosen.items()}
     return {key: {**member, "Type": type_of(member) or excerpt(member.get("Type"))} if isinstance(member, dict)
             else {"Type": excerpt(member)} for key, member in found.items() if member is not NO_VALUE}
+
+
+def events_of_sam(given: object, kinds: Container[str], scope: Scope, tell: Tell) -> Iterator[Tuple[str, Object]]:
+    """The events of these kinds that a function of SAM has: the kind of each, and its properties."""
+    for key, event in members_by_key(given, scope).items():
+        if event["Type"] in kinds:
+            yield event["Type"], Object(event.get("Properties"), f"its event {key}", scope, tell)

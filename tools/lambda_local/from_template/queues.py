@@ -6,7 +6,7 @@ from typing import Iterator, List, Optional
 from ..configuration import Members
 from ..other_server import endpoint_of
 from .messages import VALUES, excerpt
-from .objects import Object, Tell, members_by_key
+from .objects import Object, Tell, events_of_sam
 from .services import PAGE
 from .values import Scope
 
@@ -60,10 +60,8 @@ def mapped(given: Object, source: str, where: str, scope: Scope, tell_: Tell) ->
 
 
 def of_sam(events: object, scope: Scope, tell_: Tell) -> Iterator[Optional[Members]]:
-    for name, event in members_by_key(events, scope).items():
-        if event.get("Type") == "SQS":
-            where = f"its event {name}"
-            yield mapped(Object(event.get("Properties"), where, scope, tell_), "Queue", where, scope, tell_)
+    for _kind, given in events_of_sam(events, ("SQS",), scope, tell_):
+        yield mapped(given, "Queue", given.where, scope, tell_)
 
 
 def of_serverless(events: object, scope: Scope, tell_: Tell) -> Iterator[Optional[Members]]:

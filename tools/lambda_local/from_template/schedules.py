@@ -5,7 +5,7 @@ from typing import Any, Callable, Dict, Iterator, List, Optional
 
 from ..expressions import WrongExpression, expression_of
 from .messages import excerpt
-from .objects import Object, members_by_key
+from .objects import Object, events_of_sam
 from .values import NO_VALUE, Scope
 
 OF_SAM = ("Schedule", "ScheduleV2")
@@ -62,15 +62,13 @@ def is_off(given: Object, tell: Tell) -> bool:
 
 
 def of_sam(events: Any, scope: Scope, tell: Tell) -> Iterator[Optional[object]]:
-    for name, event in members_by_key(events, scope).items():
-        if event.get("Type") in OF_SAM:
-            given = Object(event.get("Properties"), f"its event {name}", scope, tell)
-            given.without_meaning(WITHOUT_MEANING)
-            if not is_off(given, tell):
-                expression = given.raw("Schedule") or given.raw("ScheduleExpression")
-                yield schedule_of(given.where, expression, given.raw("Input"), scope, tell,
-                                  given.text("ScheduleExpressionTimezone"))
-                given.close()
+    for _kind, given in events_of_sam(events, OF_SAM, scope, tell):
+        given.without_meaning(WITHOUT_MEANING)
+        if not is_off(given, tell):
+            expression = given.raw("Schedule") or given.raw("ScheduleExpression")
+            yield schedule_of(given.where, expression, given.raw("Input"), scope, tell,
+                              given.text("ScheduleExpressionTimezone"))
+            given.close()
 
 
 def of_serverless(events: Any, scope: Scope, tell: Tell) -> Iterator[Optional[object]]:

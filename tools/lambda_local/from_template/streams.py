@@ -8,7 +8,7 @@ from ..event_sources.filters import MOST_FILTERS, filters_in
 from ..json_reader import NotJson
 from ..other_server import ARN as DESTINATION
 from .messages import VALUES, excerpt
-from .objects import Object, Tell, members_by_key
+from .objects import Object, Tell, events_of_sam
 from .queues import is_off
 from .services import PAGE, endpoint_of
 from .values import Scope
@@ -125,10 +125,8 @@ def of_events(properties: Members, scope: Scope, tell: Tell) -> List[Members]:
 
 
 def of_sam(events: object, scope: Scope, tell: Tell) -> Iterator[Optional[Members]]:
-    for key, event in members_by_key(events, scope).items():
-        if event.get("Type") in OF_SAM:
-            given = Object(event.get("Properties"), f"its event {key}", scope, tell)
-            yield by_arn(given.raw("Stream"), given, OF_SAM[event["Type"]], scope, tell)
+    for kind, given in events_of_sam(events, OF_SAM, scope, tell):
+        yield by_arn(given.raw("Stream"), given, OF_SAM[kind], scope, tell)
 
 
 def by_arn(arn: object, given: Object, otherwise: str, scope: Scope, tell: Tell) -> Optional[Members]:

@@ -6,7 +6,7 @@ from typing import Iterator, List, Optional
 from ..configuration import Members
 from .messages import VALUES, excerpt, tell
 from .named import function_of, resources_of
-from .objects import Object, Tell, members_by_key
+from .objects import Object, Tell, events_of_sam
 from .services import PAGE, endpoint_of, ref
 from .streams import put
 from .values import Scope
@@ -49,15 +49,13 @@ def of_events(properties: Members, scope: Scope, tell_: Tell) -> List[Members]:
 
 
 def of_sam(events: object, scope: Scope, tell_: Tell) -> Iterator[Optional[Members]]:
-    for key, event in members_by_key(events, scope).items():
-        if event.get("Type") == "SNS":
-            given = Object(event.get("Properties"), f"its event {key}", scope, tell_)
-            given.without_meaning(["Region", "RedrivePolicy"])
-            if given.raw("SqsSubscription") not in (None, False, "false"):
-                tell_(f"ignores {given.where}, SNS: it comes by a queue (SqsSubscription): set \"queue\" in {VALUES}")
-                continue
-            yield topic_of(given.raw("Topic"), given, scope, tell_)
-            given.close()
+    for _kind, given in events_of_sam(events, ("SNS",), scope, tell_):
+        given.without_meaning(["Region", "RedrivePolicy"])
+        if given.raw("SqsSubscription") not in (None, False, "false"):
+            tell_(f"ignores {given.where}, SNS: it comes by a queue (SqsSubscription): set \"queue\" in {VALUES}")
+            continue
+        yield topic_of(given.raw("Topic"), given, scope, tell_)
+        given.close()
 
 
 def of_serverless(events: object, scope: Scope, tell_: Tell) -> Iterator[Optional[Members]]:

@@ -3,7 +3,7 @@ destination, the payload of one that failed to a dead-letter queue (Developer Gu
 asynchronous invocations")."""
 from typing import Collection, Dict, Iterator, List, Mapping, NamedTuple, Optional, Tuple, Union
 
-from ..configuration import Kind, Members, is_list_of, is_text, is_whole, mistakes_of, shown
+from ..configuration import Kind, Members, is_list_of, is_text, is_whole, mistakes_of, mistakes_within, shown
 from ..other_server import ARN, EXAMPLE, endpoint_of, is_endpoint, is_refused
 
 DELAYS = (1.0, 2.0)  # seconds; Lambda's are 60 and 120
@@ -90,10 +90,10 @@ def mistakes(given: Members, names: Collection[str], where: str) -> Iterator[str
 
 def mistakes_of_remote(given: object, where: str) -> Iterator[str]:
     whole = given if isinstance(given, dict) else {"arn": given}
-    found = list(mistakes_of(whole, OF_RECEIVER, where, ["arn"]))
-    yield from found
-    if found:
-        return
+    yield from mistakes_within(whole, OF_RECEIVER, where, ["arn"], mistakes_in_remote)
+
+
+def mistakes_in_remote(whole: Members, where: str) -> Iterator[str]:
     if ARN.fullmatch(whole["arn"]) is None:
         yield f"{where}{shown(whole['arn'])} must be the ARN of an SQS queue or an SNS topic, such as {EXAMPLE}"
     elif whole["arn"].endswith(".fifo"):

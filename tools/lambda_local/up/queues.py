@@ -12,13 +12,12 @@ from urllib.parse import urlsplit
 
 from ..clock.followed import Clock
 from ..json_reader import NotJson, read_json
-from ..other_server import ANSWER_SECONDS, NoClient, client_of, one_line
+from ..other_server import ANSWER_SECONDS, POLL_SECONDS, Asking, NoClient, client_of, one_line
 from ..outgoing import several
 from ..service import AGAIN, ask
 from .log import Log
 from .sources import MOST_AT_ONCE, Queue
 
-POLL_SECONDS = 1  # for which a queue holds a poll; as long may the end take
 MOST_POLLERS = 5  # of a function (Lambda begins with as many)
 MOST_BYTES = 4 << 20  # of a batch's messages; an event has at most 6 MiB
 FIRST_PAUSE, LONGEST_PAUSE = 1.0, 30.0  # seconds, after a fault of the queue; each further one doubles it
@@ -85,19 +84,18 @@ class Invoked(NamedTuple):
     why: str = ""
 
 
-class Poller(threading.Thread):
+class Poller(Asking):
     """Takes batches from a queue, one after the other. A function has several of them, as it has environments; a FIFO
     queue has one, so that its order is kept."""
 
     def __init__(self, function: str, queue: Queue, service: Any, clock: Clock, keeps_credentials: bool,
                  stopping: threading.Event, log: Log):
-        super().__init__(name=f"queue of {function}", daemon=True)
+        super().__init__(f"queue of {function}")
         self.function, self.queue, self.service, self.stopping, self.log = function, queue, service, stopping, log
         self.clock = clock  # by which windows and the pauses after throttles are counted; the server's time is real
         self.keeps_credentials, self.region = keeps_credentials, service.configuration["region"]
         self.pause, self.arn = 0.0, ""
         self.has_odd = False  # the last poll had a message that is none, which was told
-        self.polls_since: Optional[float] = None  # while a server is asked
 
     def say(self, text: str, level: str = "info", **members: Any) -> None:
         self.log(self.function, f"queue {self.queue.name}: {text}", level=level, kind="queue", function=self.function,
@@ -125,18 +123,6 @@ class Poller(threading.Thread):
                 self.say(f"a batch of {len(batch)} is not handled: {one_line(fault)}: its messages stay in the queue",
                          "error", messages=len(batch))
                 self.stopping.wait(FIRST_PAUSE)
-
-    @property
-    def is_held(self) -> bool:
-        """Whether a server holds a poll for longer than it was asked to: its end is not waited for."""
-        since = self.polls_since
-        return since is not None and time.monotonic() - since > 1.5 * POLL_SECONDS
-
-    def join(self, timeout: Optional[float] = None) -> None:
-        """Waits for a batch that is being handled, and for a poll as long as a queue may hold it."""
-        end = None if timeout is None else time.monotonic() + timeout
-        while self.is_alive() and not self.is_held and (end is None or time.monotonic() < end):
-            super().join(0.05)
 
     def works_again(self) -> None:
         if self.pause:
@@ -166,13 +152,8 @@ class Poller(threading.Thread):
         return messages
 
     def received(self, count: int) -> List[Dict[str, Any]]:
-        self.polls_since = time.monotonic()
-        try:
-            answer = self.client.receive_message(
-                QueueUrl=self.queue.url, AttributeNames=["All"], MessageAttributeNames=["All"],
-                MaxNumberOfMessages=count, WaitTimeSeconds=POLL_SECONDS)
-        finally:
-            self.polls_since = None
+        answer = self.asked(self.client.receive_message, QueueUrl=self.queue.url, AttributeNames=["All"],
+                            MessageAttributeNames=["All"], MaxNumberOfMessages=count, WaitTimeSeconds=POLL_SECONDS)
         given = answer.get("Messages") or []
         messages = [one for one in given if is_message(one)]
         if len(messages) < len(given):
@@ -198,7 +179,7 @@ class Poller(threading.Thread):
         parts = [part for part in urlsplit(self.queue.url).path.split("/") if part]
         by_address = f"arn:aws:sqs:{region}:{parts[-2] if len(parts) > 1 else account}:{self.queue.name}"
         try:
-            answer = self.client.get_queue_attributes(QueueUrl=self.queue.url, AttributeNames=["QueueArn"])
+            answer = self.asked(self.client.get_queue_attributes, QueueUrl=self.queue.url, AttributeNames=["QueueArn"])
             return str(answer["Attributes"]["QueueArn"])
         except Exception:  # (some servers have no such attribute)
             return by_address

@@ -5,7 +5,7 @@ from typing import Any, Dict, Iterator, List, NamedTuple, Optional
 from urllib.parse import SplitResult, urlsplit
 
 from ..aws_hosts import is_of_aws
-from ..configuration import Kind, is_text, is_whole, mistakes_of, shown
+from ..configuration import Kind, is_text, is_whole, mistakes_within, shown
 from ..event_sources import members
 from ..expressions import EXAMPLES, Cron, Rate, WrongExpression, expression_of
 from ..service import Fault
@@ -95,10 +95,10 @@ def mistakes(whole: Dict[str, Any]) -> Iterator[str]:
 
 
 def mistakes_of_queue(given: Dict[str, Any], where: str) -> Iterator[str]:
-    mistakes = list(mistakes_of(given, OF_QUEUE, where, ["url"]))
-    yield from mistakes
-    if mistakes:
-        return
+    yield from mistakes_within(given, OF_QUEUE, where, ["url"], mistakes_in_queue)
+
+
+def mistakes_in_queue(given: Dict[str, Any], where: str) -> Iterator[str]:
     if parts_of(given["url"]) is None:
         yield f"{where}url: {shown(given['url'])} must be the address of a queue, http://HOST:PORT/ACCOUNT/NAME"
         return
@@ -110,10 +110,10 @@ def mistakes_of_queue(given: Dict[str, Any], where: str) -> Iterator[str]:
 
 
 def mistakes_of_schedule(given: Dict[str, Any], where: str) -> Iterator[str]:
-    mistakes = list(mistakes_of(given, OF_SCHEDULE, where, ["expression"]))
-    yield from mistakes
-    if mistakes:
-        return
+    yield from mistakes_within(given, OF_SCHEDULE, where, ["expression"], mistakes_in_schedule)
+
+
+def mistakes_in_schedule(given: Dict[str, Any], where: str) -> Iterator[str]:
     try:
         expression_of(given["expression"], given.get("timezone"))
     except WrongExpression as fault:
