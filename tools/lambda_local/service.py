@@ -242,7 +242,7 @@ class Service:
         if line.split(" ")[-1] == "listening":
             self.listening_line = True
             self.listening.set()
-        elif line.split(" ")[-1] != "stopped" and (
+        elif not line.startswith("[INFO ") and (  # (what is refused is told with the function's name)
                 self.listening_line or not line.startswith((NO_NETWORK, "configuration: "))):
             self.say(line)
 

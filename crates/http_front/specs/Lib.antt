@@ -4,6 +4,7 @@ pub mod HostFaults
 pub mod Ports
 pub mod ServedPorts
 pub mod Notices
+pub mod Causes
 pub mod Exchanged
 pub mod Answered
 pub mod Connections

@@ -13,7 +13,7 @@ use crate::{HostFault, Hosted, Notices, Port};
 use account_lock::{Account, Identity};
 use connection_places::Slots;
 use http_connection::Machine;
-use long_poll::{Clock, OneShotBell};
+use long_poll::{Clock, OneShotBell, Rejections};
 use mio::{Poll, Waker};
 use request_guard::KnownHosts;
 use std::alloc::AllocError;
@@ -108,6 +108,11 @@ impl<R: Machine, S: Identity + Drop, N: Drop, K: Keep> Acceptor<R, S, N, K> {
             spare,
             looked: Duration::ZERO,
         })
+    }
+
+    /// Returns the requests that are rejected. It fails only if an allocation fails.
+    pub(crate) fn rejections(&self) -> Result<Arc<Rejections>, AllocError> {
+        Arc::try_clone(&self.common.shared.rejections)
     }
 
     /// Closes the next connection, for which no descriptor is left: the spare one is given up meanwhile.

@@ -2,6 +2,7 @@
 
 ghost use Rattle.std.specs.Prelude.{◌≡◌, IfSome};
 ghost use Rattle.http_front.specs.Courses.{IsExchangeOf, Takes};
+ghost use Rattle.http_front.specs.Causes.{cause_of};
 ghost use Rattle.long_poll.specs.Lengths as lengths;
 
 use crate::responding::Responding;
@@ -14,12 +15,28 @@ use http_body::Body;
 use http_body_util::{Either, Full};
 use hyper::body::Incoming;
 use hyper::service;
-use long_poll::{BodyFault, Clock, Connection, Exchange, Service, StreamedBody, declares_too_long};
+use long_poll::{
+    BodyFault, Cause, Clock, Connection, Exchange, Service, StreamedBody, declares_too_long,
+};
 use request_guard::{KnownHosts, Refusal};
 use std::alloc::Global;
 use std::sync::{Arc, Wait};
 use std::time;
 use usage_ledger::{Keep, Ledgers};
+
+/// Returns why a request is rejected, for the log; `None` if it is not at fault.
+fn cause_of(refusal: Refusal) -> Option<Cause>
+    ensures { result ≡ cause_of refusal }
+{
+    match refusal {
+        Refusal::MalformedHost => Some(Cause::MalformedHost),
+        Refusal::FromPage => Some(Cause::FromPage),
+        Refusal::ForeignHost => Some(Cause::ForeignHost),
+        Refusal::ForeignCoding => Some(Cause::ForeignCoding),
+        Refusal::BrokenBody => Some(Cause::BrokenBody),
+        Refusal::OutOfMemory => None,
+    }
+}
 
 /// A port, for one connection: each request is an exchange. The decider of its exchanges knows
 /// whose port it is: an environment's (Runtime API 2018-06-01, Extensions API 2020-01-01), or the
@@ -85,6 +102,13 @@ impl<
         }
     }
 
+    /// Counts a request that is refused by its head, for the log.
+    fn note(&self, parts: &Parts, refusal: Refusal) {
+        if let Some(cause) = cause_of(refusal) {
+            self.connection.note_rejected(parts, cause, None);
+        }
+    }
+
     /// Returns the response to a request with this head and body. If the head is refused, there is
     /// no exchange, so the request never becomes a call. If the head declares a body that is too
     /// long, the body is left unread.
@@ -97,6 +121,7 @@ impl<
     {
         let is_unread = declares_too_long(&parts);
         if let Some(refusal) = self.hosts.refusal(&parts) {
+            self.note(&parts, refusal);
             return Responding::refused(self.alloc, self.port, is_unread, refusal);
         }
         self.connection.await_time_of_day();

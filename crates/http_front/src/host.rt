@@ -142,11 +142,19 @@ impl<
             salt,
             max_entries,
         } = plan;
-        let notices = Notices::new(max_entries, shared.environments().saturating_add(1));
+        let step = shared.environments().saturating_add(1);
         match Account::open(rt.alloc(), config, salt, max_entries, blanks) {
             Ok(opened) => {
                 Host::listen(
-                    rt, opened, clock, hosts, &shared, salt, notices, most, patience,
+                    rt,
+                    opened,
+                    clock,
+                    hosts,
+                    &shared,
+                    salt,
+                    (max_entries, step),
+                    most,
+                    patience,
                 )
             }
             Err(fault) => Err(HostFault::from(fault)),
@@ -161,7 +169,7 @@ impl<
         hosts: KnownHosts,
         config: &Arc<Checked>,
         salt: u64,
-        notices: Notices,
+        room: (u64, u32),
         most: u32,
         patience: u32,
     ) -> Result<Host<R, S, N, K>, HostFault>
@@ -171,19 +179,20 @@ impl<
         ensures { IfErr result IsOfMachine }
     {
         match Ports::open(&rt, rt.alloc(), config, salt) {
-            Ok(ports) => Host::of(rt, opened, clock, hosts, ports, notices, most, patience),
+            Ok(ports) => Host::of(rt, opened, clock, hosts, ports, room, most, patience),
             Err(fault) => Err(fault),
         }
     }
 
-    /// Makes the host of an open account with its tally, whose ports are listened on.
+    /// Makes the host of an open account with its tally, whose ports are listened on, and whose journal has room for
+    /// so many entries, of which a step takes at most so many.
     fn of(
         rt: R,
         opened: (Account<S, OneShotBell>, Tally<K, S>),
         clock: N,
         hosts: KnownHosts,
         ports: Ports<S>,
-        notices: Notices,
+        room: (u64, u32),
         most: u32,
         patience: u32,
     ) -> Result<Host<R, S, N, K>, HostFault>
@@ -194,6 +203,7 @@ impl<
         let Ok(mut acceptor) = Acceptor::open(rt, opened, clock, hosts, most, patience) else {
             return Err(HostFault::OutOfMemory);
         };
+        let notices = Notices::new(room.0, room.1, acceptor.rejections()?);
         let notices = Arc::new(rt.alloc(), notices).map_err(AllocError::from)?;
         let waker = Arc::try_clone(&ports.waker)?;
         let Ok(ticker) = acceptor.ticker(Arc::try_clone(&notices)?, waker) else {

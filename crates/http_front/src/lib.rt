@@ -28,7 +28,7 @@ pub use host::{Host, Hosted};
 pub use host_fault::HostFault;
 pub use http_connection::Machine;
 pub use http_routes::{Decision, Shown, Side, laws};
-pub use long_poll::Alarm;
+pub use long_poll::{Alarm, Cause, Kind, Rejections, Told};
 pub use notices::{Notices, Room};
 pub use plan::Plan;
 pub use request_guard::{KnownHosts, Refusal};

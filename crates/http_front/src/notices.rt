@@ -3,7 +3,8 @@
 ghost use Rattle.std.specs.Prelude.{◌≡◌};
 ghost use Rattle.http_front.specs.Notices.{room_left};
 
-use crate::Alarm;
+use long_poll::Rejections;
+use std::sync::Arc;
 use std::sync::atomic::AtomicU64;
 use std::sync::atomic::Ordering::SeqCst;
 
@@ -39,19 +40,19 @@ pub struct Notices {
     most: u64,
     step: u32,
     entries: AtomicU64,
-    /// Rings when the room has changed.
-    pub alarm: Alarm,
+    /// The requests that are rejected. Their alarm rings when the room has changed, too.
+    pub rejections: Arc<Rejections>,
 }
 
 impl Notices {
     /// Makes the notices of an empty journal that holds at most `most` entries, of which a step
-    /// takes at most `step`.
-    pub(crate) fn new(most: u64, step: u32) -> Notices {
+    /// takes at most `step`, and of these rejected requests.
+    pub(crate) fn new(most: u64, step: u32, rejections: Arc<Rejections>) -> Notices {
         Notices {
             most,
             step,
             entries: AtomicU64::new(0),
-            alarm: Alarm::new(),
+            rejections,
         }
     }
 
@@ -60,7 +61,7 @@ impl Notices {
         let before = self.room();
         self.entries.store(entries, SeqCst);
         if self.room() > before {
-            self.alarm.ring();
+            self.rejections.alarm.ring();
         }
     }
 

@@ -78,7 +78,7 @@ impl<S: Identity> Ports<S> {
         ensures fault { IfErr result IsOfMachine }
     {
         let listener = self.bind(net, number)?;
-        let served = ServedPort::new(port, Arc::try_clone(config)?, salt);
+        let served = ServedPort::new(port, number, Arc::try_clone(config)?, salt);
         match self.listeners.push(Listener::new(listener, served)) {
             Ok(()) => Ok(()),
             Err(_refused) => Err(HostFault::OutOfMemory),

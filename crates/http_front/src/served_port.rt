@@ -17,6 +17,8 @@ use std::sync::Arc;
 #[derive(Drop)]
 pub(crate) struct ServedPort<S: Identity> {
     port: Port,
+    // Its number, which only the log shows.
+    number: u16,
     config: Arc<Checked>,
     salt: u64,
     of: PhantomData<S>,
@@ -36,8 +38,13 @@ impl<S: Identity> Model for ServedPort<S> {
 }
 
 impl<S: Identity> ServedPort<S> {
-    /// Returns a port of this configuration, with this salt.
-    pub(crate) fn new(port: Port, config: Arc<Checked>, salt: u64) -> ServedPort<S>
+    /// Returns a port of this configuration, with this number and this salt.
+    pub(crate) fn new(
+        port: Port,
+        number: u16,
+        config: Arc<Checked>,
+        salt: u64,
+    ) -> ServedPort<S>
         requires configured { arc_value config ≡ S.config }
         requires salted { salt ≡ S.salt }
         requires port { IsPortOf (arc_value config) port }
@@ -45,6 +52,7 @@ impl<S: Identity> ServedPort<S> {
     {
         ServedPort {
             port,
+            number,
             config,
             salt,
             of: PhantomData,
@@ -56,6 +64,11 @@ impl<S: Identity> ServedPort<S> {
         ensures { result ≡ self.now.port }
     {
         self.port
+    }
+
+    /// Returns its number.
+    pub(crate) fn number(&self) -> u16 {
+        self.number
     }
 
     /// Returns the function of the environment whose port this is, `None` at the account's.
@@ -80,7 +93,7 @@ impl<S: Identity> ServedPort<S> {
         ensures { IfOk result (λ served. served ≡ self.now) }
     {
         let config = Arc::try_clone(&self.config)?;
-        Ok(ServedPort::new(self.port, config, self.salt))
+        Ok(ServedPort::new(self.port, self.number, config, self.salt))
     }
 
     /// Makes the decider of the port's requests. It fails only if an allocation fails.

@@ -29,7 +29,9 @@ use http_body::Body;
 use http_body_util::{Either, Full};
 use http_connection::{Ended, Ends, EventLoop, Machine, Park, Wire};
 use hyper::body::Incoming;
-use long_poll::{Clock, Connection, OneShotBell, OpenPoll, Service, StreamedBody, laws, moment};
+use long_poll::{
+    Cause, Clock, Connection, Kind, OneShotBell, OpenPoll, Service, StreamedBody, laws, moment,
+};
 use socket_loop::{Accepted, Unused};
 use std::alloc::{AllocError, AllocGlobal};
 use std::sync::{Arc, Mutex, Wait};
@@ -213,12 +215,31 @@ impl<R: Machine, S: Identity + Drop, N: Clock + Drop, K: Keep> Worker<R, S, N, K
         let Ok(open) = Arc::new(self.rt.alloc(), OpenPoll::new()) else {
             return Err(job.close());
         };
+        let (port, number) = (job.served.port(), job.served.number());
         let ended = self.serve_socket(tools, job, &open);
+        if let Ok(Ended {
+            outcome: Ok(Some(Err(fault))),
+            ..
+        }) = &ended
+            && fault.is_parse()
+        {
+            self.note_not_http(port, number);
+        }
         if let Some(ticket) = open.ticket() {
             let _ = self.withdraw(&mut tools.token, ticket);
         }
         self.common.shared.beat.note_step(&self.rt);
         ended
+    }
+
+    /// Counts a request whose head is not HTTP/1.1, for the log.
+    fn note_not_http(&self, port: Port, number: u16) {
+        let kind = Kind {
+            cause: Cause::NotHttp,
+            is_of_environment: matches!(port, Port::Environment(_)),
+        };
+        let rejections = &*self.common.shared.rejections;
+        rejections.note(&self.rt, kind, number, None, None);
     }
 
     /// Serves a connection. Returns its socket, and how it ended, if it ended by itself.
@@ -293,12 +314,13 @@ impl<
     {
         let alloc = self.rt.alloc();
         let port = served.port();
+        let number = served.number();
         let function = served.function();
         let hosts = Arc::try_clone(&self.common.hosts)?;
         let Ok(decider) = deciders.of(alloc, served) else {
             return Err(AllocError);
         };
-        match self.connection(decider, token, function, open) {
+        match self.connection(decider, token, number, function, open) {
             Ok(connection) => Ok(Front::new(alloc, port, hosts, connection)),
             Err(refused) => Err(refused),
         }
@@ -311,12 +333,13 @@ impl<
         })
     }
 
-    /// Returns what the exchanges of a connection share, with a token of its own. The function is that of
-    /// the environment at whose port the connection came.
+    /// Returns what the exchanges of a connection share, with a token of its own. The number is that of
+    /// the port at which the connection came, the function that of the environment whose port it is.
     fn connection(
         &self,
         decider: Arc<Side>,
         token: Token<S>,
+        number: u16,
         function: Option<FnNo>,
         open: &Arc<OpenPoll>,
     ) -> Result<Arc<Connection<R, Account<S, OneShotBell>, Side, N, K, S>>, AllocError>
@@ -329,7 +352,7 @@ impl<
         let tally = Arc::try_clone(&self.post.tally)?;
         let open = Arc::try_clone(open)?;
         let connection = Connection::new(self.rt, shared, decider, tally, token, open)?;
-        let connection = connection.of_function(function);
+        let connection = connection.of_function(function).at_port(number);
         Arc::new(self.rt.alloc(), connection).map_err(AllocError::from)
     }
 

@@ -14,6 +14,7 @@ mod explain;
 mod hosts;
 mod log_writer;
 mod patience;
+mod rejected;
 mod serve;
 mod serve_fault;
 mod setting_fault;

@@ -1,6 +1,6 @@
 -- What an exchange gives, from where it stands.
 use Rattle.std.proofs.lemmas.List.{length-replicate}
-use Rattle.std.proofs.Common.{◌≡◌, ℕ, Bool, Box, suc, ◌<◌, List, length, replicate, Option, Result, Ok, Err, IfOk, MatchResult, inl, inr, arith}
+use Rattle.std.proofs.Common.{◌≡◌, ℕ, Box, suc, ◌<◌, List, length, replicate, Option, Result, Ok, Err, IfOk, MatchResult, inl, inr, arith}
 use Rattle.std.specs.declared.alloc.Global.{Global}
 use Rattle.call_types.specs.declared.call.Call.{Call}
 use Rattle.call_types.specs.declared.call.Entry.{Entry}

@@ -1,6 +1,5 @@
 -- What the relations of an account say of the reply to a call.
 use Rattle.std.proofs.Common.{◌≡◌, ◌<◌, ℕ, List, length, Option, Some, Ok, Err, inl, inr, sym, subst}
-use Rattle.std.specs.Arc.{arc_value}
 use Rattle.account_lock.specs.Shown.{IsTaken, Sees}
 use Rattle.account_lock.specs.Submits.{IsTurnedAway}
 use Rattle.account_lock.specs.declared.desk.Refused.{Refused}

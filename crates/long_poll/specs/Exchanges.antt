@@ -1,5 +1,5 @@
 -- What an exchange may return.
-use Rattle.std.specs.Prelude.{◌≡◌, ◌<◌, ◌⊎◌, ℕ, Bool, true, false, List, length, Option, Some, None, Result, Ok, Err}
+use Rattle.std.specs.Prelude.{◌≡◌, ◌<◌, ◌⊎◌, ℕ, true, false, List, length, Option, Some, None, Result, Ok, Err}
 use Rattle.std.specs.Arc.{arc_value}
 use Rattle.arn_ids.specs.Limits.{longest_body}
 use Rattle.account_lock.specs.declared.desk.Refused.{Refused}

@@ -28,4 +28,6 @@ pub mod Attempts
 pub mod Pending
 -- The order of the callers whose calls are held back.
 pub mod Queues
+-- What is counted of the requests that are rejected.
+pub mod Boards
 pub mod Ringing

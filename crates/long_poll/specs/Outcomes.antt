@@ -31,7 +31,7 @@ IsFull shown.Version reply = ⊥
 module _ {R S K L T : Type 0} (service : Service.Ghosts S K L T) (s : S) where
   -- The body shows the history, or its trace, as is asked for. Nothing else is streamed.
   abbrev pub IsStreamOf : Shown → StreamedBody R S T K L → Type 0
-  IsStreamOf (shown.History from) (streamed.History body) = ShowsFrom s from body
+  IsStreamOf (shown.History from) (streamed.History body) = ShowsFrom s from body.value
   IsStreamOf (shown.History from) (streamed.Trace body) = ⊥
   IsStreamOf (shown.Trace query) (streamed.History body) = ⊥
   IsStreamOf (shown.Trace query) (streamed.Trace body) = IsTraceFrom service s query body.value

@@ -76,7 +76,7 @@ impl<
     }
 
     /// Lets the clock go on.
-    fn resume_clock(&self) -> ClockFace
+    pub(crate) fn resume_clock(&self) -> ClockFace
         ensures read { N.reads (clock_of self.now) result.now }
         ensures few { result.now < 2 ^ 53 }
         ensures running { result.is_running ≡ true }

@@ -17,8 +17,8 @@ use crate::views::{
     environments_reply, followers_reply, reservation_reply, stats_reply, version_reply,
 };
 use crate::{
-    Clock, ExchangeFault, Heard, HistoryBody, OneShotBell, OpenPoll, Outcome, Service, Shared,
-    StreamedBody, TraceBody,
+    Cause, Clock, ExchangeFault, Heard, HistoryBody, Kind, OneShotBell, OpenPoll, Outcome, Service,
+    Shared, StreamedBody, TraceBody,
 };
 use account_lock::{NotTaken, Refused};
 use arn_ids::FnNo;
@@ -49,6 +49,8 @@ pub struct Connection<R, S: Service<K, L>, D: Decide, N, K: Keep, L: Ledgers> {
     open: Arc<OpenPoll>,
     // The function whose environment asks here, if one does.
     function: Option<FnNo>,
+    // The number of its port, 0 if it is not known.
+    port: u16,
     // The token, which has seen the history up to the earlier requests; none while a request has it.
     seen: Cell<Option<Token<L>>>,
     // The scratch space in which payloads are read, one decision at a time.
@@ -178,6 +180,7 @@ impl<
             tally,
             open,
             function: None,
+            port: 0,
             seen: Cell::new(Some(token)),
             scratch: Cell::new(PayloadScratch::sharing(long)),
         })
@@ -190,6 +193,44 @@ impl<
     {
         self.function = function;
         self
+    }
+
+    /// Returns the same connection, at the port with this number.
+    pub fn at_port(mut self, port: u16) -> Connection<R, S, D, N, K, L>
+        ensures { (result.shared ≡ self.shared) × (result.decider ≡ self.decider) }
+    {
+        self.port = port;
+        self
+    }
+
+    /// Counts a request that is rejected, for the log. What its response says of it is kept if `why` is given.
+    pub fn note_rejected(&self, parts: &Parts, cause: Cause, why: Option<&[u8]>) {
+        let kind = Kind {
+            cause,
+            is_of_environment: self.function.is_some(),
+        };
+        let shared = &*self.shared;
+        shared
+            .rejections
+            .note(&self.rt, kind, self.port, Some(parts), why);
+    }
+
+    /// Counts a request that is rejected by this reply. (Why a request is malformed, its reply alone says.)
+    fn note_reply(&self, parts: &Parts, reply: &Reply) {
+        match Cause::of_status(reply.status) {
+            None => {}
+            Some(Cause::Malformed) => {
+                self.note_rejected(parts, Cause::Malformed, Some(reply.body.as_slice()));
+            }
+            Some(cause) => self.note_rejected(parts, cause, None),
+        }
+    }
+
+    /// Counts a request whose body failed.
+    pub(crate) fn note_fault(&self, parts: &Parts, fault: ExchangeFault) {
+        if fault == ExchangeFault::BodyFailed {
+            self.note_rejected(parts, Cause::BrokenBody, None);
+        }
     }
 
     /// Returns its allocator.
@@ -356,12 +397,15 @@ impl<
     }
 
     /// Does what follows from a call that was taken, which is a step: the ticker is woken if it rests; from a Stop
-    /// on, each step wakes it; a Next is noted as open, and may make an environment ready; a call that was held back
+    /// on, each step wakes it, and the clock goes on if it was paused, since the deadlines by which the environments
+    /// end come by it; a Next is noted as open, and may make an environment ready; a call that was held back
     /// leaves the line.
     fn taken(&self, sort: Sort, ticket: Ticket, place: Option<Place>) {
         let shared = &*self.shared;
         if let Sort::Stop = sort {
             shared.beat.note_stop();
+            let _ = self.resume_clock();
+            shared.beat.note_clock();
         }
         shared.beat.note_step(&self.rt);
         if let Sort::Next = sort {
@@ -433,7 +477,7 @@ impl<
         let mut scratch = self.scratch.take();
         let decided = self.decider.decide(self.alloc(), &mut scratch, parts, body);
         self.scratch.set(scratch);
-        self.carry_out(decided?)
+        self.carry_out(parts, decided?)
     }
 
     /// Returns the counts of its account, with a token of the history that has them.
@@ -465,8 +509,8 @@ impl<
         Ok((text?, seen))
     }
 
-    /// Does what was decided about a request.
-    fn carry_out(&self, decision: Decision) -> Result<Begun<L>, ExchangeFault>
+    /// Does what was decided about the request with this head.
+    fn carry_out(&self, parts: &Parts, decision: Decision) -> Result<Begun<L>, ExchangeFault>
         requires { IsAllowed (S.serves (service_of self.now)) decision }
         ensures ok { IfOk result
             (λ begun. (head : Head) → (body : List ℕ) → Decides self.now head body decision
@@ -474,7 +518,10 @@ impl<
         ensures err { IfErr result (λ fault. fault ≡ ExchangeFault.OutOfMemory) }
     {
         match decision {
-            Decision::Reply(reply) => Ok(Begun::Replied(reply, self.another_token())),
+            Decision::Reply(reply) => {
+                self.note_reply(parts, &reply);
+                Ok(Begun::Replied(reply, self.another_token()))
+            }
             Decision::Show(Shown::Stats) => {
                 let (stats, seen) = self.stats();
                 Ok(Begun::Replied(stats_reply(self.alloc(), stats)?, seen))
@@ -504,11 +551,12 @@ impl<
     pub(crate) fn history(
         &self,
         from: Option<Ticket>,
-    ) -> Result<HistoryBody<R, S, K, L>, AllocError>
-        ensures { IfOk result (ShowsFrom (service_of self.now) from) }
+    ) -> Result<Box<HistoryBody<R, S, K, L>>, AllocError>
+        ensures { IfOk result (λ body. ShowsFrom (service_of self.now) from body.value) }
     {
         let service = Arc::try_clone(&self.shared.service)?;
-        Ok(HistoryBody::new(self.rt, service, from))
+        let body = HistoryBody::new(self.rt, service, from);
+        Box::new(self.alloc(), body).map_err(AllocError::from)
     }
 
     /// Returns the trace of the account's history that is asked for. If it follows the history, it has a place among

@@ -137,7 +137,10 @@ where
             } => Poll::Ready(self.connection.begin(parts, &Received::too_long())),
             Stage::Collecting { parts, body, .. } => match body.poll(cx) {
                 Poll::Pending => Poll::Pending,
-                Poll::Ready(Err(fault)) => Poll::Ready(Err(fault)),
+                Poll::Ready(Err(fault)) => {
+                    self.connection.note_fault(parts, fault);
+                    Poll::Ready(Err(fault))
+                }
                 Poll::Ready(Ok(bytes)) => {
                     Poll::Ready(self.connection.begin(parts, &Received::whole(bytes)))
                 }

@@ -36,6 +36,11 @@ mod beat;
 mod followers;
 mod open_poll;
 
+// What the log tells of the requests that are rejected before they are calls: the board has the counts of each kind.
+mod board;
+mod rejection;
+mod rejections;
+
 // Patience: a premature call is held back. Its thread sleeps in its seat, at its place in the line of all callers that
 // are held back, from which a Next calls the next one; the queue is the order of the line.
 mod line;
@@ -64,6 +69,8 @@ pub use line::Line;
 pub use open_poll::OpenPoll;
 pub use outcome::Outcome;
 pub use poll::{BellLost, Poll};
+pub use rejection::{Cause, Kind, Told};
+pub use rejections::Rejections;
 pub use service::Service;
 pub use shared::Shared;
 pub use streamed_body::StreamedBody;

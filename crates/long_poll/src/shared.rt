@@ -3,13 +3,13 @@
 ghost use Rattle.std.specs.Prelude.{◌≡◌, IfOk, IfSome};
 ghost use Rattle.std.specs.Arc.{arc_value};
 
-use crate::{Alarm, Beat, Line};
+use crate::{Alarm, Beat, Line, Rejections};
 use lambda_wire::{HeaderMaps, LongScratches};
 use std::alloc::{AllocError, Global};
 use std::sync::Arc;
 
 /// What all connections of a service share, with its ticker and its host: its account; its clock; what a step wakes;
-/// the line of the callers that are held back, and for how many milliseconds each may be; the maps of the headers that
+/// what its log tells; the line of the callers that are held back, and for how many milliseconds each may be; the maps of the headers that
 /// most replies have; and the memory in which long payloads are read. (What a body that is streamed keeps of it, which
 /// knows neither clock nor line, has an `Arc` of its own.)
 #[derive(Drop)]
@@ -21,6 +21,8 @@ pub struct Shared<S, N> {
     pub clock: N,
     /// What is told after each step.
     pub beat: Arc<Beat>,
+    /// The requests that are rejected, for the log.
+    pub rejections: Arc<Rejections>,
     pub(crate) line: Line,
     pub(crate) patience_ms: u32,
     pub(crate) maps: HeaderMaps,
@@ -54,11 +56,13 @@ impl<S: Drop, N: Drop> Shared<S, N> {
         let maps = HeaderMaps::open(alloc)?;
         let long = arc_of(alloc, LongScratches::new(alloc))?;
         let beat = arc_of(alloc, Beat::new(alloc, arc_of(alloc, Alarm::new())?))?;
+        let rejections = arc_of(alloc, Rejections::new(alloc))?;
         Ok(Shared {
             alloc,
             service,
             clock,
             beat,
+            rejections,
             line: Line::new(alloc),
             patience_ms,
             maps,

@@ -10,12 +10,12 @@ use std::alloc::AllocError;
 use std::sync::Wait;
 use usage_ledger::{Keep, Ledgers};
 
-/// What is streamed of an account: its history, or its trace. (The trace is on the heap: it is larger, and the
-/// response that has it is moved several times.)
+/// What is streamed of an account: its history, or its trace. (Both are on the heap: each response has the size of the
+/// largest body, and is moved several times.)
 #[derive(Drop)]
 pub enum StreamedBody<R, S, T, K: Keep, L: Ledgers> {
     /// The text of the history.
-    History(HistoryBody<R, S, K, L>),
+    History(Box<HistoryBody<R, S, K, L>>),
     /// The trace of the history.
     Trace(Box<TraceBody<R, S, T, K, L>>),
 }
@@ -29,12 +29,12 @@ impl<R: Wait + Drop, S: Service<K, L, Trail = T>, T: Drop, K: Keep, L: Ledgers> 
     type Error = AllocError;
 
     ghost needs = { elim [
-      | History body ↦ ⟦<HistoryBody<R, S, K, L> as Body>⟧.needs body
+      | History body ↦ ⟦<HistoryBody<R, S, K, L> as Body>⟧.needs body.value
       | Trace body ↦ ⟦<TraceBody<R, S, T, K, L> as Body>⟧.needs body.value
     ] };
 
     ghost yields = { elim [
-      | History body ↦ ⟦<HistoryBody<R, S, K, L> as Body>⟧.yields body
+      | History body ↦ ⟦<HistoryBody<R, S, K, L> as Body>⟧.yields body.value
       | Trace body ↦ ⟦<TraceBody<R, S, T, K, L> as Body>⟧.yields body.value
     ] };
 

@@ -1,0 +1,127 @@
+"""Checks what the log of a service tells of requests that it refuses before they are calls: the first of each kind in
+full with what to do, then counts, and nothing of requests that are fine; and that a stop ends a service whose clock is
+paused. The program is LAMBDA_LOCAL_PROGRAM, else ./lambda_local. Ends with 'N passed, M failed'."""
+import socket
+import threading
+import time
+from typing import List, Tuple
+
+from lambda_local.service import RUNTIME, Service, ask, wait_for
+from tests.library.cases import Case
+
+CONFIGURATION = {"account": "123456789012", "region": "us-east-2", "functions": [{"name": "f", "ports": [0]}]}
+MARK = "lambda_local::rejected] "
+NO_ROUTE = "no such route of the Runtime API or the Extensions API; docs/formats.md lists them"
+NEEDS = "docs/formats.md says what each route needs"
+LOCAL = "Host: a\r\n"
+# The end of a head with a body of 6,291,457 bytes, and one whose body is cut off.
+TOO_LONG, CUT = f"{LOCAL}Content-Length: 6291457\r\n\r\n", f"{LOCAL}Content-Length: 9\r\n\r\nx"
+# Whether a request comes to the environment's port, its bytes, and the line that is told of it: PORT is its port.
+TOLD: Tuple[Tuple[bool, str, str], ...] = (
+    (True, f"GET {RUNTIME}invocation/nxt?a=%20b HTTP/1.1\r\n{LOCAL}\r\n",
+     f"404 GET {RUNTIME}invocation/nxt?a=%20b at port PORT: {NO_ROUTE}"),
+    (True, f"POST {RUNTIME}invocation/next HTTP/1.1\r\n{LOCAL}\r\n",
+     f"405 POST {RUNTIME}invocation/next at port PORT: this route does not have this method; the response's Allow lists "
+     "those that it has"),
+    (True, f"POST {RUNTIME}invocation/7/response HTTP/1.1\r\n{LOCAL}\r\n",
+     f"400 POST {RUNTIME}invocation/7/response at port PORT, "
+     '{"errorMessage":"Not the open invocation","errorType":"InvalidRequestID"}: ' + NEEDS),
+    (True, f"GET /2020-01-01/extension/event/next HTTP/1.1\r\n{LOCAL}\r\n",
+     "403 GET /2020-01-01/extension/event/next at port PORT: no extension is registered here with this "
+     "Lambda-Extension-Identifier; send the one that the response to its registration had"),
+    (True, f"POST {RUNTIME}init/error HTTP/1.1\r\n{CUT}",
+     f"400 POST {RUNTIME}init/error at port PORT: the body ended early, or is not chunked as HTTP has it; send as many "
+     "bytes as Content-Length says"),
+    (True, "hello\r\n\r\n", "400 port PORT: these bytes are not a request of HTTP/1.1; send HTTP, without TLS, with a "
+     "head of at most 64 KiB"),
+    (True, "GET / HTTP/1.1\r\nHost: evil.example.com\r\n\r\n", "403 GET / at port PORT: the host is neither local nor "
+     "listed; list its name in LAMBDA_LOCAL_HOSTS if it is yours"),
+    (False, f"GET /_local/nothing HTTP/1.1\r\n{LOCAL}\r\n", "404 GET /_local/nothing at port PORT: no such route or "
+     "function; docs/formats.md lists the routes, the configuration has the functions"),
+    (False, f"POST /2015-03-31/functions/f/invocations HTTP/1.1\r\n{TOO_LONG}",
+     "413 POST /2015-03-31/functions/f/invocations at port PORT: the payload is longer than 6291456 bytes; send a "
+     "shorter one"),
+    (False, f"GET /_local/stats HTTP/1.1\r\n{LOCAL}Origin: http://a.example\r\n\r\n",
+     "403 GET /_local/stats at port PORT: web pages may not call this service; call it from a program"),
+)
+AGAIN = 40  # requests of a kind that was told
+PATIENCE = 60  # seconds until something has to come, on a machine that does much else
+
+
+def sent(port: int, text: str) -> bytes:
+    """Sends bytes and no more, and returns what is answered until the end."""
+    with socket.create_connection(("127.0.0.1", port), PATIENCE) as peer:
+        peer.sendall(text.encode())
+        peer.shutdown(socket.SHUT_WR)
+        answer = b""
+        while True:
+            piece = peer.recv(65536)
+            if not piece:
+                return answer
+            answer += piece
+
+
+def told(service: Service) -> List[str]:
+    """What the log told so far of requests that were refused."""
+    return [line.split(MARK, 1)[1] for line in list(service.lines) if MARK in line]
+
+
+def told_first(service: Service, wanted: int) -> List[str]:
+    """What is told once this many lines are, or after a while."""
+    end = time.monotonic() + PATIENCE
+    while len(told(service)) < wanted and time.monotonic() < end:
+        time.sleep(0.02)
+    return told(service)
+
+
+class ServiceRefusals(Case):
+    def test_told(self) -> None:
+        service = Service(CONFIGURATION)
+        try:
+            ports = {True: service.configuration["functions"][0]["ports"][0], False: service.port}
+            self.check("a request that is fine", ask(service.port, "GET", "/_local/stats")[0], 200)
+            for number, (side, text, line) in enumerate(TOLD):
+                answer = sent(ports[side], text)
+                self.check(f"the status of {line[:40]}", answer.split(b" ")[1:2], [line[:3].encode()])
+                self.check(f"told of {line[:40]}", told_first(service, number + 1)[number:],
+                           [line.replace("PORT", str(ports[side]))])
+            for _ in range(AGAIN):
+                ask(ports[True], "GET", "/again")
+            self.check("those that follow are counted", len(told(service)), len(TOLD))
+            service.stop()
+            self.check("the count at the end", told(service)[len(TOLD):],
+                       [f"404 at an environment's port: {AGAIN} more since; {NO_ROUTE}"])
+        finally:
+            service.kill()
+
+    def test_escaped(self) -> None:
+        """What a client sent makes no line of its own, and no long one."""
+        service = Service(CONFIGURATION)
+        try:
+            sent(service.port, f"GET /{'a' * 400} HTTP/1.1\r\n{LOCAL}\r\n")
+            self.check("200 bytes of a target", told_first(service, 1)[0].split(" at port")[0], "404 GET /" + "a" * 199)
+        finally:
+            service.kill()
+
+    def test_stop_in_a_pause(self) -> None:
+        """An environment that does not end has its two seconds, whether the clock was paused or not."""
+        service = Service(CONFIGURATION)
+        try:
+            port = service.configuration["functions"][0]["ports"][0]
+            runtime = threading.Thread(target=ask, args=(port, "GET", RUNTIME + "invocation/next"),
+                                       kwargs={"timeout": PATIENCE})
+            runtime.start()
+            while service.stats()["entries"] < 1:
+                time.sleep(0.01)
+            caller = threading.Thread(target=ask, args=(service.port, "POST", "/2015-03-31/functions/f/invocations", b"{}"),
+                                      kwargs={"timeout": PATIENCE})
+            caller.start()
+            runtime.join(PATIENCE)
+            ask(service.port, "POST", "/_local/clock/pause")
+            begun = time.monotonic()
+            ask(service.port, "POST", "/_local/stop")
+            status = wait_for(service.process, PATIENCE)
+            self.check("a stop in a pause ends the service", (status, time.monotonic() - begun < PATIENCE / 2), (0, True))
+            caller.join(PATIENCE)
+        finally:
+            service.kill()
