@@ -75,7 +75,7 @@ def told_first(service: Service, wanted: int) -> List[str]:
 
 
 class ServiceRefusals(Case):
-    def test_told(self) -> None:
+    def test_the_log_tells_each_kind_of_refused_request(self) -> None:
         service = Service(CONFIGURATION)
         try:
             ports = {True: service.configuration["functions"][0]["ports"][0], False: service.port}
@@ -94,7 +94,7 @@ class ServiceRefusals(Case):
         finally:
             service.kill()
 
-    def test_escaped(self) -> None:
+    def test_what_the_log_shows_of_a_request_is_escaped(self) -> None:
         """What a client sent makes no line of its own, and no long one."""
         service = Service(CONFIGURATION)
         try:
@@ -103,7 +103,7 @@ class ServiceRefusals(Case):
         finally:
             service.kill()
 
-    def test_stop_in_a_pause(self) -> None:
+    def test_a_stop_lets_a_paused_clock_go_on(self) -> None:
         """An environment that does not end has its two seconds, whether the clock was paused or not."""
         service = Service(CONFIGURATION)
         try:
