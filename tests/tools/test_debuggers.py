@@ -3,6 +3,7 @@
 debugger lets it go on; and one that attaches by itself pauses the clock until it detaches. Where debugpy is not
 installed, a module with pydevd's call, by which a runtime knows of it, is in its place. The program is
 LAMBDA_LOCAL_PROGRAM, else ./lambda_local."""
+import contextlib
 import importlib.util
 import json
 import os
@@ -218,12 +219,19 @@ class OfUp(Debugged):
         self.check("it ends", up.end(), (0, []))
 
     def test_a_signal_ends_it_while_callers_wait_for_a_log(self):
-        """While callers wait for the log of a runtime that never begins, as while a debugger holds it."""
-        up = Up("--debug", "f", functions=[{"name": "f", "command": ["sleep", "600"], "timeout": TIMEOUT}])
+        """While callers wait for the log of a runtime that never begins, and another function is debugged."""
+        functions = [{"name": "f", "command": ["sleep", "600"], "timeout": TIMEOUT},
+                     {"name": "g", "command": ["sleep", "600"], "timeout": TIMEOUT}]
+        up = Up("--debug", "g", functions=functions)
         self.check("it waits", up.until("waiting for a debugger", READY_SECONDS))
+
+        def waits():
+            with contextlib.suppress(OSError):  # (it ends meanwhile)
+                posted(up.endpoint, INVOKE.format("f"), b"{}", TAIL)
         for _ in range(6):
-            threading.Thread(target=posted, args=(up.endpoint, INVOKE.format("f"), b"{}", TAIL), daemon=True).start()
-        self.check("a caller wants the log", up.until("restarting f: a caller wants the log of an invocation"))
+            threading.Thread(target=waits, daemon=True).start()
+        self.check("a caller wants the log", up.until("restarting f: a caller wants the log of an invocation",
+                                                      READY_SECONDS))
         time.sleep(1)
         begun = time.monotonic()
         self.check("a signal ends it", up.end(), (0, []))

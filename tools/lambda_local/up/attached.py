@@ -5,6 +5,7 @@ that was started; from then on the system is asked at each look whether a client
 notices that pydevd is imported, on which debugpy and PyCharm rest; from then on it has a file beside the clock's while
 a client is attached (examples/runtime.py)."""
 import contextlib
+import functools
 import os
 import re
 import threading
@@ -53,7 +54,7 @@ class Attached:
         self.lock = threading.Lock()
         for environment in self.environments:
             if language_of(environment.function.member["runtime"]) == "node":
-                printed[environment.number].follow(lambda line, here=environment: self._take(here, line))
+                printed[environment.number].follow(functools.partial(self._take, environment))
 
     def _take(self, environment: Environment, line: Line) -> None:
         if line.text.startswith(BEGINS) and (found := LISTENS.fullmatch(line.text)):
@@ -85,9 +86,9 @@ class Attached:
                 if before == name and mark and pid.isascii() and pid.isdigit():
                     found.add(int(pid))
         known = {self._pid_of(one) for one in self.environments}
-        for pid in found - known:
+        for gone in found - known:
             with contextlib.suppress(OSError):
-                os.unlink(f"{self.clock_file}{MARK}{pid}")
+                os.unlink(f"{self.clock_file}{MARK}{gone}")
         return found & known
 
     def _is_inspected(self, environment: Environment) -> bool:
