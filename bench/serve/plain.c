@@ -1,387 +1,415 @@
-/* The same service written plainly, to measure against: one lock, one thread a connection, long polls
-   on condition variables, a journal that keeps what was handed in, and nothing proved. A payload is read
-   as JSON before it is taken, an invocation has a deadline, and a Next whose runtime goes away while it
-   waits is withdrawn. As in ours, a caller is not throttled by a runtime that has answered and is on its way
-   to ask again. One function f, runtimes alone.
+/* The same service written plainly, to measure against: nothing is proved, and a good C program of this design would
+   do no less. One lock, one thread a connection.
+
+   Each bell is rung after the lock is given back: an invocation is a futex of its own, on which its caller sleeps, and
+   a parked Next has an event of its own; a thread that does not sleep yet is not woken. The free environments are bits
+   of a set, a large payload or output is not copied, a reply is one system call, and the journal never moves.
+
+   It gives the load of load.c the same bytes as ours (test_yardstick.py): it reads heads strictly and payloads
+   as JSON, keeps each call with what was handed in, ends an invocation at its deadline, withdraws a Next whose runtime
+   goes away, and has a newer Next replace an older one. It lacks what that load does not ask for: it has one function
+   f and runtimes alone, and takes no chunked bodies. As in ours, a caller is not throttled by a runtime that has
+   answered and is on its way to ask again; but here its invocation is bound to that environment at once, where ours
+   holds it back, which costs more.
 
    usage: plain INVOKE_PORT ENVIRONMENTS   (environment n listens on INVOKE_PORT + n) */
 #define _GNU_SOURCE
 #include <arpa/inet.h>
-#include <ctype.h>
 #include <errno.h>
+#include <linux/futex.h>
 #include <netinet/tcp.h>
 #include <poll.h>
 #include <pthread.h>
+#include <stdatomic.h>
+#include <stdint.h>
 #include <stdio.h>
 #include <stdlib.h>
 #include <string.h>
-#include <strings.h>
 #include <sys/eventfd.h>
 #include <sys/socket.h>
-#include <sys/time.h>
+#include <sys/syscall.h>
 #include <time.h>
 #include <unistd.h>
 
-enum { MOST_ENVIRONMENTS = 256, HEAD = 16384, MOST_BYTES = 6291456, TIMEOUT = 900 };
+#include "plain_http.h"
+#include "plain_json.h"
 
-struct invocation {
-    char *payload, *output;
-    size_t payload_size, output_size;
-    pthread_cond_t answered;
-    int is_answered;
+enum { MOST_ENVIRONMENTS = 256, MOST_BYTES = 6291456, TIMEOUT = 900, CHUNK = 4096 };
+
+/* ---- waking -------------------------------------------------------------------------------------------------------*/
+
+enum { AWAKE, SLEEPS, RUNG };          /* of one that waits: until it sleeps it need not be woken */
+
+static void futex_wait(atomic_int *state, const struct timespec *deadline) {
+    syscall(SYS_futex, state, FUTEX_WAIT_BITSET_PRIVATE, SLEEPS, deadline, 0, FUTEX_BITSET_MATCH_ANY);
+}
+
+/* Rings a caller; its memory may be gone once it is rung, and the address alone is used behind that. */
+static void ring_caller(atomic_int *state) {
+    if (atomic_exchange(state, RUNG) == SLEEPS) syscall(SYS_futex, state, FUTEX_WAKE_PRIVATE, 1, 0, 0, 0);
+}
+
+/* Whether one that has not been rung may sleep now. */
+static int may_sleep(atomic_int *state) {
+    int awake = AWAKE;
+    return atomic_compare_exchange_strong(state, &awake, SLEEPS);
+}
+
+/* ---- the account: all of it is behind the lock --------------------------------------------------------------------*/
+
+struct invocation {                    /* on the stack of its caller */
+    atomic_int state;
+    char *output;
+    size_t output_size;
+};
+
+struct delivery {                      /* what a Next is given; the payload stays in the journal */
+    const char *payload;
+    size_t size;
+    unsigned long number;              /* the count in its invocation's identifier; 0 if a newer Next has come */
+    long deadline;                     /* Unix milliseconds */
+};
+
+struct parked {                        /* a Next */
+    atomic_int state;
+    int event;                         /* what is written to if it sleeps */
+    struct delivery given;
 };
 
 struct environment {
-    int is_asking;                 /* its runtime waits in a Next */
-    int bell;                      /* what is written to when that Next is to look again */
-    struct invocation *open;       /* what it works on */
-    unsigned long count;           /* the count in its invocation's identifier */
-    unsigned long asks;            /* how often its runtime asked, so that a newer poll replaces an older one */
+    struct parked *next;
+    struct invocation *open;
+    struct delivery delivery;          /* of the open one */
+    int is_delivered;
 };
-
-static pthread_mutex_t lock = PTHREAD_MUTEX_INITIALIZER;
-static struct environment environments[MOST_ENVIRONMENTS + 1];
-static int environment_count;
-static unsigned long invoked, admitted, throttled;
 
 struct entry {
     long moment;
-    int environment;               /* 0 of an invocation */
+    int environment;                   /* 0 of an invocation, else from 1 on */
     char *bytes;
     size_t size;
 };
 
-static struct entry *journal;
-static size_t kept, room;
-
-struct connection {
-    int socket, environment;       /* environment 0 is the invoke port */
-    int bell;                      /* an eventfd, of an environment's connections */
-    char head[HEAD];
-    size_t read, used;
+struct chunk {
+    struct chunk *before;
+    size_t kept;
+    struct entry entries[CHUNK];
 };
 
-static int send_all(int socket, const char *bytes, size_t size, int flags) {
-    while (size > 0) {
-        ssize_t sent = send(socket, bytes, size, flags | MSG_NOSIGNAL);
-        if (sent <= 0) return -1;
-        bytes += sent;
-        size -= sent;
-    }
-    return 0;
+static pthread_mutex_t lock = PTHREAD_MUTEX_INITIALIZER;
+static struct environment environments[MOST_ENVIRONMENTS];
+static uint64_t asking[MOST_ENVIRONMENTS / 64], answered[MOST_ENVIRONMENTS / 64];
+static int environment_count;
+static unsigned long invoked, admitted, throttled, entries;
+static unsigned long in_flight;        /* until their environments ask again */
+static struct chunk *journal;
+
+static void put_in(uint64_t *set, int at) {
+    set[at / 64] |= (uint64_t)1 << at % 64;
 }
 
-static int reply(struct connection *c, int status, const char *headers, const char *body, size_t size) {
-    char head[512];
-    int length = snprintf(head, sizeof head,
-                          "HTTP/1.1 %d X\r\nContent-Type: application/json\r\n%sContent-Length: %zu\r\n\r\n",
-                          status, headers, size);
-    if (size < 4096) {
-        char whole[8192];
-        memcpy(whole, head, length);
-        memcpy(whole + length, body, size);
-        return send_all(c->socket, whole, length + size, 0);
-    }
-    return send_all(c->socket, head, length, MSG_MORE) || send_all(c->socket, body, size, 0);
+/* Takes one out of a set; whether it was in it. */
+static int take_out(uint64_t *set, int at) {
+    int was_in = set[at / 64] >> at % 64 & 1;
+    set[at / 64] &= ~((uint64_t)1 << at % 64);
+    return was_in;
 }
 
-static int text(struct connection *c, int status, const char *body) {
-    return reply(c, status, "", body, strlen(body));
-}
-
-/* Returns the end of the digits from here on, or NULL if there are none. */
-static const char *digits(const char *at, const char *end) {
-    const char *from = at;
-    while (at < end && *at >= '0' && *at <= '9') at++;
-    return at > from ? at : 0;
-}
-
-static const char *spaces(const char *at, const char *end) {
-    while (at < end && (*at == ' ' || *at == '\t' || *at == '\n' || *at == '\r')) at++;
-    return at;
-}
-
-/* Returns the end of the string whose quote is here, or NULL if it is not JSON. */
-static const char *string(const char *at, const char *end) {
-    for (at++; at < end; at++) {
-        if (*at == '"') return at + 1;
-        if ((unsigned char)*at < ' ') return 0;
-        if (*at == '\\') {
-            if (++at == end) return 0;
-            if (*at == 'u') {
-                for (int n = 0; n < 4; n++)
-                    if (++at == end || !isxdigit((unsigned char)*at)) return 0;
-            } else if (!memchr("\"\\/bfnrt", *at, 8)) {
-                return 0;
-            }
-        }
-    }
-    return 0;
-}
-
-static const char *number(const char *at, const char *end) {
-    if (*at == '-') at++;
-    at = at < end && *at == '0' ? at + 1 : digits(at, end);
-    if (at && at < end && *at == '.') at = digits(at + 1, end);
-    if (at && at < end && (*at == 'e' || *at == 'E')) {
-        at++;
-        if (at < end && (*at == '+' || *at == '-')) at++;
-        at = digits(at, end);
-    }
-    return at;
-}
-
-/* Returns the end of the value from here on, or NULL if it is not JSON. */
-static const char *value(const char *at, const char *end, int depth) {
-    static const char *const words[] = {"null", "true", "false"};
-    if ((at = spaces(at, end)) == end || depth > 127) return 0;
-    if (*at == '"') return string(at, end);
-    if (*at == '{' || *at == '[') {
-        char close = *at + 2;
-        int is_object = *at == '{';
-        if ((at = spaces(at + 1, end)) < end && *at == close) return at + 1;
-        for (;; at++) {
-            if (is_object) {
-                if ((at = spaces(at, end)) == end || *at != '"' || !(at = string(at, end))) return 0;
-                if ((at = spaces(at, end)) == end || *at++ != ':') return 0;
-            }
-            if (!(at = value(at, end, depth + 1)) || (at = spaces(at, end)) == end) return 0;
-            if (*at == close) return at + 1;
-            if (*at != ',') return 0;
-        }
-    }
-    for (int n = 0; n < 3; n++) {
-        size_t size = strlen(words[n]);
-        if ((size_t)(end - at) >= size && !memcmp(at, words[n], size)) return at + size;
-    }
-    return number(at, end);
-}
-
-static int is_json(const char *bytes, size_t size) {
-    const char *end = bytes + size, *at = value(bytes, end, 0);
-    return size == 0 || (at && spaces(at, end) == end);
-}
-
-/* Keeps what was handed in; the lock is held. */
-static void keep(int environment, char *bytes, size_t size) {
-    if (kept == room) {
-        room = room ? 2 * room : 1024;
-        journal = realloc(journal, room * sizeof *journal);
-    }
-    struct timeval now;
-    gettimeofday(&now, 0);
-    journal[kept++] = (struct entry){now.tv_sec * 1000L + now.tv_usec / 1000, environment, bytes, size};
-}
-
-static void ring(int bell) {
-    eventfd_write(bell, 1);
-}
-
-/* An environment that works on nothing, 0 where none is: one whose runtime asks, else one whose runtime has answered
-   and is on its way to ask again. The lock is held. */
-static int free_environment(void) {
-    int at = 0;
-    for (int e = 1; e <= environment_count; e++) {
-        if (environments[e].open || !environments[e].asks) continue;
-        if (environments[e].is_asking) return e;
-        if (!at) at = e;
-    }
-    return at;
-}
-
-static int invoke(struct connection *c, char *payload, size_t size) {
-    if (size > MOST_BYTES) {
-        free(payload);
-        return text(c, 413, "{\"Message\":\"Payload is too long\",\"Type\":\"User\"}");
-    }
-    if (!is_json(payload, size)) {
-        free(payload);
-        return text(c, 400, "{\"Message\":\"Payload is not JSON\",\"Type\":\"User\"}");
-    }
-    struct invocation *i = calloc(1, sizeof *i);
-    pthread_cond_init(&i->answered, 0);
-    i->payload = payload;
-    i->payload_size = size;
-    pthread_mutex_lock(&lock);
-    int at = free_environment();
-    if (!at) {
-        throttled++;
-        pthread_mutex_unlock(&lock);
-        free(payload);
-        free(i);
-        return text(c, 429, "{\"Reason\":\"LocalEnvironmentLimitExceeded\",\"Type\":\"User\","
-                            "\"message\":\"Rate Exceeded.\"}");
-    }
-    admitted++;
-    keep(0, payload, size);
-    environments[at].open = i;
-    environments[at].count = ++invoked;
-    if (environments[at].is_asking) ring(environments[at].bell);
-    struct timespec deadline;
-    clock_gettime(CLOCK_REALTIME, &deadline);
-    deadline.tv_sec += TIMEOUT;
-    while (!i->is_answered && pthread_cond_timedwait(&i->answered, &lock, &deadline) != ETIMEDOUT) {}
-    if (!i->is_answered) {
-        environments[at].open = 0;
-        pthread_mutex_unlock(&lock);
-        free(i);
-        return reply(c, 200, "X-Amz-Function-Error: Unhandled\r\n", "{\"errorMessage\":\"Task timed out\"}", 33);
-    }
-    pthread_mutex_unlock(&lock);
-    int failed = reply(c, 200, "X-Amz-Executed-Version: $LATEST\r\n", i->output, i->output_size);
-    free(i);
-    return failed;
-}
-
-/* Waits for the bell; returns -1 if the runtime went away. */
-static int hear(struct connection *c) {
-    struct pollfd ends[2] = {{.fd = c->bell, .events = POLLIN}, {.fd = c->socket, .events = POLLRDHUP}};
-    eventfd_t count;
-    if (poll(ends, 2, -1) < 0) return errno == EINTR ? 0 : -1;
-    if (ends[0].revents) return eventfd_read(c->bell, &count);
+/* The lowest-numbered environment of a set; -1 if there is none. */
+static int lowest(const uint64_t *set) {
+    for (int word = 0; word < MOST_ENVIRONMENTS / 64; word++)
+        if (set[word]) return 64 * word + __builtin_ctzll(set[word]);
     return -1;
 }
 
-static int next(struct connection *c) {
-    struct environment *e = &environments[c->environment];
-    pthread_mutex_lock(&lock);
-    unsigned long mine = ++e->asks;
-    if (e->is_asking) ring(e->bell);
-    e->is_asking = 1;
-    e->bell = c->bell;
-    while (!e->open && e->asks == mine) {
-        pthread_mutex_unlock(&lock);
-        int gone = hear(c);
-        pthread_mutex_lock(&lock);
-        if (gone) {
-            if (e->asks == mine && !e->open) e->is_asking = 0;
-            pthread_mutex_unlock(&lock);
-            return -1;
-        }
-    }
-    if (e->asks != mine) {
-        pthread_mutex_unlock(&lock);
-        return text(c, 403, "{\"errorMessage\":\"A newer poll replaced this one\","
-                            "\"errorType\":\"InvalidStateTransition\"}");
-    }
-    e->is_asking = 0;
-    const char *payload = e->open->payload;
-    size_t size = e->open->payload_size;
-    unsigned long count = e->count;
-    pthread_mutex_unlock(&lock);
-    struct timeval now;
-    gettimeofday(&now, 0);
-    char headers[400];
-    snprintf(headers, sizeof headers,
-             "Lambda-Runtime-Aws-Request-Id: 00000000-0000-8000-8001-%012lx\r\nLambda-Runtime-Deadline-Ms: %ld\r\n"
-             "Lambda-Runtime-Invoked-Function-Arn: arn:aws:lambda:us-east-2:123456789012:function:f\r\n",
-             count, (now.tv_sec + TIMEOUT) * 1000L + now.tv_usec / 1000);
-    return reply(c, 200, headers, payload, size);
+static long unix_milliseconds(void) {
+    struct timespec now;
+    clock_gettime(CLOCK_REALTIME, &now);
+    return now.tv_sec * 1000L + now.tv_nsec / 1000000;
 }
 
-static int respond(struct connection *c, const char *id, char *output, size_t size) {
-    struct environment *e = &environments[c->environment];
-    const char *dash = strrchr(id, '-');
-    unsigned long count = dash ? strtoul(dash + 1, 0, 16) : 0;
+/* Keeps a call, with what was handed in. */
+static void keep(long moment, int environment, char *bytes, size_t size) {
+    if (!journal || journal->kept == CHUNK) {
+        struct chunk *further = malloc(sizeof *further);
+        if (!further) abort();
+        further->before = journal;
+        further->kept = 0;
+        journal = further;
+    }
+    journal->entries[journal->kept++] = (struct entry){moment, environment, bytes, size};
+    entries++;
+}
+
+/* Gives a parked Next what it waits for; it is rung once the lock is given back. */
+static struct parked *give(struct environment *e) {
+    struct parked *next = e->next;
+    e->next = 0;
+    next->given = e->delivery;
+    e->is_delivered = 1;
+    return next;
+}
+
+static void ring_next(struct parked *next) {
+    if (next && atomic_exchange(&next->state, RUNG) == SLEEPS) eventfd_write(next->event, 1);
+}
+
+/* ---- calls --------------------------------------------------------------------------------------------------------*/
+
+static int is_over(const struct timespec *deadline) {
+    struct timespec now;
+    clock_gettime(CLOCK_MONOTONIC, &now);
+    return now.tv_sec > deadline->tv_sec || (now.tv_sec == deadline->tv_sec && now.tv_nsec >= deadline->tv_nsec);
+}
+
+/* Waits until an invocation of this environment is answered; whether it was, before its deadline. */
+static int is_answered(struct invocation *i, struct environment *e, const struct timespec *deadline) {
+    if (!may_sleep(&i->state)) return 1;
+    while (atomic_load(&i->state) != RUNG) {
+        futex_wait(&i->state, deadline);
+        if (!deadline || atomic_load(&i->state) == RUNG || !is_over(deadline)) continue;
+        pthread_mutex_lock(&lock);
+        int is_open = e->open == i;
+        if (is_open) {
+            e->open = 0;
+            in_flight--;
+        }
+        pthread_mutex_unlock(&lock);
+        if (is_open) return 0;
+        deadline = 0;                  /* it was answered just now: its bell comes */
+    }
+    return 1;
+}
+
+struct peer {                          /* who has a connection */
+    struct connection http;
+    int environment;                   /* -1 at the invoke port */
+    struct parked next;                /* its Next, if it waits in one */
+};
+
+#define NOT_NOW(c, why) SAY(&(c)->http, "403 Forbidden\r\n" JSON, \
+                            "{\"errorMessage\":\"" why "\",\"errorType\":\"InvalidStateTransition\"}")
+
+static int throttle(struct peer *c, unsigned long number) {
+    static const char body[] = "{\"Reason\":\"LocalEnvironmentLimitExceeded\",\"Type\":\"User\","
+                               "\"message\":\"Rate Exceeded.\"}";
+    struct reply r = {.size = 0};
+    PUT(&r, "HTTP/1.1 429 Too Many Requests\r\n" JSON "x-amzn-errortype: TooManyRequestsException\r\n"
+            "x-amzn-requestid: ");
+    put_identifier(&r, number);
+    PUT(&r, "\r\n");
+    return reply(&c->http, &r, body, sizeof body - 1);
+}
+
+static int invoke(struct peer *c, char *payload, size_t size) {
+    if (!is_json(payload, size)) {
+        free(payload);
+        return SAY(&c->http, "400 Bad Request\r\n" JSON "x-amzn-errortype: InvalidRequestContentException\r\n",
+                   "{\"Type\":\"User\",\"message\":\"Payload is not JSON\"}");
+    }
+    struct invocation i = {.state = AWAKE};
+    struct timespec deadline;
+    clock_gettime(CLOCK_MONOTONIC, &deadline);
+    deadline.tv_sec += TIMEOUT;
     pthread_mutex_lock(&lock);
-    if (!e->open || e->count != count) {
+    int at = lowest(asking), is_asking = at >= 0;
+    if (!is_asking) at = lowest(answered);
+    unsigned long number = ++invoked;
+    long moment = unix_milliseconds();
+    if (at < 0) {
+        throttled++;
+        keep(moment, 0, 0, 0);
+        pthread_mutex_unlock(&lock);
+        free(payload);
+        return throttle(c, number);
+    }
+    struct environment *e = &environments[at];
+    admitted++;
+    in_flight += is_asking;
+    keep(moment, 0, payload, size);
+    take_out(is_asking ? asking : answered, at);
+    e->open = &i;
+    e->delivery = (struct delivery){size ? payload : "{}", size ? size : 2, number, moment + TIMEOUT * 1000L};
+    e->is_delivered = 0;
+    struct parked *next = is_asking ? give(e) : 0;
+    pthread_mutex_unlock(&lock);
+    ring_next(next);
+    struct reply r = {.size = 0};
+    PUT(&r, "HTTP/1.1 200 OK\r\n" JSON);
+    int has_output = is_answered(&i, e, &deadline);
+    if (!has_output) PUT(&r, "x-amz-function-error: Unhandled\r\n");
+    PUT(&r, "x-amz-executed-version: $LATEST\r\nx-amzn-requestid: ");
+    put_identifier(&r, number);
+    PUT(&r, "\r\n");
+    if (has_output) return reply(&c->http, &r, i.output, i.output_size);
+    static const char late[] = "{\"errorType\":\"Sandbox.Timedout\",\"errorMessage\":\"Task timed out\"}";
+    return reply(&c->http, &r, late, sizeof late - 1);
+}
+
+/* Waits for the bell of a Next; returns -1 if its runtime went away before. */
+static int hear(struct peer *c, struct environment *e) {
+    struct pollfd ends[2] = {{.fd = c->next.event, .events = POLLIN}, {.fd = c->http.socket, .events = POLLRDHUP}};
+    eventfd_t count;
+    if (!may_sleep(&c->next.state)) return 0;
+    while (poll(ends, 2, -1) < 0) {}
+    if (!ends[0].revents) {
+        pthread_mutex_lock(&lock);
+        int is_parked = e->next == &c->next;
+        if (is_parked) {
+            e->next = 0;
+            take_out(asking, c->environment);
+        }
+        pthread_mutex_unlock(&lock);
+        if (is_parked) return -1;      /* else it was rung just now, and has to be heard */
+    }
+    while (eventfd_read(c->next.event, &count) < 0) {}
+    return 0;
+}
+
+static int next(struct peer *c) {
+    struct environment *e = &environments[c->environment];
+    struct parked *mine = &c->next, *older = 0;
+    atomic_store(&mine->state, AWAKE);
+    pthread_mutex_lock(&lock);
+    keep(unix_milliseconds(), c->environment + 1, 0, 0);
+    if (e->open && e->is_delivered) {
+        pthread_mutex_unlock(&lock);
+        return NOT_NOW(c, "Not allowed in the current phase");
+    }
+    if ((older = e->next)) older->given.number = 0;
+    e->next = mine;
+    in_flight -= take_out(answered, c->environment);
+    if (e->open)
+        give(e);
+    else
+        put_in(asking, c->environment);
+    int is_given = e->next != mine;
+    pthread_mutex_unlock(&lock);
+    ring_next(older);
+    if (!is_given && hear(c, e)) return -1;
+    if (!mine->given.number)
+        return NOT_NOW(c, "A newer poll replaced this one");
+    struct reply r = {.size = 0};
+    PUT(&r, "HTTP/1.1 200 OK\r\n" JSON "lambda-runtime-aws-request-id: ");
+    put_identifier(&r, mine->given.number);
+    PUT(&r, "\r\nlambda-runtime-deadline-ms: ");
+    put_number(&r, mine->given.deadline);
+    PUT(&r, "\r\nlambda-runtime-invoked-function-arn: arn:aws:lambda:us-east-2:123456789012:function:f\r\n"
+            "lambda-runtime-trace-id: Root=1-00000000-000000000000000000000000;Sampled=0\r\n");
+    return reply(&c->http, &r, mine->given.payload, mine->given.size);
+}
+
+/* The count in an identifier; 0 if it is none. */
+static unsigned long count_in(const char *id, size_t size) {
+    static const char begin[] = "00000000-0000-8000-8001-";
+    unsigned long found = 0;
+    if (size != sizeof begin - 1 + 12 || memcmp(id, begin, sizeof begin - 1)) return 0;
+    for (const char *at = id + sizeof begin - 1; at < id + size; at++) {
+        if (!((*at >= '0' && *at <= '9') || (*at >= 'a' && *at <= 'f'))) return 0;
+        found = 16 * found + (*at <= '9' ? *at - '0' : *at - 'a' + 10);
+    }
+    return found;
+}
+
+static int respond(struct peer *c, const char *id, size_t id_size, char *output, size_t size) {
+    struct environment *e = &environments[c->environment];
+    unsigned long number = count_in(id, id_size);
+    pthread_mutex_lock(&lock);
+    struct invocation *i = e->open;
+    int is_busy = i && e->is_delivered;
+    if (!is_busy || e->delivery.number != number) {
+        keep(unix_milliseconds(), c->environment + 1, 0, 0);
         pthread_mutex_unlock(&lock);
         free(output);
-        return text(c, 400, "{\"errorMessage\":\"Not the open invocation\",\"errorType\":\"InvalidRequestID\"}");
+        if (!is_busy) return NOT_NOW(c, "Not allowed in the current phase");
+        return SAY(&c->http, "400 Bad Request\r\n" JSON,
+                   "{\"errorMessage\":\"Not the open invocation\",\"errorType\":\"InvalidRequestID\"}");
     }
-    struct invocation *i = e->open;
     e->open = 0;
-    keep(c->environment, output, size);
+    put_in(answered, c->environment);
+    keep(unix_milliseconds(), c->environment + 1, output, size);
     i->output = output;
     i->output_size = size;
-    i->is_answered = 1;
-    pthread_cond_signal(&i->answered);
     pthread_mutex_unlock(&lock);
-    return text(c, 202, "{\"status\":\"OK\"}\n");
+    ring_caller(&i->state);
+    return SAY(&c->http, "202 Accepted\r\n" JSON, "{\"status\":\"OK\"}");
 }
 
-static int stats(struct connection *c) {
-    char body[128];
+static int stats(struct peer *c) {
+    char body[160];
     pthread_mutex_lock(&lock);
-    snprintf(body, sizeof body, "{\"admitted\":%lu,\"throttled\":%lu}", admitted, throttled);
+    int size = snprintf(body, sizeof body, "{\"admitted\":%lu,\"entries\":%lu,\"failed\":0,\"inFlight\":%lu,"
+                        "\"throttled\":%lu}", admitted, entries, in_flight, throttled);
     pthread_mutex_unlock(&lock);
-    return text(c, 200, body);
+    return say(&c->http, "HTTP/1.1 200 OK\r\n" JSON, sizeof "HTTP/1.1 200 OK\r\n" JSON - 1, body, size);
 }
 
-/* The head of the next request, ended by a zero; 0 at the end of the connection. */
-static char *read_head(struct connection *c) {
-    memmove(c->head, c->head + c->used, c->read - c->used);
-    c->read -= c->used;
-    c->used = 0;
-    for (;;) {
-        c->head[c->read] = 0;
-        char *end = strstr(c->head, "\r\n\r\n");
-        if (end) {
-            c->used = end + 4 - c->head;
-            end[2] = 0;
-            return c->head;
-        }
-        if (c->read + 1 >= HEAD) return 0;
-        ssize_t got = recv(c->socket, c->head + c->read, HEAD - 1 - c->read, 0);
-        if (got <= 0) return 0;
-        c->read += got;
-    }
+/* ---- requests -----------------------------------------------------------------------------------------------------*/
+
+/* Refuses a request by its head: what follows it is not read. */
+static int refuse(struct peer *c, int status) {
+    c->http.closes = 1;
+    if (status == 403)
+        return SAY(&c->http, "403 Forbidden\r\n" JSON, "{\"Type\":\"User\",\"message\":\"This name is not served\"}");
+    if (status == 413)
+        return SAY(&c->http, "413 Payload Too Large\r\n" JSON "x-amzn-errortype: RequestTooLargeException\r\n",
+                   "{\"Type\":\"User\",\"message\":\"Payload exceeds 6291456 bytes\"}");
+    if (status == 431) return SAY(&c->http, "431 Request Header Fields Too Large\r\n", "");
+    if (status == 501) return SAY(&c->http, "501 Not Implemented\r\n", "");
+    if (status == 505) return SAY(&c->http, "505 HTTP Version Not Supported\r\n", "");
+    return SAY(&c->http, "400 Bad Request\r\n", "");
 }
 
-static char *read_body(struct connection *c, size_t size) {
-    char *body = malloc(size + 1);
-    size_t have = c->read - c->used;
-    if (have > size) have = size;
-    memcpy(body, c->head + c->used, have);
-    c->used += have;
-    while (have < size) {
-        ssize_t got = recv(c->socket, body + have, size - have, 0);
-        if (got <= 0) {
-            free(body);
-            return 0;
-        }
-        have += got;
-    }
-    return body;
+static int no_such_resource(struct peer *c) {
+    return SAY(&c->http, "404 Not Found\r\n" JSON,
+               "{\"errorMessage\":\"No such resource\",\"errorType\":\"NotFound\"}");
+}
+
+/* Serves a request of the invoke port; its body is kept or freed. */
+static int serve_caller(struct peer *c, const struct request *r, char *body) {
+    if (is_word(r->target, "/2015-03-31/functions/f/invocations") && is_word(r->method, "POST"))
+        return invoke(c, body, r->length);
+    free(body);
+    return is_word(r->target, "/_local/stats") && is_word(r->method, "GET") ? stats(c) : no_such_resource(c);
+}
+
+/* Serves a request of an environment. */
+static int serve_environment(struct peer *c, const struct request *r, char *body) {
+    static const char prefix[] = "/2018-06-01/runtime/invocation/", suffix[] = "/response";
+    size_t before = sizeof prefix - 1, behind = sizeof suffix - 1;
+    const char *target = r->target.at;
+    size_t size = r->target.size;
+    if (is_word(r->method, "POST") && size > before + behind && !memcmp(target, prefix, before) &&
+        !memcmp(target + size - behind, suffix, behind))
+        return respond(c, target + before, size - before - behind, body, r->length);
+    free(body);
+    if (!is_word(r->method, "GET")) return no_such_resource(c);
+    if (is_word(r->target, "/2018-06-01/runtime/invocation/next")) return next(c);
+    if (is_word(r->target, "/2020-01-01/extension/event/next")) pause();
+    return no_such_resource(c);
 }
 
 static void *serve(void *argument) {
-    struct connection *c = argument;
-    char *head;
-    while ((head = read_head(c))) {
-        char path[1024] = "", method[16] = "";
-        sscanf(head, "%15s %1023s", method, path);
-        char *length = strcasestr(head, "\r\ncontent-length:");
-        size_t size = length ? strtoul(length + 17, 0, 10) : 0;
-        char *body = read_body(c, size);
-        if (!body) break;
-        int failed;
-        if (!c->environment && strstr(path, "/invocations")) {
-            failed = invoke(c, body, size);
-        } else if (!c->environment && !strcmp(path, "/_local/stats")) {
-            free(body);
-            failed = stats(c);
-        } else if (c->environment && !strcmp(path, "/2018-06-01/runtime/invocation/next")) {
-            free(body);
-            failed = next(c);
-        } else if (c->environment && !strcmp(path, "/2020-01-01/extension/event/next")) {
-            free(body);
-            pause();
-            failed = 1;
-        } else if (c->environment && strstr(path, "/response")) {
-            *strstr(path, "/response") = 0;
-            failed = respond(c, path, body, size);
-        } else {
-            free(body);
-            failed = text(c, 404, "{\"errorMessage\":\"No such resource\",\"errorType\":\"NotFound\"}");
+    struct peer *c = argument;
+    struct request r;
+    int status;
+    while (!(status = read_head(&c->http, &r))) {
+        if (r.length > MOST_BYTES) {
+            status = 413;
+            break;
         }
-        if (failed) break;
+        char *body = read_body(&c->http, &r);
+        if (!body) break;
+        if (c->environment < 0 ? serve_caller(c, &r, body) : serve_environment(c, &r, body)) break;
     }
-    if (c->environment) close(c->bell);
-    close(c->socket);
+    if (status > 0) refuse(c, status);
+    if (c->environment >= 0) close(c->next.event);
+    close(c->http.socket);
     free(c);
     return 0;
 }
+
+/* ---- ports --------------------------------------------------------------------------------------------------------*/
 
 struct port {
     int listener, environment;
@@ -394,16 +422,26 @@ static void *accept_all(void *argument) {
     pthread_attr_setdetachstate(&detached, PTHREAD_CREATE_DETACHED);
     pthread_attr_setstacksize(&detached, 128 * 1024);
     for (;;) {
-        int socket = accept(port->listener, 0, 0), one = 1;
-        if (socket < 0) continue;
+        int socket = accept4(port->listener, 0, 0, SOCK_CLOEXEC), one = 1;
+        if (socket < 0) {
+            if (errno == EMFILE || errno == ENFILE || errno == ENOMEM) usleep(1000);
+            continue;
+        }
         setsockopt(socket, IPPROTO_TCP, TCP_NODELAY, &one, sizeof one);
-        struct connection *c = malloc(sizeof *c);
-        c->socket = socket;
-        c->environment = port->environment;
-        c->read = c->used = 0;
-        if (c->environment) c->bell = eventfd(0, 0);
+        struct peer *c = malloc(sizeof *c);
         pthread_t thread;
-        if (pthread_create(&thread, &detached, serve, c)) {
+        if (!c) {
+            close(socket);
+            continue;
+        }
+        c->http.socket = socket;
+        c->environment = port->environment;
+        c->http.has_local_names = c->environment < 0;
+        c->http.closes = 0;
+        c->http.read = c->http.used = 0;
+        c->next.event = c->environment >= 0 ? eventfd(0, EFD_CLOEXEC) : 0;
+        if (c->next.event < 0 || pthread_create(&thread, &detached, serve, c)) {
+            if (c->next.event > 0) close(c->next.event);
             close(socket);
             free(c);
         }
@@ -416,6 +454,7 @@ int main(int count, char **words) {
         fprintf(stderr, "usage: plain INVOKE_PORT ENVIRONMENTS\n");
         return 2;
     }
+    make_tables();
     pthread_t thread = 0;
     for (int n = 0; n <= environment_count; n++) {
         struct sockaddr_in address = {
@@ -425,14 +464,15 @@ int main(int count, char **words) {
         };
         struct port *port = malloc(sizeof *port);
         int one = 1;
-        port->environment = n;
-        port->listener = socket(AF_INET, SOCK_STREAM, 0);
+        if (!port) return 4;
+        port->environment = n - 1;
+        port->listener = socket(AF_INET, SOCK_STREAM | SOCK_CLOEXEC, 0);
         setsockopt(port->listener, SOL_SOCKET, SO_REUSEADDR, &one, sizeof one);
-        if (bind(port->listener, (struct sockaddr *)&address, sizeof address) || listen(port->listener, 1024)) {
+        if (bind(port->listener, (struct sockaddr *)&address, sizeof address) || listen(port->listener, 1024) ||
+            pthread_create(&thread, 0, accept_all, port)) {
             perror("plain");
             return 4;
         }
-        pthread_create(&thread, 0, accept_all, port);
     }
     fprintf(stderr, "listening\n");
     pthread_join(thread, 0);

@@ -11,8 +11,10 @@ SIZES = {100: "100 B", 100_000: "100 KB", 5_000_000: "5 MB"}
 LARGE = 6_000_000
 PAUSES = 0, 100, 1_000    # microseconds until a runtime asks again
 PARKED = 252, 3    # environments, and extensions of each: with the runtime 1,008 connections
-# The aims: of plain C's rate by payload, of Go's at 100 B, of plain C's short connections, KiB of a parked connection.
-RATES, OF_GO, OF_SHORT, MOST_KIB = {100: 0.9, 100_000: 1.0, 5_000_000: 1.0}, 1.5, 0.5, 80
+# The aims: of plain C's rate by payload and environments, of Go's at 100 B, of plain C's short connections, KiB of a
+# parked connection.
+RATES = {(100, 1): 0.75, (100, 8): 0.85, (100, 64): 0.75}
+OF_OTHERS, OF_GO, OF_SHORT, MOST_KIB = 1.0, 1.5, 0.5, 80
 
 
 def number(it):
@@ -139,12 +141,14 @@ class Tables:
                         continue
                     samples = self.interleaved(
                         where, lambda kind: self.round_trip(kind, environments, size, invocations, processors))
-                    self.note(f"at {called}: {RATES[size]} of plain C's rate",
+                    aim = RATES.get((size, environments), OF_OTHERS)
+                    of_whom = f", environments {environments}" if (size, environments) in RATES else ""
+                    self.note(f"at {called}{of_whom}: {aim} of plain C's rate",
                               self.against(samples, ours, self.plain, "rate"), where)
                     if size == 100:
                         self.note(f"at {called}: {OF_GO} of Go's rate",
                                   self.go and self.against(samples, ours, self.go, "rate"), where)
-                    aims = {self.plain: RATES[size], self.go: OF_GO if size == 100 else None}
+                    aims = {self.plain: aim, self.go: OF_GO if size == 100 else None}
                     for kind, its in samples.items():
                         self.row(name, str(environments), called, kind.name, *([
                             spread([it["rate"] for it in its]),

@@ -136,6 +136,7 @@ LIES: Dict[str, Tuple[str, str, str, str]] = {
     "template_routes": ("REST_APIs_of_SAM", OF_TOOLS + "from_template/routes.py", "BinaryMediaTypes", "BinaryTypes"),
     "terminal": ("what_is_invoked", OF_TOOLS + "outgoing.py", "return UNSAFE.sub(_escaped, text)", "return text"),
     "timeline": ("pictures_of_the_pages", OF_TOOLS + "timeline/words.py", "if milliseconds < 10_000", "if milliseconds < 1_000"),
+    "yardstick": ("heads_are_judged", "bench/serve/plain_http.h", "return !is_other;", "return 1;"),
     "timeline_otlp": ("a_callers_trace", OF_TOOLS + "timeline/otlp.py", "trace or own, own[16:]", "own, own[16:]"),
     "timeline_history": ("whose_replay_differs", OF_TOOLS + "history/comparison.py", "if replayed[:-1] != answer:", "if False:"),
     "timeline_live": ("for_a_browser_on_this_machine", OF_TOOLS + "timeline/served.py",

@@ -4,6 +4,7 @@ import contextlib
 import json
 import os
 import resource
+import socket
 import subprocess
 import sys
 import tempfile
@@ -54,6 +55,34 @@ def fault_in(call, *arguments):
 def content(path):
     with open(path, encoding="utf-8") as file:
         return file.read()
+
+
+HISTORY = "\u00e9" * (1 << 19)  # a mebibyte, which the readings of a socket cut in mid-letter
+SAVES = """
+import resource, sys
+from lambda_local.outgoing import written
+from lambda_local.service import Service
+service = Service.__new__(Service)
+service.port = int(sys.argv[1])
+with open("/proc/self/statm") as file:
+    size = int(file.read().split()[0]) * resource.getpagesize()
+resource.setrlimit(resource.RLIMIT_AS, (size + (16 << 20),) * 2)
+with written(sys.argv[2]) as file:
+    service.save_history(file)
+"""
+
+
+def give_history(listener: socket.socket, head: str, parts: int, ends: bytes) -> None:
+    """Answers one request with chunks, or what the head says."""
+    peer, _ = listener.accept()
+    with peer:
+        peer.recv(4096)
+        chunk = HISTORY.encode()
+        with contextlib.suppress(OSError):
+            peer.sendall(f"HTTP/1.1 {head}\r\n\r\n".encode())
+            for _ in range(parts):
+                peer.sendall(b"%x\r\n%b\r\n" % (len(chunk), chunk) if "chunked" in head else chunk)
+            peer.sendall(ends)
 
 
 class Files(Case):
@@ -210,3 +239,25 @@ class Files(Case):
                     if before:
                         self.check("as it was", content(os.path.join(folder, "out")), before)
                         os.unlink(os.path.join(folder, "out"))
+
+    def test_a_history_is_saved_by_pieces_or_not_at_all(self) -> None:
+        """`up` saves a history of 32 MiB in 16 MiB of memory, and one that does not come whole not at all."""
+        chunked = "200 OK\r\nTransfer-Encoding: chunked"
+        for name, head, parts, ends, is_whole in (
+                ("32 MiB by chunks", chunked, 32, b"0\r\n\r\n", True),
+                ("32 MiB of a length", "200 OK\r\nContent-Length: 33554432", 32, b"", True),
+                ("broken off by chunks", chunked, 3, b"", False),
+                ("broken off of a length", "200 OK\r\nContent-Length: 33554432", 3, b"", False),
+                ("refused", "503 Service Unavailable\r\nContent-Length: 0", 0, b"", False)):
+            with tempfile.TemporaryDirectory() as folder, socket.create_server(("127.0.0.1", 0)) as listener:
+                path = os.path.join(folder, "history.txt")
+                write(path, "old")
+                giver = threading.Thread(target=give_history, args=(listener, head, parts, ends), daemon=True)
+                giver.start()
+                ran = subprocess.run([sys.executable, "-c", SAVES, str(listener.getsockname()[1]), path],
+                                     env={**os.environ, "PYTHONPATH": os.path.join(ROOT, "tools")},
+                                     stderr=subprocess.PIPE, text=True, timeout=120)
+                giver.join(10)
+                self.check(f"{name}: it ends", (ran.returncode == 0) is is_whole, shown=ran.stderr[-300:])
+                self.check(f"{name}: the file", content(path) == (HISTORY * parts if is_whole else "old"))
+                self.check(f"{name}: nothing is beside it", os.listdir(folder), ["history.txt"])

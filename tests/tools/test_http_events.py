@@ -330,6 +330,10 @@ class HttpEvents(Case):
                 count = up.count(told) + (wanted != b"200")
                 self.check(name, raw(url, data).split(b" ")[1:2], [wanted])
                 self.check("a line says why", until(lambda: up.count(told) == count, 5))
+            late = raw(url, b"POST / HTTP/1.1\r\nHost: evil.example\r\nContent-Length: 2\r\n\r\n{}"
+                            b"GET /behind HTTP/1.1\r\nHost: a\r\n\r\n")
+            self.check("what is refused by its head ends its connection", (
+                late.count(b"HTTP/1.1 "), b"\r\nconnection: close\r\n" in late.lower()), (1, True))
             two = raw(url, b"GET /one HTTP/1.1\r\nHost: a\r\n\r\n"
                            b"GET /two HTTP/1.1\r\nHost: a\r\nConnection: close\r\n\r\n")
             self.check("two requests at once are answered in turn", re.findall(rb'"rawPath": "([^"]*)"', two),

@@ -3,6 +3,7 @@
 The program is the one given, else LAMBDA_LOCAL_PROGRAM, else the one that was installed with the tools, else the one
 that the repository's ./lambda_local finds: none is proved or built for a tool. Free ports are the system's or, if
 LAMBDA_LOCAL_PORTS=FIRST-LAST is set, of that range."""
+import codecs
 import contextlib
 import http.client
 import json
@@ -16,18 +17,20 @@ import subprocess
 import tempfile
 import threading
 import time
-from typing import AnyStr, Callable, Collection, Dict, Iterator, List, Mapping, Optional, Tuple, Union
+from typing import AnyStr, Callable, Collection, Dict, Iterator, List, Mapping, Optional, TextIO, Tuple, Union
 
 from .configuration import Members, explained, says
 from .guard import GUARD
 from .history.comparison import compared
 from .history.script import Script
+from .outgoing import ESCAPED
 from .paths import LIMITS
 from .program import Fault as Fault, place_of_fault, program_path as program_path
 
 RUNTIME = "/2018-06-01/runtime/"
 AGAIN = "Lambda-Local-Again"  # a header: this has been sent before, so a storm spares it
 EXTENSION = "/2020-01-01/extension/"
+PIECE = 1 << 20  # bytes of a history that is saved, which are in memory at once
 TAKEN_SECONDS = 5.0  # for the status of a process that has ended
 NO_NETWORK = "network: failed"  # the program's line if it cannot listen on a port
 # Before the program's words: what a service begins with.
@@ -252,6 +255,22 @@ class Service:
 
     def history(self) -> str:
         return ask(self.port, "GET", "/_local/history", timeout=300)[2].decode()
+
+    def save_history(self, file: TextIO) -> None:
+        """Writes the history as it comes, a piece at a time. OSError or HTTPException if it does not come whole."""
+        connection = http.client.HTTPConnection("127.0.0.1", self.port, timeout=300)
+        try:
+            connection.request("GET", "/_local/history")
+            answer, decoder = connection.getresponse(), codecs.getincrementaldecoder("utf-8")(ESCAPED)
+            if answer.status != 200:
+                raise http.client.HTTPException(f"the service answers {answer.status}")
+            while piece := answer.read(PIECE):
+                file.write(decoder.decode(piece))
+            if answer.length:  # (http.client itself sees this of chunks alone)
+                raise http.client.IncompleteRead(b"", answer.length)
+            file.write(decoder.decode(b"", True))
+        finally:
+            connection.close()
 
     def stop(self, seconds: float = 20) -> Tuple[int, str]:
         """Stops it in order, or kills it after this many seconds. Returns its status, and the line with its counts."""

@@ -14,7 +14,7 @@ from .client import Client
 from .events import Identifiers, target_of
 from .formats import OfHttpApi, OfUrl, format_of, message
 from .http import NO_STAGE, PHRASES, Headers, Malformed, Reply, Request, TooLong, first
-from .origins import FOREIGN_CODING, Refusal, further_hosts, refusal_of
+from .origins import Refusal, further_hosts, refusal_of
 from .payload import Unmappable
 from .rest_payload import Tell
 from .routes import Routes
@@ -71,11 +71,11 @@ class Gateway:
         return reply
 
     def refuse(self, request: Request, refusal: Refusal) -> Reply:
-        """A page whose name leads to this machine could do here what it likes: so not each Host is served."""
+        """A page whose name leads to this machine could do here what it likes: so not each Host is served. What is
+        refused by its head ends its connection, whether or not its body has come: no request behind that is lost."""
         self.log("up", f"a request is answered {refusal.status}: {refusal.message}", level="error", kind="http")
         reply = message(refusal.status, refusal.message)
-        closes = [("Connection", "close")] if refusal is FOREIGN_CODING else []
-        return reply._replace(headers=[*reply.headers, *closes])
+        return reply._replace(headers=[*reply.headers, ("Connection", "close")])
 
     @staticmethod
     def malformed_reply(fault: Malformed, _request: Optional[Request]) -> Reply:

@@ -140,9 +140,8 @@ class Session(Parts):
         """Saves the history; whether it is there, whole."""
         path = self.options.history or SAVED
         try:
-            history = self.service.history()
             with written(path) as file:
-                file.write(history)
+                self.service.save_history(file)
         except OSError as fault:
             self.say(f"the history could not be saved: {path}: {fault.strerror or fault}", level="error")
             return False
