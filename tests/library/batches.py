@@ -4,7 +4,7 @@ says of a file tells which of them it has refused; what that does not tell is tr
 alone."""
 import os
 import re
-from typing import Callable, Dict, Iterable, Iterator, List, NamedTuple, Optional, Tuple
+from typing import Dict, Iterable, Iterator, List, NamedTuple, Optional, Tuple
 
 from tests.library import edits, trials
 from tests.library.trials import Trial
@@ -13,8 +13,6 @@ MOST = 8  # in one check
 # What the prover says of a function, and of a place in a source or in a proof.
 FUNCTION = re.compile(r"fn (\w+(?:::\w+)*): (.*)")
 PLACE = re.compile(r"(?:note: )?(?:\./)?(src|proofs)/([^\s:]+):\d+:\d+:")
-
-Text = Callable[[str], str]
 
 
 class Member(NamedTuple):
@@ -74,15 +72,18 @@ def tried(root: str, names: List[str], built: str, seconds: float) -> Iterator[T
         yield names[0], trials.trial(root, names[0], built, seconds)
         return
     crate, twins = names[0].split("/")[0], names[0].endswith(edits.TWIN)
+    wanted = "same" if twins else "new"
     members = [it for it in (member_of(root, name) for name in names) if it]
     texts: Dict[str, str] = {}
     try:
         for it in members:
-            texts.update(edits.edited(edits.path_of(root, it.name), f"{root}/crates/{crate}", "same" if twins else "new"))
+            texts.update(edits.edited(edits.path_of(root, it.name), f"{root}/crates/{crate}", wanted))
     except ValueError:  # one does not fit, which is told of it alone
         members = []
     functions = [path for it in members for path in trials.functions_of(root, it.name)]
-    made = trials.check(root, crate, functions, texts, built, seconds) if members else trials.Check(None, [], 0)
+    made = trials.Check(None, [], 0)
+    if members:
+        made = trials.check(root, crate, functions, texts, built, seconds)
     share = made.seconds / len(names)
     good = {it for it in names if made.status == 0} if twins else refused(crate, members, made.status, made.lines)
     yield from ((it, Trial("", share)) for it in names if it in good)
@@ -96,14 +97,16 @@ def tried(root: str, names: List[str], built: str, seconds: float) -> Iterator[T
 def refused(crate: str, members: List[Member], status: Optional[int], lines: List[str]) -> "set[str]":
     """Those of the members that a check of all has refused, each by what it said of the member's own file. If it says
     something of a file that is none of theirs, or did not come to its end, it tells of none."""
+    if status != 1:
+        return set()
     owned: Dict[str, List[str]] = {it.name: [] for it in members}
-    for line in lines if status == 1 else ():
+    for line in lines:
         owner = owner_of(line, crate, members)
         if owner:
             owned[owner.name].append(line)
         elif is_told_against(line):
             return set()
-    return {name for name, own in owned.items() if not trials.fault_of_edit(1, [*own, lines[-1]])} if status == 1 else set()
+    return {name for name, own in owned.items() if not trials.fault_of_edit(1, [*own, lines[-1]])}
 
 
 def owner_of(line: str, crate: str, members: List[Member]) -> Optional[Member]:
@@ -118,6 +121,6 @@ def owner_of(line: str, crate: str, members: List[Member]) -> Optional[Member]:
 
 
 def is_told_against(line: str) -> bool:
-    """Whether a line says that something is not as it should be: that a function is not proved, or a fault of a place."""
+    """Whether a line says that something is not as it should be: a function is not proved, or a place has a fault."""
     function = FUNCTION.match(line)
     return bool(function and function[2] != "proved" or not function and trials.TOLD.match(line))

@@ -12,8 +12,9 @@ from tests.library.trees import write
 
 SOURCES = {"a": "impl A {\n    fn f(&self) { one }\n\n    fn g(&self) {\n        two\n    }\n}\n",
            "b": "fn h() {\n    three\n}\n", "c": "fn k() {\n    h(); four\n}\n", "lib": "fn l() {\n    five\n}\n"}
-EDITS = {"in_a": "file: src/a.rt\nold: two\nnew: 2\nsame: ii\n", "in_b": "file: src/b.rt\nold: three\nnew: 3\nsame: iii\n",
-         "in_c": "file: src/c.rt\nold: four\nnew: 4\n", "of_all": "file: src/b.rt\nold: fn h\nnew: fn hh\n",
+EDITS = {"in_a": "file: src/a.rt\nold: two\nnew: 2\nsame: ii\n",
+         "in_b": "file: src/b.rt\nold: three\nnew: 3\nsame: iii\n",
+         "in_c": "file: src/c.rt\nold: four\nnew: 4\n",
          "in_lib": "file: src/lib.rt\nold: five\nnew: 5\n", "again_in_a": "file: src/a.rt\nold: two\nnew: 22\n",
          "elsewhere": "gate: a::A::f\nfile: src/b.rt\nold: three\nnew: 33\n"}
 ONE_REFUSED = ["fn x::a::A::g: no proof: expected answers in ./proofs/a/A/g/Answers.antt; `search` did not prove `r`",
@@ -37,18 +38,21 @@ class Batches(Case):
 
     def test_edits_of_different_files_are_tried_together(self) -> None:
         self.check("groups", batches.grouped(self.root, ["x/in_a", "x/in_b"]), [["x/in_a", "x/in_b"]])
-        for others, why in ((["x/in_a", "x/again_in_a"], "two of one file"), (["x/in_a", "x/in_lib"], "the crate's root"),
+        for others, why in ((["x/in_a", "x/again_in_a"], "two of one file"),
+                            (["x/in_a", "x/in_lib"], "the crate's root"),
                             (["x/in_b", "x/in_c"], "one whose function calls that of the other"),
                             (["x/in_a", "x/elsewhere"], "one that the gate tries on another function"),
                             (["x/in_a", "x/in_b same"], "an edit and a twin")):
             self.check(f"alone is {why}", batches.grouped(self.root, others), [[it] for it in others])
-        self.check("twins", batches.grouped(self.root, ["x/in_a same", "x/in_b same"]), [["x/in_a same", "x/in_b same"]])
+        twins = ["x/in_a same", "x/in_b same"]
+        self.check("twins", batches.grouped(self.root, twins), [twins])
 
     def test_a_group_is_full_at_some_size(self) -> None:
         names = []
         for number in range(2 * batches.MOST + 1):
             write(f"{self.root}/crates/x/src/n{number}.rt", f"fn n{number}() {{\n    old\n}}\n".encode())
-            write(f"{self.root}/tests/must_fail/x/n{number}.edit", f"file: src/n{number}.rt\nold: old\nnew: n\n".encode())
+            edit = f"file: src/n{number}.rt\nold: old\nnew: n\n"
+            write(f"{self.root}/tests/must_fail/x/n{number}.edit", edit.encode())
             names.append(f"x/n{number}")
         self.check("sizes", [len(it) for it in batches.grouped(self.root, names)], [batches.MOST, batches.MOST, 1])
 
@@ -90,7 +94,8 @@ class Batches(Case):
     def test_an_edit_that_does_not_fit_is_told_alone(self) -> None:
         write(f"{self.root}/crates/x/src/b.rt", b"fn h() {\n    three three\n}\n")
         seen = self.tried(["x/in_a", "x/in_b"], [ONE_REFUSED[0], "only=1 proved=0"])
-        self.check("faults", {name: fault[:15] for name, fault in seen.items()}, {"x/in_a": "", "x/in_b": "it does not fit"})
+        self.check("faults", {name: fault[:15] for name, fault in seen.items()},
+                   {"x/in_a": "", "x/in_b": "it does not fit"})
 
     def test_twins_are_proved_together(self) -> None:
         both = ["x/in_a same", "x/in_b same"]
