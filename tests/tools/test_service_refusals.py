@@ -21,8 +21,8 @@ TOLD: Tuple[Tuple[bool, str, str], ...] = (
     (True, f"GET {RUNTIME}invocation/nxt?a=%20b HTTP/1.1\r\n{LOCAL}\r\n",
      f"404 GET {RUNTIME}invocation/nxt?a=%20b at port PORT: {NO_ROUTE}"),
     (True, f"POST {RUNTIME}invocation/next HTTP/1.1\r\n{LOCAL}\r\n",
-     f"405 POST {RUNTIME}invocation/next at port PORT: this route does not have this method; the response's Allow lists "
-     "those that it has"),
+     f"405 POST {RUNTIME}invocation/next at port PORT: this route does not have this method; the response's Allow "
+     "lists those that it has"),
     (True, f"POST {RUNTIME}invocation/7/response HTTP/1.1\r\n{LOCAL}\r\n",
      f"400 POST {RUNTIME}invocation/7/response at port PORT, "
      '{"errorMessage":"Not the open invocation","errorType":"InvalidRequestID"}: ' + NEEDS),
@@ -104,24 +104,25 @@ class ServiceRefusals(Case):
             service.kill()
 
     def test_a_stop_lets_a_paused_clock_go_on(self) -> None:
-        """An environment that does not end has its two seconds, whether the clock was paused or not."""
-        service = Service(CONFIGURATION)
+        """An extension that registered for SHUTDOWN and does not end has two seconds, of a clock that was paused."""
+        service = Service({**CONFIGURATION, "functions": [{"name": "f", "ports": [0], "extensions": ["e"]}]})
         try:
             port = service.configuration["functions"][0]["ports"][0]
-            runtime = threading.Thread(target=ask, args=(port, "GET", RUNTIME + "invocation/next"),
-                                       kwargs={"timeout": PATIENCE})
-            runtime.start()
-            while service.stats()["entries"] < 1:
-                time.sleep(0.01)
-            caller = threading.Thread(target=ask, args=(service.port, "POST", "/2015-03-31/functions/f/invocations", b"{}"),
-                                      kwargs={"timeout": PATIENCE})
-            caller.start()
-            runtime.join(PATIENCE)
+            headers = ask(port, "POST", "/2020-01-01/extension/register", b'{"events":["SHUTDOWN"]}',
+                          {"Lambda-Extension-Name": "e"})[1]
+            known = {"Lambda-Extension-Identifier": headers["lambda-extension-identifier"]}
+            polls = [threading.Thread(target=ask, args=(port, "GET", path, None, own), kwargs={"timeout": PATIENCE})
+                     for path, own in ((RUNTIME + "invocation/next", {}), ("/2020-01-01/extension/event/next", known))]
+            for number, poll in enumerate(polls):
+                poll.start()
+                while service.stats()["entries"] < number + 2:
+                    time.sleep(0.01)
             ask(service.port, "POST", "/_local/clock/pause")
             begun = time.monotonic()
             ask(service.port, "POST", "/_local/stop")
-            status = wait_for(service.process, PATIENCE)
-            self.check("a stop in a pause ends the service", (status, time.monotonic() - begun < PATIENCE / 2), (0, True))
-            caller.join(PATIENCE)
+            status, seconds = wait_for(service.process, PATIENCE), time.monotonic() - begun
+            self.check("a stop in a pause ends the service", (status, 1.5 < seconds < PATIENCE / 2), (0, True))
+            for poll in polls:
+                poll.join(PATIENCE)
         finally:
             service.kill()

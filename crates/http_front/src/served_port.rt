@@ -39,12 +39,7 @@ impl<S: Identity> Model for ServedPort<S> {
 
 impl<S: Identity> ServedPort<S> {
     /// Returns a port of this configuration, with this number and this salt.
-    pub(crate) fn new(
-        port: Port,
-        number: u16,
-        config: Arc<Checked>,
-        salt: u64,
-    ) -> ServedPort<S>
+    pub(crate) fn new(port: Port, number: u16, config: Arc<Checked>, salt: u64) -> ServedPort<S>
         requires configured { arc_value config ≡ S.config }
         requires salted { salt ≡ S.salt }
         requires port { IsPortOf (arc_value config) port }

@@ -217,10 +217,12 @@ impl<R: Machine, S: Identity + Drop, N: Clock + Drop, K: Keep> Worker<R, S, N, K
         };
         let (port, number) = (job.served.port(), job.served.number());
         let ended = self.serve_socket(tools, job, &open);
-        if let Ok(Ended {
-            outcome: Ok(Some(Err(fault))),
-            ..
-        }) = &ended
+        if let Ok(
+            Ended {
+                outcome: Ok(Some(Err(fault))),
+                ..
+            },
+        ) = &ended
             && fault.is_parse()
         {
             self.note_not_http(port, number);

@@ -48,7 +48,8 @@ fn advice_on(kind: Kind) -> &'static str {
             "the body is longer than 6291456 bytes; send an error to the route /error instead"
         }
         (Cause::TooLong, false) => "the payload is longer than 6291456 bytes; send a shorter one",
-        (Cause::MalformedHost, _) => "the request names its host twice, or the name is not one; send one Host",
+        (Cause::MalformedHost, _) =>
+            "the request names its host twice, or the name is not one; send one Host",
         (Cause::FromPage, _) => "web pages may not call this service; call it from a program",
         (Cause::ForeignHost, _) => {
             "the host is neither local nor listed; list its name in LAMBDA_LOCAL_HOSTS if it is yours"

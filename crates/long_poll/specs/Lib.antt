@@ -29,5 +29,6 @@ pub mod Pending
 -- The order of the callers whose calls are held back.
 pub mod Queues
 -- What is counted of the requests that are rejected.
+pub mod Causes
 pub mod Boards
 pub mod Ringing

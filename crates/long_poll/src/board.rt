@@ -84,12 +84,14 @@ impl Board {
             ++ record { kind = kind; told = 0; waiting = 1; first = first } ∷ []) }
         ensures same { IfErr result (λ _. self.new.rows.items ≡ self.old.rows.items) }
     {
-        Ok(self.rows.push(Row {
-            kind,
-            told: 0,
-            waiting: 1,
-            first,
-        })?)
+        Ok(
+            self.rows.push(Row {
+                kind,
+                told: 0,
+                waiting: 1,
+                first,
+            })?,
+        )
     }
 
     /// Takes what is to be told of a kind.

@@ -1,5 +1,8 @@
 //! A request that is rejected before it is a call, for those who are told of it.
 
+ghost use Rattle.std.specs.Prelude.{◌≡◌};
+ghost use Rattle.long_poll.specs.Causes.{cause_of_status};
+
 /// Why a request is rejected.
 #[derive(Clone, Copy, Debug, PartialEq, Eq)]
 pub enum Cause {
@@ -30,7 +33,9 @@ pub enum Cause {
 impl Cause {
     /// Returns why a request is rejected whose response has this status, `None` if that is none of the statuses of
     /// rejected requests.
-    pub(crate) fn of_status(status: u16) -> Option<Cause> {
+    pub(crate) fn of_status(status: u16) -> Option<Cause>
+        ensures { result ≡ cause_of_status status }
+    {
         match status {
             400 => Some(Cause::Malformed),
             403 => Some(Cause::Unregistered),

@@ -1,7 +1,5 @@
 //! The requests that are rejected, as the connections of a service count them for its log.
 
-ghost use Rattle.std.specs.Prelude.{◌≡◌};
-
 use crate::Alarm;
 use crate::board::Board;
 use crate::rejection::{Kind, Told};
