@@ -1,5 +1,5 @@
-"""The files of tests about the tools and the suite, by the names that tests/tools/run, tests/lies and its table have for
-them."""
+"""The files of tests about the tools and the suite, by the names that tests/tools/run, tests/lies and its table have
+for them."""
 import glob
 import os
 from typing import Dict
