@@ -62,3 +62,7 @@ asks_for_account p = passes_or false (lists (codes "accountId")) (header (codes 
 abbrev pub is_synchronous : Parts → Bool
 is_synchronous p =
     passes_or true (λ kind. bytes_eq kind (codes "RequestResponse")) (header (codes "x-amz-invocation-type") p)
+
+-- Whether the caller asks for the tail of the log (Lambda API, Invoke: LogType).
+abbrev pub asks_for_tail : Parts → Bool
+asks_for_tail p = passes_or false (λ kind. bytes_eq kind (codes "Tail")) (header (codes "x-amz-log-type") p)

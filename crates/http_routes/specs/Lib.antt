@@ -2,6 +2,8 @@
 pub mod Decisions
 pub mod AccountDecisions
 pub mod EnvironmentDecisions
+-- Which requests may be handed over to a handler.
+pub mod Handing
 -- The routes, and what a request names: a path's parts, a function, identifiers, headers.
 pub mod Methods
 pub mod Routes

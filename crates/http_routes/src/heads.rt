@@ -194,3 +194,13 @@ pub(crate) fn is_synchronous(parts: &Parts) -> bool
         None => true,
     }
 }
+
+/// Returns whether the caller asks for the tail of the log (Lambda API, Invoke: LogType).
+pub(crate) fn asks_for_tail(parts: &Parts) -> bool
+    ensures { result ≡ spec.asks_for_tail parts.now }
+{
+    match header(parts, "x-amz-log-type") {
+        Some(kind) => kind == b"Tail".as_slice(),
+        None => false,
+    }
+}

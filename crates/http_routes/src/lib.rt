@@ -3,6 +3,7 @@
 
 mod account_port;
 mod environment_port;
+mod handing;
 mod heads;
 mod identifiers;
 pub mod laws;

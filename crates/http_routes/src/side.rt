@@ -4,11 +4,13 @@ ghost use Rattle.std.specs.Prelude.{◌≡◌, ◌<◌, ℕ, List, length, IfOk}
 ghost use Rattle.std.specs.Arc.{arc_value};
 ghost use Rattle.arn_ids.specs.Limits.{longest_body};
 ghost use Rattle.http_routes.specs.Decisions.{IsPortOf, decision};
+ghost use Rattle.http_routes.specs.Handing.{hands_over, is_own};
 ghost use Rattle.http_routes.specs.Sides.{AreRoutesOf};
 ghost use Rattle.decisions.specs.Decisions.{IsAllowed};
 
 use crate::account_port::account_decision;
 use crate::environment_port::environment_decision;
+use crate::handing::{account_hands_over, is_of_handler};
 use crate::routes::{AccountRoute, EnvironmentRoute, account_routes, environment_routes};
 use arn_ids::{Checked, EnvNo};
 use decisions::{Decide, Decision, Received};
@@ -119,6 +121,31 @@ impl Side {
                 parts,
                 body,
             ),
+        }
+    }
+
+    /// Returns whether a request with this head may be handed over to a handler, as long as there is one: what no
+    /// route has; and an Invoke of a function or version that is not configured, of another type than
+    /// `RequestResponse`, or one that asks for the tail of the log.
+    ///
+    /// # Errors
+    /// If an allocation fails.
+    pub fn hands_over(&self, alloc: Global, parts: &Parts) -> Result<bool, AllocError>
+        ensures { IfOk result (λ may. may ≡ hands_over self.now parts.now) }
+    {
+        match &self.routes {
+            Routes::Account(router) => account_hands_over(alloc, router, &self.config, parts),
+            Routes::Environment(..) => Ok(false),
+        }
+    }
+
+    /// Returns whether a request with this head is a handler's own, by which it gets a request or answers one.
+    pub fn is_own(&self, parts: &Parts) -> bool
+        ensures { result ≡ is_own self.now parts.now }
+    {
+        match &self.routes {
+            Routes::Account(_) => is_of_handler(parts.uri.path()),
+            Routes::Environment(..) => false,
         }
     }
 }

@@ -5,6 +5,7 @@
 #![tactic(auto)]
 
 mod accounts;
+mod desks;
 mod exchanges;
 mod ledgers;
 mod lines;
@@ -52,17 +53,19 @@ where
 #[derive(Clone, Copy)]
 enum Table {
     Accounts,
+    Desks,
     Ledgers,
     Exchanges,
 }
 
 /// The files.
-const TABLES: [(&str, Table); 10] = [
+const TABLES: [(&str, Table); 11] = [
     ("accounts/openings.txt", Table::Accounts),
     ("accounts/environments.txt", Table::Accounts),
     ("accounts/bells.txt", Table::Accounts),
     ("accounts/settlements.txt", Table::Accounts),
     ("accounts/threads.txt", Table::Accounts),
+    ("accounts/desks.txt", Table::Desks),
     ("ledgers/tallies.txt", Table::Ledgers),
     ("exchanges/calls.txt", Table::Exchanges),
     ("exchanges/polls.txt", Table::Exchanges),
@@ -74,6 +77,7 @@ const TABLES: [(&str, Table); 10] = [
 fn tell<R: Runner>(rt: R, table: Table, case: &Case, given: &mut Given) -> Result<(), CaseFault> {
     let told = match table {
         Table::Accounts => accounts::give(rt, case, given),
+        Table::Desks => desks::give(rt, case, given),
         Table::Ledgers => ledgers::give(case, given),
         Table::Exchanges => exchanges::give(rt, case, given),
     };

@@ -33,7 +33,7 @@ enum Table {
 
 /// The files. Those whose shortest case is long come last: a test that lets each allocation fail in
 /// turn reaches them least often.
-const TABLES: [(&str, Table); 44] = [
+const TABLES: [(&str, Table); 45] = [
     ("parts/names.txt", Table::Parts(parts::Table::Names)),
     (
         "parts/identifiers.txt",
@@ -90,6 +90,7 @@ const TABLES: [(&str, Table); 44] = [
     ("routes/runtimes.txt", Table::Routes),
     ("routes/extensions.txt", Table::Routes),
     ("routes/registrations.txt", Table::Routes),
+    ("routes/handed.txt", Table::Routes),
     ("scripts/calls.txt", Table::Scripts(scripts::Table::Scripts)),
     (
         "scripts/extensions.txt",

@@ -1,11 +1,13 @@
 //! Requests: the port that each arrives on, and the decision about it.
 
 mod decided;
+mod handing;
 mod methods;
 mod port;
 mod request;
 
 use crate::routes::decided::push_decided;
+use crate::routes::handing::push_handing;
 use crate::routes::methods::push_methods;
 use crate::routes::port::{PortOfCase, port_of_case};
 use crate::routes::request::{read_body, read_head};
@@ -52,6 +54,10 @@ fn push_part(
             push_request(port, part, others, given)?;
             Ok(true)
         }
+        "handing" => {
+            push_handing(port, part, given)?;
+            Ok(false)
+        }
         "methods" => {
             push_methods(port, part, given)?;
             Ok(false)
@@ -89,6 +95,7 @@ fn cut_part<'c>(
 /// | `port account`, `port environment E` | the port, the second part of a case |
 /// | `request` | a request, which gives a line |
 /// | `body`, `bytes`, `times` | further bytes of the body of the request before it |
+/// | `handing` | the head of a request, which gives a line: whether it may be handed over, or is a handler's own |
 /// | `methods M M ..` | a target a line, each of which gives a word for each of these methods |
 pub fn give(case: &Case, given: &mut Given) -> Result<(), CaseFault> {
     let (config, parts) = cut_part(case.parts(), "config")?;

@@ -1,0 +1,13 @@
+//! The requests that wait for a handler, behind a lock, and what handlers and requesters tell each other.
+#![tactic(auto)]
+
+mod asked;
+mod desk;
+mod posted;
+mod state;
+
+pub use asked::{Asked, read_asked};
+pub use desk::{Desk, Taken};
+pub use handover::{AnswerFault, NotTaken, Request};
+pub use posted::{Given, Posted};
+pub use state::{NotPut, Put};

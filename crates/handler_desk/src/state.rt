@@ -1,0 +1,252 @@
+//! The requests that wait for a handler, those that handlers have taken, and whether a handler is here.
+
+ghost use Rattle.std.specs.Prelude.{◌≡◌, true, false, IfOk, OnOk, IfErr, OnErr, MatchResult, None, Some};
+ghost use Rattle.handover.specs.Counters.{opened, first_of, with_request, taken_by, answered, without_handler};
+ghost use Rattle.handover.specs.Stages.{stage, denial};
+ghost use Rattle.handover.specs.Presence.{with_handler, ended_at, is_attended};
+ghost use Rattle.handler_desk.specs.States.{limits, grace};
+ghost use Rattle.handler_desk.specs.declared.state.NotPut.TheVariants.{OutOfMemory};
+
+use crate::posted::Given;
+use futures::channel::oneshot::{Receiver, Sender, channel};
+use handover::{Attendance, Limits, NotTaken, PutFault, Request, Requests};
+use std::alloc::{AllocError, Global};
+use std::collections::BTreeMap;
+use std::mem;
+
+/// How many requests may wait for a handler, and how many bytes they may have together.
+const LIMITS: Limits = Limits {
+    most: 1_024,
+    most_bytes: 67_108_864,
+};
+
+/// How many milliseconds another handler is waited for after the last one has ended.
+const GRACE_MS: u64 = 5_000;
+
+/// Where what is given for a request is sent, and the handler that has taken it, if one has.
+#[derive(Drop)]
+pub(crate) struct Seat {
+    sender: Sender<Given>,
+    handler: Option<u64>,
+}
+
+/// Why a request does not wait for a handler.
+#[derive(Clone, Copy, Debug, PartialEq, Eq)]
+pub enum NotPut {
+    /// No handler is here, nor was one a moment ago; or the service is over.
+    NoHandler,
+    /// As many requests wait as may, or their bytes and its own are more than may wait.
+    TooMany,
+    /// An allocation failed.
+    OutOfMemory,
+}
+
+impl From<AllocError> for NotPut {
+    ghost from_gives = { λ _ e. e ≡ OutOfMemory };
+
+    fn from(_e: AllocError) -> NotPut {
+        NotPut::OutOfMemory
+    }
+}
+
+/// A request that waits for a handler: its identifier, and what will be given for it. That is never, if the sender is
+/// dropped: once its handler has ended, or no handler comes back.
+#[derive(Drop)]
+pub struct Put {
+    /// The identifier.
+    pub id: u64,
+    /// What will be given.
+    pub given: Receiver<Given>,
+}
+
+/// What is kept behind the lock.
+#[derive(Drop)]
+pub(crate) struct State {
+    alloc: Global,
+    requests: Requests,
+    attendance: Attendance,
+    // Of each request that waits or is at a handler.
+    seats: BTreeMap<u64, Seat>,
+    // Of the handlers that wait for a request.
+    bells: Vec<Sender<()>>,
+    is_over: bool,
+}
+
+/// Returns why a request does not wait, by the fault of the counter.
+fn not_put(fault: PutFault) -> NotPut {
+    match fault {
+        PutFault::TooMany | PutFault::TooManyBytes | PutFault::NoIdentifier => NotPut::TooMany,
+        PutFault::OutOfMemory => NotPut::OutOfMemory,
+    }
+}
+
+impl State {
+    /// Returns the state in which no request has come, and no handler has asked. It allocates nothing.
+    pub(crate) fn new(alloc: Global) -> State
+        ensures { result.requests ≡ opened limits }
+    {
+        State {
+            alloc,
+            requests: Requests::new(alloc, LIMITS),
+            attendance: Attendance::new(alloc, GRACE_MS),
+            seats: BTreeMap::new(alloc),
+            bells: Vec::new(alloc),
+            is_over: false,
+        }
+    }
+
+    /// Returns whether requests are handed over at this moment.
+    pub(crate) fn is_attended(&self, now: u64) -> bool
+        ensures { result ≡ true → is_attended now self.now.attendance ≡ true }
+    {
+        !self.is_over && self.attendance.is_attended(now)
+    }
+
+    /// Returns whether the service is over.
+    pub(crate) fn is_over(&self) -> bool
+        ensures { result ≡ self.now.is_over }
+    {
+        self.is_over
+    }
+
+    /// Lets a request wait at this moment, if a handler is here.
+    ///
+    /// # Errors
+    /// If none is, if too many wait, or if memory is refused. No further request waits then.
+    pub(crate) fn put(&mut self, now: u64, request: Request) -> Result<Put, NotPut>
+        ensures attended { OnOk result (is_attended now self.old.attendance ≡ true) }
+        ensures id { IfOk result (λ put. put.id ≡ self.old.requests.next_id) }
+        ensures waits { OnOk result (self.new.requests ≡ with_request request self.old.requests) }
+    {
+        if !self.is_attended(now) {
+            return Err(NotPut::NoHandler);
+        }
+        let (sender, given) = channel(self.alloc)?;
+        let seat = Seat {
+            sender,
+            handler: None,
+        };
+        let id = match self.requests.put(request) {
+            Ok(id) => id,
+            Err(fault) => return Err(not_put(fault)),
+        };
+        match self.seats.insert(id, seat) {
+            Ok(_) => Ok(Put { id, given }),
+            Err(_refused) => {
+                let _ = self.requests.requester_ended(id);
+                Err(NotPut::OutOfMemory)
+            }
+        }
+    }
+
+    /// Notes that a handler asks for a request.
+    ///
+    /// # Errors
+    /// If memory is refused. It is then as if it had not asked.
+    pub(crate) fn asks(&mut self, handler: u64) -> Result<(), AllocError>
+        ensures here { OnOk result (self.new.attendance ≡ with_handler handler self.old.attendance) }
+        ensures same { OnErr result (self.new.attendance ≡ self.old.attendance) }
+        ensures requests { self.new.requests ≡ self.old.requests }
+    {
+        self.attendance.asked(handler)
+    }
+
+    /// Hands the first request that waits to a handler, with its identifier. Returns `None` if none waits.
+    ///
+    /// # Errors
+    /// If memory is refused. The request then still waits.
+    pub(crate) fn take(&mut self, handler: u64) -> Result<Option<(u64, Request)>, AllocError>
+        ensures first { IfOk result (λ taken. taken ≡ first_of self.old.requests.waiting) }
+        ensures state { OnOk result (self.new.requests ≡ taken_by handler self.old.requests) }
+        ensures same { OnErr result (self.new.requests ≡ self.old.requests) }
+    {
+        let taken = self.requests.take(handler)?;
+        if let Some((id, _)) = &taken
+            && let Some(seat) = self.seats.get_mut(id)
+        {
+            seat.handler = Some(handler);
+        }
+        Ok(taken)
+    }
+
+    /// Returns whether no one waits for what is given for a request.
+    pub(crate) fn is_forsaken(&self, id: u64) -> bool {
+        match self.seats.get(&id) {
+            Some(seat) => seat.sender.is_canceled(),
+            None => true,
+        }
+    }
+
+    /// Removes a request for whose answer no one waits.
+    pub(crate) fn withdraw(&mut self, id: u64) {
+        let _ = self.requests.requester_ended(id);
+        let _ = self.seats.remove(&id);
+    }
+
+    /// Lets a handler give something for a request, which is over then. Returns where it is sent.
+    ///
+    /// # Errors
+    /// If the handler has not taken it, or it is over. All is then as it was.
+    pub(crate) fn answer(
+        &mut self,
+        id: u64,
+        handler: u64,
+    ) -> Result<Option<Sender<Given>>, NotTaken>
+        ensures fault { MatchResult result (λ _. denial handler (stage id self.old.requests) ≡ None)
+            (λ e. denial handler (stage id self.old.requests) ≡ Some e) }
+        ensures state { OnOk result (self.new.requests ≡ answered id self.old.requests) }
+        ensures same { OnErr result (self.new.requests ≡ self.old.requests) }
+    {
+        if let Err(fault) = self.requests.answer(id, handler) {
+            return Err(fault);
+        }
+        match self.seats.remove(&id) {
+            Some(seat) => Ok(Some(seat.sender)),
+            None => Ok(None),
+        }
+    }
+
+    /// Notes that a handler has ended at this moment: the requests that it had taken have failed.
+    pub(crate) fn ended(&mut self, handler: u64, now: u64)
+        ensures { self.new.attendance ≡ ended_at handler now self.old.attendance }
+    {
+        self.attendance.ended(handler, now);
+        self.seats.retain(|_, seat| seat.handler != Some(handler));
+        let _ = self.requests.handler_ended(self.alloc, handler);
+    }
+
+    /// Gives up all requests that wait.
+    pub(crate) fn give_up(&mut self) {
+        for _ in 0..LIMITS.most {
+            match self.requests.give_up() {
+                Some((id, _)) => {
+                    let _ = self.seats.remove(&id);
+                }
+                None => return,
+            }
+        }
+    }
+
+    /// Notes that the service is over: no request waits, and what handlers have taken has failed.
+    pub(crate) fn end(&mut self) {
+        self.is_over = true;
+        self.give_up();
+        self.seats.retain(|_, _| false);
+    }
+
+    /// Returns a future that is ready after the next request has come. The bells of handlers that are gone are dropped.
+    ///
+    /// # Errors
+    /// If an allocation fails.
+    pub(crate) fn listen(&mut self) -> Result<Receiver<()>, AllocError> {
+        let (bell, heard) = channel(self.alloc)?;
+        self.bells.retain(|bell| !bell.is_canceled());
+        self.bells.push(bell).map_err(AllocError::from)?;
+        Ok(heard)
+    }
+
+    /// Takes out the bells of all handlers that wait.
+    pub(crate) fn take_bells(&mut self) -> Vec<Sender<()>> {
+        mem::replace(&mut self.bells, Vec::new(self.alloc))
+    }
+}
