@@ -14,6 +14,7 @@ GENERIC = re.compile(r"<(?:[^<>]|->)*>")
 CLAUSE = re.compile(r"^\s*(ensures|requires|ghost|×)")
 ROUTE = re.compile(r"^(?!\s*(?://|ensures|requires|ghost)).*\"/_local/", re.M)
 ROUTES = "crates/http_routes/src/routes.rt"
+OF_HANDLERS = "crates/handler_desk/src/asked.rt"  # the paths of handlers' own requests, which no route has
 VIEWS = "crates/long_poll/src/views.rt"
 SAID_VERSION = re.compile(r'^pub const VERSION: &str = "([^"]*)";$', re.M)
 NO_CLAUSE = os.path.join("tests", "library", "no_clause.noted")
@@ -70,7 +71,7 @@ def functions(root: str, *crates: str) -> Iterator[Function]:
 def routes(root: str) -> Iterator[str]:
     """Places beside the table of routes that have the path of one."""
     for _, path, text in sources(root):
-        if path != ROUTES and ROUTE.search(text):
+        if path not in (ROUTES, OF_HANDLERS) and ROUTE.search(text):
             yield f"{path} has a route's path, which stands in {ROUTES} alone"
 
 

@@ -1,5 +1,5 @@
 -- What a handler asks for, by the head of its request.
-use Rattle.std.specs.Prelude.{◌≡◌, ℕ, true, ◌==◌, ◌+◌, if◌then◌else◌, List, length, take, drop, position, codes, bytes_eq}
+use Rattle.std.specs.Prelude.{◌≡◌, ℕ, Bool, true, ◌==◌, ◌+◌, if◌then◌else◌, List, length, take, drop, position, codes, bytes_eq}
 use Rattle.std.specs.Prelude.{Option, Some, None, is_some, IfSome}
 use Rattle.std.specs.Borrow.{Bor}
 use Rattle.http.specs.Uri.{uri_path}
@@ -12,6 +12,10 @@ use Rattle.handler_desk.specs.declared.asked.Asked.TheVariants.{Next, Response, 
 -- The front of the paths of a handler's own requests.
 abbrev pub front : List ℕ
 front = codes "/_local/requests/"
+
+-- Whether a path is one of a handler's own requests.
+abbrev pub is_of_handler : List ℕ → Bool
+is_of_handler path = bytes_eq front (take (length front) path)
 
 -- A text is cut at the place of its slash, if it has one.
 abbrev pub IsCut : Option ℕ → List ℕ → Option (Bor (List ℕ) × Bor (List ℕ)) → Type 0

@@ -10,6 +10,13 @@ use http::request::Parts;
 /// The front of the paths of a handler's own requests.
 const FRONT: &str = "/_local/requests/";
 
+/// Returns whether a path is one of a handler's own requests. (Nearly every other path differs within its first bytes.)
+pub fn is_of_handler(path: &str) -> bool
+    ensures { result ≡ spec.is_of_handler path.now }
+{
+    path.as_bytes().starts_with(FRONT.as_bytes())
+}
+
 /// What a handler asks for.
 #[derive(Clone, Copy, Debug, PartialEq, Eq)]
 pub enum Asked {

@@ -6,7 +6,7 @@ mod desk;
 mod posted;
 mod state;
 
-pub use asked::{Asked, read_asked};
+pub use asked::{Asked, is_of_handler, read_asked};
 pub use desk::{Desk, Taken};
 pub use handover::{AnswerFault, NotTaken, Request};
 pub use posted::{Given, Posted};

@@ -1,6 +1,6 @@
 -- Which requests may be handed over to a handler, by their heads alone.
-use Rattle.std.specs.Prelude.{ℕ, Bool, true, false, ◌&&◌, ◌||◌, not, List, codes, bytes_eq, Option, Some, None}
-use Rattle.std.specs.Prelude.{◌==◌, take, length}
+use Rattle.std.specs.Prelude.{Bool, true, false, ◌&&◌, ◌||◌, not, Option, Some, None}
+use Rattle.handler_desk.specs.Asked.{is_of_handler}
 use Rattle.http.specs.Uri.{uri_path}
 use Rattle.http.specs.declared.request.Parts.{Parts}
 use Rattle.arn_ids.specs.declared.config.Config.{Config}
@@ -16,14 +16,6 @@ use Rattle.http_routes.specs.declared.routes.AccountRoute.{AccountRoute}
 use Rattle.http_routes.specs.declared.routes.AccountRoute.TheVariants as account
 use Rattle.service_port.specs.declared.port.Port.{Port}
 use Rattle.service_port.specs.declared.port.Port.TheVariants.{Account, Environment}
-
--- The front of the paths of the requests by which a handler gets and answers others.
-abbrev pub front : List ℕ
-front = codes "/_local/requests/"
-
--- Whether a path is one of a handler's own requests.
-abbrev pub is_of_handler : List ℕ → Bool
-is_of_handler path = bytes_eq front (take (length front) path)
 
 -- Whether an Invoke of this target is one that the account's port does not answer with an invocation, though its name is
 -- well formed: that of a function or a version that the configuration does not know; or one whose caller does not wait

@@ -9,19 +9,10 @@ use crate::heads::{asks_for_tail, is_synchronous};
 use crate::names::{Target, invoked};
 use crate::routes::{AccountRoute, account_route};
 use arn_ids::Checked;
+use handler_desk::is_of_handler;
 use http::request::Parts;
 use matchit::Router;
 use std::alloc::{AllocError, Global};
-
-/// The front of the paths of a handler's own requests.
-const FRONT: &str = "/_local/requests/";
-
-/// Returns whether a path is one of a handler's own requests. (Nearly every other path differs within its first bytes.)
-pub(crate) fn is_of_handler(path: &str) -> bool
-    ensures { result ≡ spec.is_of_handler path.now }
-{
-    path.as_bytes().starts_with(FRONT.as_bytes())
-}
 
 /// Returns whether an Invoke is one that may be handed over.
 fn hands_over_invoke(alloc: Global, config: &Checked, parts: &Parts) -> Result<bool, AllocError>

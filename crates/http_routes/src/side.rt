@@ -10,10 +10,11 @@ ghost use Rattle.decisions.specs.Decisions.{IsAllowed};
 
 use crate::account_port::account_decision;
 use crate::environment_port::environment_decision;
-use crate::handing::{account_hands_over, is_of_handler};
+use crate::handing::account_hands_over;
 use crate::routes::{AccountRoute, EnvironmentRoute, account_routes, environment_routes};
 use arn_ids::{Checked, EnvNo};
 use decisions::{Decide, Decision, Received};
+use handler_desk::is_of_handler;
 use http::request::Parts;
 use lambda_wire::PayloadScratch;
 use matchit::Router;
