@@ -87,8 +87,8 @@ class CIFiles(Case):
             self.check("the job's Python has the plugin", "fresh" in found[1], shown=found)
             for command in commands_of(text):
                 self.step("github.yml", command, work, later)
-            self.check("nothing is left in the folder", sorted(set(os.listdir(work)) - {"__pycache__"}),
-                       ["app.py", "test_app.py", "up.json"])
+            self.check("nothing is left in the folder but what pytest keeps", sorted(
+                set(os.listdir(work)) - {"__pycache__", ".pytest_cache"}), ["app.py", "test_app.py", "up.json"])
 
     def test_the_job_of_GitLab_passes(self) -> None:
         with job() as (clone, work, variables):
