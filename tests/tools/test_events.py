@@ -377,7 +377,7 @@ class Events(Case):
                                                                                               "identity"),
                  "apigateway_2.0": ("requestContext", "http")}
         folder = os.path.join(ROOT, "examples", "events")
-        self.check("the samples", sorted(os.listdir(folder)), sorted(f"{name}.json" for name in known))
+        self.check("the samples are there", {f"{name}.json" for name in known} - {*os.listdir(folder)}, set())
         with self.running() as (up, _):
             for name, path in known.items():
                 done = subprocess.run([os.path.join(ROOT, "examples", "invoke.sh"), "f", name,
