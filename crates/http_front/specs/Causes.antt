@@ -6,7 +6,7 @@ use Rattle.long_poll.specs.declared.rejection.Cause.{Cause}
 use Rattle.long_poll.specs.declared.rejection.Cause.TheVariants as cause
 
 -- A request that only lacked memory is not at fault.
-pub cause_of : Refusal → Option Cause
+abbrev pub cause_of : Refusal → Option Cause
 cause_of refusal.MalformedHost = Some cause.MalformedHost
 cause_of refusal.FromPage = Some cause.FromPage
 cause_of refusal.ForeignHost = Some cause.ForeignHost
