@@ -68,18 +68,18 @@ fn advice_on(kind: Kind) -> &'static str {
 
 /// Logs what is told of a kind: its first request in full, and how many came behind it.
 fn tell<R: Log>(rt: &R, told: Told) {
-    let status = status_of(told.kind.cause);
-    let port = port_of(told.kind);
-    let more = match told.first {
+    let Told { kind, first, count } = told;
+    let status = status_of(kind.cause);
+    let port = port_of(kind);
+    let advice = advice_on(kind);
+    let more = match first {
         Some(first) => {
-            let advice = advice_on(told.kind);
             info!(rt; "{status} {}: {advice}", first.as_str());
-            told.count.saturating_sub(1)
+            count.saturating_sub(1)
         }
-        None => told.count,
+        None => count,
     };
     if more > 0 {
-        let advice = advice_on(told.kind);
         info!(rt; "{status} at {port}: {more} more since; {advice}");
     }
 }
