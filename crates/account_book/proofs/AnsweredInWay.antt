@@ -15,9 +15,9 @@ use Rattle.concurrency_pool.specs.Numbers.{Numbers}
 use Rattle.concurrency_pool.specs.Pools.{usage_at}
 use Rattle.concurrency_pool.proofs.History as pool
 use Rattle.env_phase.specs.Taking.{has_answered}
-use Rattle.account_book.specs.declared.site.Site.{Site}
+use Rattle.fleet.specs.declared.site.Site.{Site}
 use Rattle.account_book.specs.Premature.{in_way, has_answered_in_way}
-use Rattle.account_book.specs.Taking.{site, sites}
+use Rattle.fleet.specs.Sites.{site, sites}
 
 -- an environment that has answered and stands in the way, by the pool
 abbrev pub answered_at : Numbers → Throttle → ℕ → Site → Bool

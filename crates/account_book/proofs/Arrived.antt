@@ -12,12 +12,13 @@ use Rattle.account_book.specs.Answering.{most_answers}
 use Rattle.account_book.specs.Arriving.{IsArriving}
 use Rattle.account_book.specs.Crew.{Crew}
 use Rattle.account_book.specs.Fleets.{no_site, site_at, moved, moves_at, put_all}
-use Rattle.account_book.specs.Reaches.{reach, homed}
-use Rattle.account_book.specs.Taking.{site, sites}
-use Rattle.account_book.specs.declared.fleet.Arrival.{Arrival}
-use Rattle.account_book.specs.declared.reach.Reach.{Reach}
-use Rattle.account_book.specs.declared.reach.Reach.TheVariants.{At}
-use Rattle.account_book.specs.declared.site.Site.{Site}
+use Rattle.fleet.specs.Reaches.{reach}
+use Rattle.account_book.specs.OwnAnswers.{homed}
+use Rattle.fleet.specs.Sites.{site, sites}
+use Rattle.account_book.specs.declared.crew.Arrival.{Arrival}
+use Rattle.fleet.specs.declared.reach.Reach.{Reach}
+use Rattle.fleet.specs.declared.reach.Reach.TheVariants.{At}
+use Rattle.fleet.specs.declared.site.Site.{Site}
 use Rattle.account_book.proofs.Concerned.{sites_at}
 use Rattle.account_book.proofs.EntryMoves.{homed_at}
 use Rattle.account_book.proofs.FleetMeets.{sites_length}

@@ -1,11 +1,11 @@
 -- What a journal keeps before any call.
-use Rattle.std.proofs.Common.{◌≡◌, ℕ, zero, suc, ◌+◌, ◌≤◌, [], ◌∷◌, ◌++◌, length, map, sym, ap, ap₂, ◌∙◌, arith, ◌<◌, None, All, get_or}
+use Rattle.std.proofs.Common.{◌≡◌, ℕ, zero, suc, ◌+◌, ◌≤◌, [], length, map, sym, ap, ap₂, ◌∙◌, arith, ◌<◌, None, All, get_or}
 use Rattle.arn_ids.specs.declared.config.Config.{Config}
 use Rattle.arn_ids.specs.Environments.{owners, count_from}
 use Rattle.arn_ids.proofs.Bounds.{owner_is_function}
 use Rattle.call_model.specs.Generation.{members}
 use Rattle.call_model.specs.Life.{seen, life}
-use Rattle.account_book.specs.Taking.{site, sites}
+use Rattle.fleet.specs.Sites.{site, sites}
 use Rattle.std.proofs.lemmas.List.{length-map}
 use Rattle.std.proofs.lemmas.List.Elements.{All-map}
 use Rattle.arn_ids.proofs.Bounds.{environments_256}
@@ -15,21 +15,11 @@ use Rattle.concurrency_pool.specs.Meets.{numbers, usage}
 use Rattle.concurrency_pool.specs.Numbers.{Numbers}
 use Rattle.deadlines.specs.Meets.{deadlines}
 use Rattle.placement.specs.Meets.{places}
-use Rattle.account_book.specs.declared.fleet.Fleet.TheInside.{Inside}
-use Rattle.account_book.specs.declared.site.Site.{Site}
+use Rattle.account_book.specs.declared.crew.Fleet.TheInside.{Inside}
+use Rattle.fleet.specs.declared.site.Site.{Site}
 use Rattle.account_book.specs.Fleets.{IsFleet, IsOwned, deadline_at, site_place, flown}
-use Rattle.account_book.proofs.FleetMeets.{sites_length, deadlines_are, places_are, numbers_flown, count_length}
-
--- one number more
-next_number : {A : Type 0} (g : ℕ → A) (a n : ℕ) → map g (count_from a (suc n)) ≡ map g (count_from a n) ++ g (a + n) ∷ []
-next_number g a zero = let same : a ≡ a + 0 = omega arith in ap (λ k. g k ∷ []) same
-next_number g a (suc n) = let same : suc a + n ≡ a + suc n = omega arith in ap (λ xs. g a ∷ xs) (next_number g (suc a) n ∙ ap (λ k. map g (count_from (suc a) n) ++ g k ∷ []) same)
-
-pub count_more : {A : Type 0} (g : ℕ → A) (a n : ℕ) → map g (count_from a (n + 1)) ≡ map g (count_from a n) ++ g (a + n) ∷ []
-count_more g a n = ap (λ k. map g (count_from a k)) (plus n) ∙ next_number g a n
-  where
-    plus : (n : ℕ) → n + 1 ≡ suc n
-    plus n = omega arith
+use Rattle.fleet.proofs.Loops.{count_length}
+use Rattle.account_book.proofs.FleetMeets.{sites_length, deadlines_are, places_are, numbers_flown}
 
 count_at : (a n i d : ℕ) → i < n → get_or (count_from a n) i d ≡ a + i
 count_at a zero i d lt = absurd (omega (arith, lt))

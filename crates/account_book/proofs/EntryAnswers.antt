@@ -23,8 +23,9 @@ use Rattle.environment_step.proofs.Puts.{filter_rising, filter_answer}
 use Rattle.environment_step.proofs.Rising.{IsRising, rising_same}
 use Rattle.env_phase.proofs.Homes.{home_new, home_old, past}
 use Rattle.env_phase.proofs.Meets.{answers_rising}
-use Rattle.account_book.specs.Reaches.{reach, reaches, book_answer, unless_named, with_own}
-use Rattle.account_book.proofs.Concerned.{concerns_reach}
+use Rattle.fleet.specs.Reaches.{reach, reaches}
+use Rattle.account_book.specs.OwnAnswers.{book_answer, unless_named, with_own}
+use Rattle.fleet.proofs.Entered.{concerns_reach}
 use Rattle.account_book.proofs.Merging.{last_rising, last_answer}
 
 -- an older ticket without an environment gets nothing

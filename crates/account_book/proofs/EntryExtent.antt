@@ -11,12 +11,14 @@ use Rattle.call_model.specs.Next.{IsLegal, Follows}
 use Rattle.environment_step.proofs.Rising.{some_at}
 use Rattle.env_phase.proofs.Homes.{past}
 use Rattle.env_phase.proofs.Meets.{ten_members}
-use Rattle.account_book.specs.declared.reach.Reach.{Reach}
-use Rattle.account_book.specs.declared.reach.Reach.TheVariants.{Nowhere, At, Everywhere}
+use Rattle.fleet.specs.declared.reach.Reach.{Reach}
+use Rattle.fleet.specs.declared.reach.Reach.TheVariants.{Nowhere, At, Everywhere}
 use Rattle.account_book.specs.Fleets.{moves_at}
 use Rattle.account_book.specs.Ledgers.{answer_limit}
-use Rattle.account_book.specs.Reaches.{reach, book_answer, with_own, homed}
-use Rattle.account_book.specs.Taking.{site, sites, request_counts, IsKnown, AllKnown}
+use Rattle.fleet.specs.Reaches.{reach}
+use Rattle.account_book.specs.OwnAnswers.{book_answer, with_own, homed}
+use Rattle.fleet.specs.Sites.{site, sites}
+use Rattle.account_book.specs.Taking.{request_counts, IsKnown, AllKnown}
 use Rattle.account_book.proofs.EntryAnswers.{answers_parts}
 use Rattle.account_book.proofs.EntryMoves.{homed_nowhere, homed_at, homed_everywhere}
 use Rattle.account_book.proofs.Extent.{put_all_length, merged_few}

@@ -21,12 +21,14 @@ use Rattle.environment_step.proofs.Rising.{IsRising, rising_same}
 use Rattle.environment_step.proofs.StepLaws.{moves_are}
 use Rattle.env_phase.proofs.Homes.{home_new, home_old}
 use Rattle.call_types.specs.Within.{IsEnv}
-use Rattle.account_book.specs.declared.reach.Reach.{Reach}
-use Rattle.account_book.specs.declared.reach.Reach.TheVariants.{Nowhere, At, Everywhere}
+use Rattle.fleet.specs.declared.reach.Reach.{Reach}
+use Rattle.fleet.specs.declared.reach.Reach.TheVariants.{Nowhere, At, Everywhere}
 use Rattle.account_book.specs.Fleets.{moves_at, put_all, merged}
-use Rattle.account_book.specs.Reaches.{reach, reaches, at_most}
-use Rattle.account_book.specs.Taking.{site, sites, request_counts, IsKnown, AllKnown}
-use Rattle.account_book.proofs.Concerned.{concerns_reach, count_here}
+use Rattle.fleet.specs.Reaches.{reach, reaches, at_most}
+use Rattle.fleet.specs.Sites.{site, sites}
+use Rattle.account_book.specs.Taking.{request_counts, IsKnown, AllKnown}
+use Rattle.fleet.proofs.Entered.{concerns_reach}
+use Rattle.account_book.proofs.Concerned.{count_here}
 use Rattle.account_book.proofs.EntryAnswers.{Answered, Own, Older, part, part_same, part_rising, has_home}
 use Rattle.account_book.proofs.Merging.{merge_rising, merge_answer}
 

@@ -7,18 +7,16 @@ use Rattle.call_types.specs.declared.answer.Answer.{Answer}
 use Rattle.call_types.specs.declared.call.Entry.{Entry}
 use Rattle.environment_step.specs.After.{put}
 use Rattle.call_model.specs.Next.{IsLegal}
-use Rattle.env_phase.proofs.Extent.{little}
+use Rattle.fleet.proofs.Entered.{few_site}
 use Rattle.extension_set.proofs.Lengths.{put_length}
-use Rattle.account_book.specs.declared.site.Site.{Site}
-use Rattle.account_book.specs.Fleets.{put_all, merged, IsFew}
-use Rattle.account_book.specs.Taking.{site, sites}
+use Rattle.fleet.specs.declared.site.Site.{Site}
+use Rattle.fleet.specs.Sites.{IsFew}
+use Rattle.account_book.specs.Fleets.{put_all, merged}
+use Rattle.fleet.specs.Sites.{site, sites}
 
 -- the counts of events and registrations leave room for more
-pub few_site : (config : Config) (h : List Entry) (e : ℕ) → IsLegal config h → length h < 2 ^ 32 → IsFew (site config h e)
-few_site config h e l short = let k = little config h e l in (omega (arith, k.events, short), omega (arith, k.registrations, short))
-
 pub few_sites : (config : Config) (h : List Entry) → IsLegal config h → length h < 2 ^ 32 → All IsFew (sites config h)
-few_sites config h l short = All-map IsFew (site config h) (environments config) (λ i d lt. few_site config h (get_or (environments config) i d) l short)
+few_sites config h l short = All-map IsFew (site config h) (environments config) (λ i d lt. few_site config h (get_or (environments config) i d) l (omega (arith, short)))
 
 -- how many answers there are
 pub put_all_length : (moves answers : List (ℕ × Answer)) → length (put_all moves answers) ≡ length moves + length answers

@@ -24,13 +24,10 @@ use Rattle.deadlines.proofs.Order.{first_is}
 use Rattle.placement.specs.Meets.{places}
 use Rattle.placement.specs.Places.{place_among}
 use Rattle.placement.proofs.Lowest.{place_is}
-use Rattle.account_book.specs.declared.site.Site.{Site}
+use Rattle.fleet.specs.declared.site.Site.{Site}
 use Rattle.account_book.specs.Fleets.{serves_function, flown_from, flown, deadline_at, site_place, is_site_due}
-use Rattle.account_book.specs.Taking.{site, sites}
-
-pub count_length : (a n : ℕ) → length (count_from a n) ≡ n
-count_length a zero = refl
-count_length a (suc n) = ap suc (count_length (suc a) n)
+use Rattle.fleet.specs.Sites.{site, sites}
+use Rattle.fleet.proofs.Loops.{count_length}
 
 pub sites_length : (config : Config) (h : List Entry) → length (sites config h) ≡ length (owners config)
 sites_length config h = length-map (environments config) (site config h) ∙ count_length 1 (length (owners config))

@@ -9,7 +9,7 @@ use Rattle.concurrency_pool.specs.declared.pool.Usage.{Usage}
 use Rattle.concurrency_pool.specs.Numbers.{Numbers}
 use Rattle.concurrency_pool.specs.Pools.{usage_at, with_in_flight, with_reserved}
 use Rattle.concurrency_pool.specs.Usages.{no_usage}
-use Rattle.account_book.specs.declared.site.Site.{Site}
+use Rattle.fleet.specs.declared.site.Site.{Site}
 use Rattle.account_book.specs.Fleets.{serves_function, flown_from, flown}
 
 -- as many in flight as there are

@@ -19,14 +19,16 @@ use Rattle.environment_step.proofs.StepLaws.{stand_is}
 use Rattle.env_phase.specs.Taking.{registered_name}
 use Rattle.env_phase.proofs.Extent.{none_joins}
 use Rattle.call_types.specs.Within.{IsWithin}
-use Rattle.account_book.specs.declared.reach.Reach.{Reach}
-use Rattle.account_book.specs.declared.reach.Reach.TheVariants.{Nowhere, At, Everywhere}
-use Rattle.account_book.specs.declared.site.Site.{Site}
+use Rattle.fleet.specs.declared.reach.Reach.{Reach}
+use Rattle.fleet.specs.declared.reach.Reach.TheVariants.{Nowhere, At, Everywhere}
+use Rattle.fleet.specs.declared.site.Site.{Site}
 use Rattle.account_book.specs.Answering.{answers_in, most_answers, most_of_one}
 use Rattle.account_book.specs.Room.{IsNarrow}
 use Rattle.account_book.specs.Fleets.{no_site, moves_at}
-use Rattle.account_book.specs.Reaches.{reach, book_answer, with_own, homed}
-use Rattle.account_book.specs.Taking.{site, sites, request_counts, IsKnown, AllKnown}
+use Rattle.fleet.specs.Reaches.{reach}
+use Rattle.account_book.specs.OwnAnswers.{book_answer, with_own, homed}
+use Rattle.fleet.specs.Sites.{site, sites}
+use Rattle.account_book.specs.Taking.{request_counts, IsKnown, AllKnown}
 use Rattle.account_book.proofs.EntryAnswers.{answers_parts}
 use Rattle.account_book.proofs.EntryMoves.{homed_nowhere, homed_at, homed_everywhere}
 use Rattle.account_book.proofs.Expiring.{due_within}

@@ -21,13 +21,15 @@ use Rattle.concurrency_pool.specs.Numbers.{Numbers}
 use Rattle.concurrency_pool.specs.Pools.{may_reserve, with_reserved}
 use Rattle.concurrency_pool.proofs.History as pool
 use Rattle.account_book.specs.Reserving.{in_force, IsInOrder, IsAllowed}
-use Rattle.account_book.specs.declared.site.Site.{Site}
+use Rattle.fleet.specs.declared.site.Site.{Site}
 use Rattle.account_book.specs.Fleets.{flown, serves_function}
-use Rattle.account_book.specs.Reaches.{book_answer}
-use Rattle.account_book.specs.Taking.{sites, IsKnown}
+use Rattle.account_book.specs.OwnAnswers.{book_answer}
+use Rattle.fleet.specs.Sites.{sites}
+use Rattle.account_book.specs.Taking.{IsKnown}
 use Rattle.account_book.proofs.Concerned.{sites_nowhere}
 use Rattle.account_book.proofs.EntryAnswers.{own_homeless}
-use Rattle.account_book.proofs.FleetMeets.{numbers_flown, numbers_next, in_flight_is, count_length}
+use Rattle.fleet.proofs.Loops.{count_length}
+use Rattle.account_book.proofs.FleetMeets.{numbers_flown, numbers_next, in_flight_is}
 
 -- whether a call sets a reservation
 abbrev is_reserve : Call → Bool

@@ -9,8 +9,7 @@ use Rattle.call_model.proofs.Basics.{eqb-self}
 use Rattle.call_model.proofs.Pairs.{eqb-other}
 use Rattle.environment_step.proofs.Stands.{one_changes}
 use Rattle.account_book.specs.Indexes.{answers_by_ticket, noted}
-use Rattle.account_book.proofs.BeforeCalls.{count_more}
-use Rattle.account_book.proofs.FleetMeets.{count_length}
+use Rattle.fleet.proofs.Loops.{count_length, count_more}
 use Rattle.account_book.proofs.RequestCounts.{numbered_at}
 use Rattle.std.proofs.lemmas.List.{length-map}
 
@@ -38,7 +37,7 @@ noted_is (a ∷ rest) g m all =
 -- the index after one more entry
 pub answered_next : (entry : Entry) (h : List Entry) → answer_of h (length h) ≡ None → All (λ a. a.0 ≤ length h) entry.answers → noted entry.answers (answers_by_ticket h ++ None ∷ []) ≡ answers_by_ticket (entry ∷ h)
 answered_next entry h fresh all =
-    ap (noted entry.answers) (ap (λ (o : Option Answer). answers_by_ticket h ++ o ∷ []) (sym fresh ∙ ap (answer_of h) (let z : length h ≡ 0 + length h = omega arith in z)) ∙ sym (count_more (answer_of h) 0 (length h)))
+    ap (noted entry.answers) (ap (λ (o : Option Answer). answers_by_ticket h ++ o ∷ []) (sym fresh ∙ ap (answer_of h) (let z : length h ≡ 0 + length h = omega arith in z)) ∙ sym (count_more (answer_of h) 0 (length h) (0 + length h) refl))
     ∙ noted_is entry.answers (answer_of h) (length h + 1) (λ i d lt. omega (arith, all i d lt))
     ∙ ap (λ n. map (answer_of (entry ∷ h)) (count_from 0 n)) (let one : length h + 1 ≡ suc (length h) = omega arith in one)
 

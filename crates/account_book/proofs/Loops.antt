@@ -1,9 +1,10 @@
 -- A loop in which one environment after the other takes a call.
-use Rattle.std.proofs.Common.{◌≡◌, ℕ, zero, suc, ◌+◌, ◌*◌, ◌<◌, ◌≤◌, List, [], ◌∷◌, ◌++◌, length, map, take, drop, get_or, set, sym, refl, ap, ap₂, ◌∙◌, arith, drop-cons, add-one, count_by}
+use Rattle.std.proofs.Common.{◌≡◌, ℕ, suc, ◌+◌, ◌*◌, ◌<◌, ◌≤◌, List, [], ◌∷◌, ◌++◌, length, map, take, drop, get_or, set, sym, refl, ap, ap₂, ◌∙◌, arith, drop-cons, add-one, count_by}
 use Rattle.call_types.specs.declared.answer.Answer.{Answer}
 use Rattle.concurrency_pool.specs.declared.pool.Usage.{Usage}
+use Rattle.fleet.proofs.Loops.{one_more}
 use Rattle.account_book.specs.Crew.{Crew}
-use Rattle.account_book.specs.declared.site.Site.{Site}
+use Rattle.fleet.specs.declared.site.Site.{Site}
 use Rattle.account_book.specs.Fleets.{no_site, put_all, merged, flown, flown_from, serves_function}
 
 -- The first so many environments have taken the call: their answers are among the answers.
@@ -13,24 +14,6 @@ pub record IsVisited (move : Site → Site) (moves : Site → List (ℕ × Answe
   pub widest : now.widest ≡ first.widest
   pub answers : merged moves (drop n first.sites) new.0 ≡ merged moves first.sites old.0
   pub room : old.1 ≤ new.1 + 13 * n
-
--- one that has not taken it is as it was
-pub not_yet : {A : Type 0} (move : A → A) (xs : List A) (n : ℕ) (d : A) → n < length xs → get_or (map move (take n xs) ++ drop n xs) n d ≡ get_or xs n d
-not_yet move [] n d lt = absurd (omega arith)
-not_yet move (x ∷ xs) zero d lt = refl
-not_yet move (x ∷ xs) (suc n) d lt = not_yet move xs n d (omega arith)
-
--- one more has taken it
-pub one_more : {A : Type 0} (move : A → A) (xs : List A) (n : ℕ) (d : A) → n < length xs → set (map move (take n xs) ++ drop n xs) n (move (get_or xs n d)) ≡ map move (take (suc n) xs) ++ drop (suc n) xs
-one_more move [] n d lt = absurd (omega arith)
-one_more move (x ∷ xs) zero d lt = refl
-one_more move (x ∷ xs) (suc n) d lt = ap (λ ys. move x ∷ ys) (one_more move xs n d (omega arith))
-
-pub as_many : {A : Type 0} (move : A → A) (xs : List A) (n : ℕ) → length (map move (take n xs) ++ drop n xs) ≡ length xs
-as_many move [] zero = refl
-as_many move [] (suc n) = refl
-as_many move (x ∷ xs) zero = refl
-as_many move (x ∷ xs) (suc n) = ap suc (as_many move xs n)
 
 flown_again : (s t : List Site) (a : ℕ) (us : List Usage) → flown_from t a (flown_from s a us) ≡ flown_from t a us
 flown_again s t a [] = refl

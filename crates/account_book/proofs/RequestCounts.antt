@@ -12,7 +12,7 @@ use Rattle.call_types.specs.declared.call.Call.TheVariants.{Invoke}
 use Rattle.call_types.specs.declared.call.Entry.{Entry}
 use Rattle.call_model.specs.History.{is_invoke_of, requests}
 use Rattle.account_book.specs.Taking.{request_counts}
-use Rattle.account_book.proofs.FleetMeets.{count_length}
+use Rattle.fleet.proofs.Loops.{count_length}
 
 pub counts_length : (config : Config) (h : List Entry) → length (request_counts config h) ≡ length config.functions
 counts_length config h = length-map (function_numbers config) (requests h) ∙ count_length 1 (length config.functions)

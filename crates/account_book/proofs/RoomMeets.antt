@@ -10,7 +10,7 @@ use Rattle.call_model.specs.History.{is_stop}
 use Rattle.call_model.specs.Next.{due}
 use Rattle.call_model.proofs.Added.{due_length}
 use Rattle.account_book.specs.Room.{wanted}
-use Rattle.account_book.proofs.FleetMeets.{count_length}
+use Rattle.fleet.proofs.Loops.{count_length}
 
 -- the journal is full where what a call wants goes past the most entries
 pub full_is : (config : Config) (max : ℕ) (h : List Entry) (call : Call) → full config max h call ≡ nat_lt max (length h + wanted (length (owners config)) call)

@@ -11,9 +11,9 @@ use Rattle.concurrency_pool.specs.Numbers.{Numbers}
 use Rattle.concurrency_pool.specs.Pools.{throttle, may_reserve}
 use Rattle.concurrency_pool.proofs.History as pool
 use Rattle.placement.specs.Places.{place_among}
-use Rattle.account_book.specs.declared.site.Site.{Site}
+use Rattle.fleet.specs.declared.site.Site.{Site}
 use Rattle.account_book.specs.Fleets.{site_place}
-use Rattle.account_book.specs.Taking.{sites}
+use Rattle.fleet.specs.Sites.{sites}
 use Rattle.account_book.proofs.FleetMeets.{limits_are}
 
 pub verdict_stopped : (config : Config) (h : List Entry) (f : ℕ) → stopped h ≡ true → verdict config h f ≡ AfterStop

@@ -25,11 +25,12 @@ use Rattle.env_phase.proofs.Meets.{few_here, ten_members}
 use Rattle.call_model.proofs.PastLemmas.{no_call}
 use Rattle.call_types.specs.Within.{IsEnv}
 use Rattle.account_book.specs.Answering.{most_answers}
-use Rattle.account_book.specs.declared.reach.Reach.{Reach}
-use Rattle.account_book.specs.declared.reach.Reach.TheVariants.{Nowhere, At, Everywhere}
+use Rattle.fleet.specs.declared.reach.Reach.{Reach}
+use Rattle.fleet.specs.declared.reach.Reach.TheVariants.{Nowhere, At, Everywhere}
 use Rattle.account_book.specs.Fleets.{no_site, site_at, moves_at}
-use Rattle.account_book.specs.Reaches.{reach, reaches, at_most}
-use Rattle.account_book.specs.Taking.{site, sites, request_counts, IsKnown, AllKnown}
+use Rattle.fleet.specs.Reaches.{reach, reaches, at_most}
+use Rattle.fleet.specs.Sites.{site, sites}
+use Rattle.account_book.specs.Taking.{request_counts, IsKnown, AllKnown}
 use Rattle.account_book.proofs.EntryMoves.{env_within, known_call, moves_there}
 use Rattle.account_book.proofs.FleetMeets.{sites_length}
 use Rattle.account_book.proofs.RequestCounts.{numbered_at}

@@ -15,8 +15,8 @@ use Rattle.placement.specs.declared.places.Place.{Place}
 use Rattle.placement.specs.Class.{class_of}
 use Rattle.placement.specs.Places as placement
 use Rattle.placement.proofs.Numbered.{place_is_at}
-use Rattle.account_book.specs.declared.fleet.Fleet.TheInside.{Inside}
-use Rattle.account_book.specs.declared.site.Site.{Site}
+use Rattle.account_book.specs.declared.crew.Fleet.TheInside.{Inside}
+use Rattle.fleet.specs.declared.site.Site.{Site}
 use Rattle.account_book.specs.Fleets.{no_site, site_at, serves_function, flown_from, flown, deadline_at, site_place, IsOwned, IsFleet}
 use Rattle.account_book.proofs.Flown.{flown_change}
 

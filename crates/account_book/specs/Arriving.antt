@@ -10,11 +10,12 @@ use Rattle.call_model.specs.Next.{IsLegal, Follows, entry_of, entered}
 use Rattle.concurrency_pool.specs.Meets.{numbers}
 use Rattle.concurrency_pool.specs.Numbers.{Numbers}
 use Rattle.env_phase.specs.Taking.{registered_name}
-use Rattle.account_book.specs.declared.fleet.Arrival.{Arrival}
-use Rattle.account_book.specs.declared.site.Site.{Site}
+use Rattle.account_book.specs.declared.crew.Arrival.{Arrival}
+use Rattle.fleet.specs.declared.site.Site.{Site}
 use Rattle.account_book.specs.Answering.{most_answers}
 use Rattle.account_book.specs.Crew.{Crew}
-use Rattle.account_book.specs.Taking.{sites, request_counts, IsKnown, AllKnown}
+use Rattle.fleet.specs.Sites.{sites}
+use Rattle.account_book.specs.Taking.{request_counts, IsKnown, AllKnown}
 
 -- A call at a moment after a history, with its place: the call may follow the history, and the environments and the
 -- pool that are kept are those of the history.

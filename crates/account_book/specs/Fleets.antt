@@ -1,5 +1,5 @@
 -- What a call changes at the environments that it reaches, and what is kept beside them.
-use Rattle.std.specs.Prelude.{◌≡◌, ℕ, suc, ◌<◌, ◌≤◌, ◌^◌, Bool, ◌==◌, ◌&&◌, List, [], ◌∷◌, length, map, count_by}
+use Rattle.std.specs.Prelude.{◌≡◌, ℕ, suc, ◌≤◌, Bool, ◌==◌, ◌&&◌, List, [], ◌∷◌, length, map, count_by}
 use Rattle.std.specs.Prelude.{Option, All}
 use Rattle.arn_ids.specs.Environments.{numbered}
 use Rattle.arn_ids.specs.Limits.{most_environments, most_extensions}
@@ -10,12 +10,13 @@ use Rattle.call_model.specs.Laws.{is_taken}
 use Rattle.call_model.specs.Next.{deadline_of, has_come}
 use Rattle.concurrency_pool.specs.Numbers.{Numbers}
 use Rattle.concurrency_pool.specs.declared.pool.Usage.{Usage}
-use Rattle.env_phase.specs.Taking.{taken, given, unused}
+use Rattle.env_phase.specs.Taking.{given, unused}
 use Rattle.placement.specs.Class.{class_of}
 use Rattle.placement.specs.declared.places.Place.{Place}
-use Rattle.account_book.specs.declared.fleet.Arrival.{Arrival}
-use Rattle.account_book.specs.declared.fleet.Fleet.TheInside.{Inside}
-use Rattle.account_book.specs.declared.site.Site.{Site}
+use Rattle.account_book.specs.declared.crew.Arrival.{Arrival}
+use Rattle.account_book.specs.declared.crew.Fleet.TheInside.{Inside}
+use Rattle.fleet.specs.Sites.{moved as site_moved}
+use Rattle.fleet.specs.declared.site.Site.{Site}
 use Rattle.account_book.specs.Crew.{Crew}
 
 -- A placeholder: the environment for a number that no environment has.
@@ -36,9 +37,7 @@ site_step ticket now requests site = record { ticket = ticket; now = now; count 
 
 -- An environment after a call.
 abbrev pub moved : ℕ → ℕ → List ℕ → Call → Site → Site
-moved ticket now requests call site = record site {
-  environment = taken site.environment (site_step ticket now requests site) call;
-}
+moved ticket now requests call site = site_moved (site_step ticket now requests site) call site
 
 -- The answers that a call gives at an environment.
 abbrev pub moves_at : ℕ → ℕ → List ℕ → Call → Site → List (ℕ × Answer)
@@ -84,10 +83,6 @@ deadline_at site = deadline_of site.environment.stand.phase
 -- Whether the deadline of an environment has come at a moment.
 abbrev pub is_site_due : ℕ → Site → Bool
 is_site_due now site = has_come now (deadline_at site)
-
--- The environment's counts of events and of registrations are below 2^52, so that there is room for more.
-abbrev pub IsFew : Site → Type 0
-IsFew site = (site.environment.stand.events < 2 ^ 52) × (site.environment.stand.registrations < 2 ^ 52)
 
 -- An environment's function, and what its phase means for the placement of the function's next invocation.
 abbrev pub site_place : Site → Place

@@ -6,7 +6,8 @@ use Rattle.call_model.specs.Next.{IsLegal, last_moment}
 use Rattle.concurrency_pool.specs.Meets.{numbers}
 use Rattle.account_book.specs.declared.journal.Journal.TheInside.{Inside}
 use Rattle.account_book.specs.Pages.{Pages}
-use Rattle.account_book.specs.Taking.{AllKnown, sites, request_counts}
+use Rattle.fleet.specs.Sites.{sites}
+use Rattle.account_book.specs.Taking.{AllKnown, request_counts}
 
 -- A journal's contents as the book sees them.
 abbrev pub pages : Inside → Pages

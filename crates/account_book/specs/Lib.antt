@@ -16,12 +16,12 @@ pub mod Answering
 -- contracts and the invariants of types use them, and no public contract does.
 -- The reservations that a call leaves in force.
 pub mod Reserving
--- The environments, those that a call reaches, and what it changes there.
+-- The environments, and what a call changes at those that it reaches.
 pub mod Taking
 pub mod Arriving
 pub mod Crew
 pub mod Fleets
-pub mod Reaches
+pub mod OwnAnswers
 -- The journal and its room.
 pub mod Pages
 pub mod Journals

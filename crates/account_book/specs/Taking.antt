@@ -1,26 +1,12 @@
--- What a book keeps of its history.
+-- The counts of Invokes that a book keeps of its history, and which calls a history can have.
 use Rattle.std.specs.Prelude.{ℕ, List, [], ◌∷◌, map}
 use Rattle.arn_ids.specs.declared.config.Config.{Config}
-use Rattle.arn_ids.specs.Environments.{environments, function_numbers, function_of}
+use Rattle.arn_ids.specs.Environments.{function_numbers}
 use Rattle.call_types.specs.declared.call.Call.{Call}
 use Rattle.call_types.specs.declared.call.Call.TheVariants.{Expire}
 use Rattle.call_types.specs.declared.call.Entry.{Entry}
 use Rattle.call_model.specs.History.{requests}
-use Rattle.call_model.specs.Life.{stand}
-use Rattle.environment_step.specs.After.{fixed_of}
 use Rattle.call_types.specs.Within.{IsEnv, IsWithin}
-use Rattle.account_book.specs.declared.site.Site.{Site}
-
--- An environment in its state after a history, with the number of its function.
-abbrev pub site : Config → List Entry → ℕ → Site
-site config h e = record {
-  function = function_of config e;
-  environment = record { fixed = fixed_of config e; stand = stand config h e };
-}
-
--- All environments in their states after a history, in the order of their numbers.
-abbrev pub sites : Config → List Entry → List Site
-sites config h = map (site config h) (environments config)
 
 -- The number of Invokes that each function has had.
 abbrev pub request_counts : Config → List Entry → List ℕ

@@ -8,15 +8,15 @@ ghost use Rattle.call_model.specs.CallCounts.{request_count};
 ghost use Rattle.account_book.specs.Reserving.{in_force, IsInOrder};
 ghost use Rattle.account_book.specs.Arriving.{IsArriving, IsMoved};
 ghost use Rattle.account_book.specs.Fleets.{flown};
-ghost use Rattle.account_book.specs.Reaches.{book_answer, homed};
+ghost use Rattle.account_book.specs.OwnAnswers.{book_answer, homed};
 ghost use Rattle.account_book.specs.Taking.{IsKnown, request_counts};
 
-use crate::fleet::{Arrival, Fleet};
-use crate::reach::Reach;
+use crate::crew::{Arrival, Fleet};
 use crate::room::Roomy;
 use arn_ids::{Checked, EnvNo};
 use call_model::{Answer, Call, Entry, Ticket};
 use entry_blocks::Blocks;
+use fleet::Reach;
 
 /// Counts an Invoke for its function. Returns the count in its request identifier, 0 for another call.
 pub fn count_call(
@@ -93,7 +93,7 @@ fn visit_environments(
     ensures room { 0 < answers.new.1 }
 {
     fleet.facts();
-    match Reach::of(entries, place, arrival.call) {
+    match Reach::of_next(entries, place, arrival.call) {
         Reach::Nowhere => {}
         Reach::At(env) => fleet.take_at(env, arrival, answers),
         Reach::Everywhere => fleet.take_all(arrival, answers),

@@ -22,11 +22,11 @@ ghost use Rattle.call_types.specs.Within.{IsWithin};
 ghost use Rattle.account_book.specs.Answering.{most_answers};
 ghost use Rattle.account_book.specs.Room.{first_or_zero, IsRoom, IsNarrow};
 ghost use Rattle.account_book.specs.Premature.{would_be_premature};
-ghost use Rattle.account_book.specs.Reaches.{book_answer};
+ghost use Rattle.account_book.specs.OwnAnswers.{book_answer};
 ghost use Rattle.account_book.specs.Taking.{IsKnown, AllKnown};
 
 use crate::answering::{answer_call, count_call};
-use crate::fleet::{Arrival, Fleet};
+use crate::crew::{Arrival, Fleet};
 use crate::ledger::Ledger;
 use crate::opening::open_counts;
 use crate::premature::is_unstarted;

@@ -3,7 +3,7 @@
 
 mod answering;
 mod book;
-mod fleet;
+mod crew;
 mod history_text;
 mod journal;
 pub mod laws;
@@ -11,7 +11,6 @@ mod ledger;
 mod opening;
 mod premature;
 mod ranges;
-mod reach;
 mod rendering;
 mod room;
 mod site;

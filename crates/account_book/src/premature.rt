@@ -7,10 +7,10 @@ ghost use Rattle.env_phase.specs.Taking.{has_answered};
 ghost use Rattle.account_book.specs.Fleets.{IsOwned};
 ghost use Rattle.account_book.specs.Premature.{in_way, is_unstarted};
 
-use crate::site::Site;
 use arn_ids::FnNo;
 use call_model::{Phase, Throttle};
 use concurrency_pool::Pool;
+use fleet::Site;
 
 /// Whether nothing has started an environment in this phase: it is in Init, whose time does not run.
 pub(crate) fn is_unstarted(phase: Phase) -> bool

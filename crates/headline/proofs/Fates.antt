@@ -1,5 +1,6 @@
 -- A placed invocation has one fate.
-use Rattle.std.proofs.Common.{◌≡◌, ◌≤◌, ◌⊎◌, ℕ, Bool, true, false, cond, ◌+◌, ◌==◌, not, ◌&&◌, List, [], ◌∷◌, Option, Some, None, is_some, sym, refl, ◌∙◌, inl, inr, arith, true≢false, count_by, if◌then◌else◌}
+use Rattle.std.proofs.Common.{◌≡◌, ◌≤◌, ◌⊎◌, ℕ, Bool, true, false, cond, ◌+◌, ◌==◌, not, ◌&&◌, List, [], ◌∷◌, Option}
+use Rattle.std.proofs.Common.{Some, None, is_some, sym, refl, ◌∙◌, inl, inr, arith, true≢false, count_by, if◌then◌else◌}
 use Rattle.arn_ids.specs.Environments.{function_of}
 use Rattle.arn_ids.specs.declared.config.Config.{Config}
 use Rattle.call_types.specs.declared.answer.Answer.{Answer}
@@ -25,7 +26,8 @@ once_in : (pairs : List (ℕ × Answer)) (t : ℕ) → is_some (answer_in pairs 
 once_in [] t q = absurd (true≢false (sym q))
 once_in (a ∷ rest) t q = rw (count_cons (λ (b : ℕ × Answer). b.0 == t) a rest) (go (a.0 == t) (once_in rest t) q)
   where
-    go : (b : Bool) → (is_some (answer_in rest t) ≡ true → 1 ≤ count_by (λ a. a.0 == t) rest) → is_some (if b then Some a.1 else answer_in rest t) ≡ true → 1 ≤ cond b 1 0 + count_by (λ a. a.0 == t) rest
+    go : (b : Bool) → (is_some (answer_in rest t) ≡ true → 1 ≤ count_by (λ a. a.0 == t) rest)
+        → is_some (if b then Some a.1 else answer_in rest t) ≡ true → 1 ≤ cond b 1 0 + count_by (λ a. a.0 == t) rest
     go true k r = omega arith
     go false k r = omega (arith, k r)
 
@@ -34,7 +36,8 @@ once_at_least : (h : List Entry) (t : ℕ) → answered h t ≡ true → 1 ≤ t
 once_at_least [] t q = absurd (true≢false (sym q))
 once_at_least (entry ∷ h) t q = go (answer_in entry.answers t) (once_in entry.answers t) (once_at_least h t) q
   where
-    go : (o : Option Answer) → (is_some o ≡ true → 1 ≤ count_by (λ a. a.0 == t) entry.answers) → (answered h t ≡ true → 1 ≤ times h t) → is_some (or_else o (answer_of h t)) ≡ true
+    go : (o : Option Answer) → (is_some o ≡ true → 1 ≤ count_by (λ a. a.0 == t) entry.answers)
+        → (answered h t ≡ true → 1 ≤ times h t) → is_some (or_else o (answer_of h t)) ≡ true
         → 1 ≤ count_by (λ a. a.0 == t) entry.answers + times h t
     go None a k r = omega (arith, k r)
     go (Some answer) a k r = omega (arith, a refl)

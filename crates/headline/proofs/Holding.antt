@@ -38,14 +38,17 @@ holds config h l = record {
   counts = refl;
 }
 
-pub never_local : (config : Config) (h : List Entry) (f limit : ℕ) → first_fault config ≡ None → IsLegal config h → reservation config h f ≡ Some limit → verdict config h f ≡ Refuses ByEnvironments → ⊥
+pub never_local : (config : Config) (h : List Entry) (f limit : ℕ) → first_fault config ≡ None → IsLegal config h
+    → reservation config h f ≡ Some limit → verdict config h f ≡ Refuses ByEnvironments → ⊥
 never_local config h f limit sound l r v = never_crowded config h f limit l (λ n is. reserved_within config f n sound is) r v
 
 -- a Tick is placed nowhere and names no environment
-tick_elsewhere : (rule : Rule) (config : Config) (h : List Entry) (e : ℕ) (entry : Entry) → FollowsBy rule config h entry → entry.call ≡ Tick → concerns h e entry ≡ false
+tick_elsewhere : (rule : Rule) (config : Config) (h : List Entry) (e : ℕ) (entry : Entry)
+    → FollowsBy rule config h entry → entry.call ≡ Tick → concerns h e entry ≡ false
 tick_elsewhere rule config h e entry l is = ap₂ (λ place call. is_number place e || names h e call) (l.place ∙ ap (place_for config h) is) is
 
-pub tick_leaves : (rule : Rule) (config : Config) (h : List Entry) (entry : Entry) (e : ℕ) → IsLegalBy rule config (entry ∷ h) → entry.call ≡ Tick → stand config (entry ∷ h) e ≡ stand config h e
+pub tick_leaves : (rule : Rule) (config : Config) (h : List Entry) (entry : Entry) (e : ℕ)
+    → IsLegalBy rule config (entry ∷ h) → entry.call ≡ Tick → stand config (entry ∷ h) e ≡ stand config h e
 tick_leaves rule config h entry e l is = stand_elsewhere rule config h entry e l.0 l.1 (tick_elsewhere rule config h e entry l.1 is)
 
 -- the same under another name of the configuration

@@ -6,7 +6,7 @@ ghost use Rattle.account_lock.specs.Counting.{counts_of};
 ghost use Rattle.account_lock.specs.Gathered.{counts_in, keeps_nothing};
 ghost use Rattle.account_lock.specs.Settlement.{IsSettled, IsFault};
 ghost use Rattle.account_lock.specs.Shown.{Sees};
-ghost use Rattle.account_lock.specs.declared.fault.SettleFault.TheVariants.{TallyMissing};
+ghost use Rattle.account_lock.specs.declared.settle.fault.SettleFault.TheVariants.{TallyMissing};
 ghost use Rattle.headline.specs.Headline.{Headline};
 
 use crate::laws;

@@ -14,19 +14,22 @@ use Rattle.script_replay.proofs.Written.{appends_nothing, appends_more}
 before_before : (a b : List ℕ) (r : Replayed) → before a (before b r) ≡ before (a ++ b) r
 before_before a b r = ap (λ (t : List ℕ). record { text = t; fault = r.fault }) (sym (append_assoc a b r.text))
 
-onto_ok : (text : List ℕ) (r : Result (Progress × List ℕ) ScriptFault) (b : Progress) (t : List ℕ) → onto text r ≡ Ok (b, t) → (more : List ℕ) × (r ≡ Ok (b, more)) × (t ≡ text ++ more)
+onto_ok : (text : List ℕ) (r : Result (Progress × List ℕ) ScriptFault) (b : Progress) (t : List ℕ)
+    → onto text r ≡ Ok (b, t) → (more : List ℕ) × (r ≡ Ok (b, more)) × (t ≡ text ++ more)
 onto_ok text (Err fault) b t e = absurd (IfOk-at_ok (λ _. ⊥) e tt)
 onto_ok text (Ok (next, more)) b t e =
     let p = IfOk-at_ok (λ (x : Progress × List ℕ). (next, text ++ more) ≡ x) e refl in
     (more, ap (λ (x : Progress × List ℕ). Ok (x.0, more)) p, sym (ap (λ (x : Progress × List ℕ). x.1) p))
 
 -- where more lines than one were taken, the first one was, and then the others
-first_ok : (r : Result (Progress × List ℕ) ScriptFault) (rest : Progress → Result (Progress × List ℕ) ScriptFault) (b : Progress) (t : List ℕ) → then_taken r rest ≡ Ok (b, t)
+first_ok : (r : Result (Progress × List ℕ) ScriptFault) (rest : Progress → Result (Progress × List ℕ) ScriptFault) (b : Progress) (t : List ℕ)
+    → then_taken r rest ≡ Ok (b, t)
     → (next : Progress) × (text : List ℕ) × (more : List ℕ) × (r ≡ Ok (next, text)) × (rest next ≡ Ok (b, more)) × (t ≡ text ++ more)
 first_ok (Err fault) rest b t e = absurd (IfOk-at_ok (λ _. ⊥) e tt)
 first_ok (Ok (next, text)) rest b t e = let p = onto_ok text (rest next) b t e in (next, text, p.0, refl, p.1, p.2)
 
-taken_more : (number : ℕ) (a b c : Progress) (xs ys : List (List ℕ)) (t u : List ℕ) → lines_taken number a xs ≡ Ok (b, t) → lines_taken (number + length xs) b ys ≡ Ok (c, u)
+taken_more : (number : ℕ) (a b c : Progress) (xs ys : List (List ℕ)) (t u : List ℕ)
+    → lines_taken number a xs ≡ Ok (b, t) → lines_taken (number + length xs) b ys ≡ Ok (c, u)
     → lines_taken number a (xs ++ ys) ≡ Ok (c, t ++ u)
 taken_more number a b c [] ys t u first second =
     let p = IfOk-at_ok (λ (x : Progress × List ℕ). (a, []) ≡ x) first refl in
@@ -42,7 +45,8 @@ taken_more number a b c (x ∷ xs) ys t u first second =
     ∙ ap (λ (l : List ℕ). Ok (c, l)) (sym (append_assoc p.1 p.2 u)) ∙ ap (λ (l : List ℕ). Ok (c, l ++ u)) (sym p.5)
 
 -- what lines come to that were taken, and others behind them
-replays_on : (number : ℕ) (a b : Progress) (xs more : List (List ℕ)) (t : List ℕ) → lines_taken number a xs ≡ Ok (b, t) → replay_from number a (xs ++ more) ≡ before t (replay_from (number + length xs) b more)
+replays_on : (number : ℕ) (a b : Progress) (xs more : List (List ℕ)) (t : List ℕ) → lines_taken number a xs ≡ Ok (b, t)
+    → replay_from number a (xs ++ more) ≡ before t (replay_from (number + length xs) b more)
 replays_on number a b [] more t took =
     let p = IfOk-at_ok (λ (x : Progress × List ℕ). (a, []) ≡ x) took refl in
     let same : number + 0 ≡ number = omega arith in
@@ -60,7 +64,8 @@ replays_on number a b (x ∷ xs) more t took =
 pub played_none : (number : ℕ) (progress : Progress) (old : Option (List ℕ)) → Played number progress progress [] old old
 played_none number progress old = record { text = []; took = refl; wrote = appends_nothing old }
 
-pub played_more : (number then : ℕ) (a b c : Progress) (xs ys : List (List ℕ)) (old mid new : Option (List ℕ)) → Played number a b xs old mid → Played then b c ys mid new → then ≡ number + length xs
+pub played_more : (number then : ℕ) (a b c : Progress) (xs ys : List (List ℕ)) (old mid new : Option (List ℕ))
+    → Played number a b xs old mid → Played then b c ys mid new → then ≡ number + length xs
     → Played number a c (xs ++ ys) old new
 played_more number then a b c xs ys old mid new p q is = record {
   text = p.text ++ q.text;
@@ -69,12 +74,14 @@ played_more number then a b c xs ys old mid new p q is = record {
 }
 
 -- what lines come to after others
-played_before : (number then : ℕ) (a b : Progress) (xs rest all : List (List ℕ)) (old mid : Option (List ℕ)) (p : Played number a b xs old mid) → then ≡ number + length xs → all ≡ xs ++ rest
+played_before : (number then : ℕ) (a b : Progress) (xs rest all : List (List ℕ)) (old mid : Option (List ℕ)) (p : Played number a b xs old mid)
+    → then ≡ number + length xs → all ≡ xs ++ rest
     → replay_from number a all ≡ before p.text (replay_from then b rest)
 played_before number then a b xs rest all old mid p counted is =
     ap (replay_from number a) is ∙ replays_on number a b xs rest p.text p.took ∙ ap (λ (k : ℕ). before p.text (replay_from k b rest)) (sym counted)
 
-pub ended_after : (number then : ℕ) (a b : Progress) (xs rest all : List (List ℕ)) (old mid new : Option (List ℕ)) (fault : Option ScriptFault) → Played number a b xs old mid → then ≡ number + length xs → all ≡ xs ++ rest
+pub ended_after : (number then : ℕ) (a b : Progress) (xs rest all : List (List ℕ)) (old mid new : Option (List ℕ)) (fault : Option ScriptFault)
+    → Played number a b xs old mid → then ≡ number + length xs → all ≡ xs ++ rest
     → Ended then b rest fault mid new → Ended number a all fault old new
 ended_after number then a b xs rest all old mid new fault p counted is s =
     let whole = played_before number then a b xs rest all old mid p counted is in
@@ -83,7 +90,8 @@ ended_after number then a b xs rest all old mid new fault p counted is s =
       wrote = rw whole (appends_more old mid new p.text (replay_from then b rest).text p.wrote s.wrote);
     }
 
-broken_after : (number then : ℕ) (a b : Progress) (xs rest all : List (List ℕ)) (old mid new : Option (List ℕ)) → Played number a b xs old mid → then ≡ number + length xs → all ≡ xs ++ rest
+broken_after : (number then : ℕ) (a b : Progress) (xs rest all : List (List ℕ)) (old mid new : Option (List ℕ))
+    → Played number a b xs old mid → then ≡ number + length xs → all ≡ xs ++ rest
     → Broken then b rest mid new → Broken number a all old new
 broken_after number then a b xs rest all old mid new p counted is s =
     let whole = played_before number then a b xs s.first (xs ++ s.first) old mid p counted refl in
@@ -94,7 +102,8 @@ broken_after number then a b xs rest all old mid new p counted is s =
       wrote = rw whole (appends_more old mid new p.text (replay_from then b s.first).text p.wrote s.wrote);
     }
 
-cut_after : (number then : ℕ) (a b : Progress) (xs rest all : List (List ℕ)) (old mid new : Option (List ℕ)) → Played number a b xs old mid → then ≡ number + length xs → all ≡ xs ++ rest
+cut_after : (number then : ℕ) (a b : Progress) (xs rest all : List (List ℕ)) (old mid new : Option (List ℕ))
+    → Played number a b xs old mid → then ≡ number + length xs → all ≡ xs ++ rest
     → Cut then b rest mid new → Cut number a all old new
 cut_after number then a b xs rest all old mid new p counted is s =
     let whole = played_before number then a b xs rest all old mid p counted is in
@@ -106,11 +115,15 @@ cut_after number then a b xs rest all old mid new p counted is s =
     }
 
 -- a fault after lines that were played
-pub stopped_after : (number then : ℕ) (a b : Progress) (xs rest all : List (List ℕ)) (old mid new : Option (List ℕ)) (e : ReplayFault) → Played number a b xs old mid → then ≡ number + length xs → all ≡ xs ++ rest
+pub stopped_after : (number then : ℕ) (a b : Progress) (xs rest all : List (List ℕ)) (old mid new : Option (List ℕ)) (e : ReplayFault)
+    → Played number a b xs old mid → then ≡ number + length xs → all ≡ xs ++ rest
     → StoppedAt then b rest mid new e → StoppedAt number a all old new e
-stopped_after number then a b xs rest all old mid new (faults.Config fault) p counted is s = ended_after number then a b xs rest all old mid new (Some (InConfiguration fault)) p counted is s
-stopped_after number then a b xs rest all old mid new (faults.Wire fault) p counted is s = ended_after number then a b xs rest all old mid new (Some (InText fault)) p counted is s
-stopped_after number then a b xs rest all old mid new (faults.Script line) p counted is s = ended_after number then a b xs rest all old mid new (Some (InLine line)) p counted is s
+stopped_after number then a b xs rest all old mid new (faults.Config fault) p counted is s =
+    ended_after number then a b xs rest all old mid new (Some (InConfiguration fault)) p counted is s
+stopped_after number then a b xs rest all old mid new (faults.Wire fault) p counted is s =
+    ended_after number then a b xs rest all old mid new (Some (InText fault)) p counted is s
+stopped_after number then a b xs rest all old mid new (faults.Script line) p counted is s =
+    ended_after number then a b xs rest all old mid new (Some (InLine line)) p counted is s
 stopped_after number then a b xs rest all old mid new faults.Read p counted is s = absurd s
 stopped_after number then a b xs rest all old mid new faults.Write p counted is s = cut_after number then a b xs rest all old mid new p counted is s
 stopped_after number then a b xs rest all old mid new faults.OutOfMemory p counted is s = broken_after number then a b xs rest all old mid new p counted is s
@@ -119,7 +132,8 @@ stopped_after number then a b xs rest all old mid new faults.OutOfMemory p count
 pub nothing_played : (number : ℕ) (progress : Progress) (lines : List (List ℕ)) (old : Option (List ℕ)) → Broken number progress lines old old
 nothing_played number progress lines old = record { first = []; rest = lines; split = refl; wrote = appends_nothing old }
 
-ends_here : (number : ℕ) (progress : Progress) (line : List ℕ) (rest : List (List ℕ)) (old : Option (List ℕ)) (fault : ScriptFault) → line_taken number progress line ≡ Err fault
+ends_here : (number : ℕ) (progress : Progress) (line : List ℕ) (rest : List (List ℕ)) (old : Option (List ℕ)) (fault : ScriptFault)
+    → line_taken number progress line ≡ Err fault
     → Ended number progress (line ∷ rest) (Some fault) old old
 ends_here number progress line rest old fault is =
     let whole : replay_from number progress (line ∷ rest) ≡ record { text = []; fault = Some fault } =
@@ -127,7 +141,8 @@ ends_here number progress line rest old fault is =
     record { ends = ap (λ (r : Replayed). r.fault) whole; wrote = rw whole (appends_nothing old) }
 
 -- the first line has a fault
-pub line_stops : (number : ℕ) (progress : Progress) (line : List ℕ) (rest : List (List ℕ)) (old : Option (List ℕ)) (e : ReplayFault) → HasFault (line_taken number progress line) e
+pub line_stops : (number : ℕ) (progress : Progress) (line : List ℕ) (rest : List (List ℕ)) (old : Option (List ℕ)) (e : ReplayFault)
+    → HasFault (line_taken number progress line) e
     → StoppedAt number progress (line ∷ rest) old old e
 line_stops number progress line rest old (faults.Config fault) has = ends_here number progress line rest old (InConfiguration fault) has
 line_stops number progress line rest old (faults.Wire fault) has = ends_here number progress line rest old (InText fault) has
@@ -137,7 +152,8 @@ line_stops number progress line rest old faults.Write has = absurd has
 line_stops number progress line rest old faults.OutOfMemory has = nothing_played number progress (line ∷ rest) old
 
 -- what the first line comes to was not written whole
-pub line_cut : (number : ℕ) (progress : Progress) (next : Progress) (line text front lost : List ℕ) (rest : List (List ℕ)) (old new : Option (List ℕ)) → line_taken number progress line ≡ Ok (next, text) → text ≡ front ++ lost
+pub line_cut : (number : ℕ) (progress : Progress) (next : Progress) (line text front lost : List ℕ) (rest : List (List ℕ)) (old new : Option (List ℕ))
+    → line_taken number progress line ≡ Ok (next, text) → text ≡ front ++ lost
     → Appends old new front → Cut number progress (line ∷ rest) old new
 line_cut number progress next line text front lost rest old new is split wrote =
     let last = replay_from (number + 1) next rest in
@@ -154,13 +170,16 @@ line_cut number progress next line text front lost rest old new is split wrote =
 played_alone : (number : ℕ) (first next : Progress) (lines : List (List ℕ)) (old new : Option (List ℕ)) (p : Played number first next lines old new)
     → replay_from number first lines ≡ record { text = p.text; fault = fault_at_end next }
 played_alone number first next lines old new p =
-    ap (replay_from number first) (sym (append-nil lines)) ∙ replays_on number first next lines [] p.text p.took ∙ ap (λ (t : List ℕ). record { text = t; fault = fault_at_end next }) (append-nil p.text)
+    ap (replay_from number first) (sym (append-nil lines)) ∙ replays_on number first next lines [] p.text p.took
+    ∙ ap (λ (t : List ℕ). record { text = t; fault = fault_at_end next }) (append-nil p.text)
 
-pub all_played : (number : ℕ) (first next : Progress) (lines : List (List ℕ)) (old new : Option (List ℕ)) → Played number first next lines old new → Appends old new (replay_from number first lines).text
+pub all_played : (number : ℕ) (first next : Progress) (lines : List (List ℕ)) (old new : Option (List ℕ))
+    → Played number first next lines old new → Appends old new (replay_from number first lines).text
 all_played number first next lines old new p = rw (played_alone number first next lines old new p) p.wrote
 
 -- the input ends behind lines that were played
-pub ends_played : (number : ℕ) (first next : Progress) (lines : List (List ℕ)) (old new : Option (List ℕ)) (fault : Option ScriptFault) → Played number first next lines old new → fault_at_end next ≡ fault → Ended number first lines fault old new
+pub ends_played : (number : ℕ) (first next : Progress) (lines : List (List ℕ)) (old new : Option (List ℕ)) (fault : Option ScriptFault)
+    → Played number first next lines old new → fault_at_end next ≡ fault → Ended number first lines fault old new
 ends_played number first next lines old new fault p end = record {
   ends = ap (λ (r : Replayed). r.fault) (played_alone number first next lines old new p) ∙ end;
   wrote = all_played number first next lines old new p;

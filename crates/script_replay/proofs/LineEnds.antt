@@ -1,5 +1,7 @@
 -- Where the lines of a text are.
-use Rattle.std.proofs.Common.{◌≡◌, ℕ, ◌+◌, ◌-◌, ◌<◌, ◌≤◌, Bool, true, false, cond, nat_lt, List, [], ◌∷◌, ◌++◌, length, take, drop, position, get_or, Some, None, refl, sym, ap, ◌∙◌, arith, append_assoc, length-append, length-take}
+use Rattle.std.proofs.Common.{◌≡◌, ℕ, ◌+◌, ◌-◌, ◌<◌, ◌≤◌, Bool, true, false, cond, nat_lt, List, [], ◌∷◌, ◌++◌, length}
+use Rattle.std.proofs.Common.{take, drop, position, get_or, Some, None, refl, sym, ap, ◌∙◌, arith, append_assoc}
+use Rattle.std.proofs.Common.{length-append, length-take}
 use Rattle.std.specs.List.{position_or_len}
 use Rattle.std.specs.Str.Lines.{lines, lines_of_parts, strip_carriage_return}
 use Rattle.std.specs.Io.{IsEmptyOrEndsWith}
@@ -72,5 +74,7 @@ ends_later a (x ∷ b) ended more =
 pub more_lines : (a b : List ℕ) (xs ys : List (List ℕ)) → AreWhole a xs → AreWhole b ys → AreWhole (a ++ b) (xs ++ ys)
 more_lines a b xs ys first second = record {
   ended = ends_later a b first.ended second.ended;
-  cut = λ more. ap lines (append_assoc a b more) ∙ first.cut (b ++ more) ∙ ap (λ (l : List (List ℕ)). xs ++ l) (second.cut more) ∙ sym (append_assoc xs ys (lines more));
+  cut =
+      λ more. ap lines (append_assoc a b more) ∙ first.cut (b ++ more)
+      ∙ ap (λ (l : List (List ℕ)). xs ++ l) (second.cut more) ∙ sym (append_assoc xs ys (lines more));
 }

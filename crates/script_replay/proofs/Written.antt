@@ -25,7 +25,8 @@ pub record WroteUpTo (old new : Option (List ℕ)) (bytes rest : List ℕ) : Typ
   pub split : bytes ≡ part ++ rest
   pub wrote : Appends old new part
 
-pub wrote_more : (old mid new : Option (List ℕ)) (bytes rest : List ℕ) (n : ℕ) → WroteUpTo old mid bytes rest → Appends mid new (take n rest) → WroteUpTo old new bytes (drop n rest)
+pub wrote_more : (old mid new : Option (List ℕ)) (bytes rest : List ℕ) (n : ℕ) → WroteUpTo old mid bytes rest
+    → Appends mid new (take n rest) → WroteUpTo old new bytes (drop n rest)
 wrote_more old mid new bytes rest n so_far more = record {
   part = so_far.part ++ take n rest;
   split = so_far.split ∙ rw append_assoc (ap (λ (x : List ℕ). so_far.part ++ x) (sym (take-append-drop n rest)));
@@ -33,4 +34,5 @@ wrote_more old mid new bytes rest n so_far more = record {
 }
 
 pub wrote_kept : (old mid new : Option (List ℕ)) (bytes rest : List ℕ) → WroteUpTo old mid bytes rest → Keeps mid new → WroteUpTo old new bytes rest
-wrote_kept old mid new bytes rest so_far kept = record { part = so_far.part; split = so_far.split; wrote = appends_kept old mid new so_far.part so_far.wrote kept }
+wrote_kept old mid new bytes rest so_far kept =
+    record { part = so_far.part; split = so_far.split; wrote = appends_kept old mid new so_far.part so_far.wrote kept }

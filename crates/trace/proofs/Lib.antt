@@ -2,10 +2,7 @@
 mod Telling
 -- What is written in one go, and run by run.
 mod Runs
--- The history before an entry.
-mod Earlier
--- The environments before any call and after an entry.
-mod Opening
+-- The environments after an entry.
 mod Following
 -- Those that an entry reaches.
 mod Reaching

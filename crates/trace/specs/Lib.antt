@@ -11,5 +11,4 @@ pub mod Reading
 pub mod Telling
 pub mod Listings
 -- The environments that a follower keeps.
-pub mod Reaches
 pub mod Sites

@@ -1,5 +1,5 @@
 -- The object of an entry, and the trace of a history: one object for each entry, each on a line of its own.
-use Rattle.std.specs.Prelude.{ℕ, ◌-◌, Bool, if◌then◌else◌, List, [], ◌∷◌, ◌++◌, length, drop, map, codes, decimal, Option, Some, None}
+use Rattle.std.specs.Prelude.{ℕ, Bool, if◌then◌else◌, List, [], ◌∷◌, ◌++◌, length, map, codes, decimal, Option, Some, None}
 use Rattle.std.specs.List.{flat_map}
 use Rattle.arn_ids.specs.declared.config.Config.{Config}
 use Rattle.arn_ids.specs.Environments.{environments}
@@ -100,7 +100,3 @@ trace_from bodies config salt h (entry ∷ older) =
 -- The trace of a history: the lines of all its entries, the oldest first.
 unfoldable pub trace : Bool → Config → ℕ → List Entry → List ℕ
 trace bodies config salt h = trace_from bodies config salt h h
-
--- The entries before the one with a ticket.
-abbrev pub before : List Entry → ℕ → List Entry
-before h ticket = drop (length h - ticket) h

@@ -1,7 +1,7 @@
 //! A call on its way to the environments.
 
-use crate::reach::Reach;
 use call_model::{Call, Ticket};
+use fleet::Reach;
 
 /// A call on its way to the environments that it concerns.
 #[derive(Clone, Copy)]

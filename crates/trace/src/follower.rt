@@ -7,18 +7,17 @@ ghost use Rattle.arn_ids.specs.Faults.{first_fault};
 ghost use Rattle.call_model.specs.Next.{IsLegal};
 ghost use Rattle.env_phase.specs.Taking.{registered_name, IsShort};
 ghost use Rattle.json.specs.Token.{Token};
-ghost use Rattle.trace.specs.Object.{before};
+ghost use Rattle.fleet.specs.Reaches.{before};
 ghost use Rattle.trace.specs.Sites as spec;
 ghost use Rattle.trace.specs.Sites.{sites as sites_in, visited, IsFew, IsFit, IsNumbered};
 
 use crate::arrival::Arrival;
-use crate::reach::Reach;
+use crate::followed::Followed;
 use crate::reached::{count_all, take_within, within};
-use crate::site::Site;
 use arn_ids::{Checked, EnvNo};
 use call_model::{Past, Phase, Ticket};
-use env_phase::Environment;
 use extension_set::Moves;
+use fleet::{Reach, Site};
 use std::alloc::{AllocError, Global};
 use std::marker::Model;
 
@@ -28,7 +27,7 @@ use std::marker::Model;
 #[derive(Drop)]
 pub struct Follower {
     pub(crate) alloc: Global,
-    sites: Vec<Site>,
+    sites: Vec<Followed>,
     // The environments that the newest entry reached.
     reach: Reach,
     moves: Moves,
@@ -36,36 +35,34 @@ pub struct Follower {
 
 impl Model for Follower {
     ghost use Rattle.std.specs.Prelude.{List, map};
-    ghost use Rattle.trace.specs.declared.site.Site.{Site};
+    ghost use Rattle.trace.specs.declared.followed.Followed.{Followed};
     ghost use Rattle.trace.specs.Sites.{seen};
 
-    ghost Value = { List Site };
+    ghost Value = { List Followed };
 
     ghost view = { λ f. map (seen f.reach) f.sites.items };
 }
 
 /// Returns an environment before any call.
-fn open_site(alloc: Global, config: &Checked, env: EnvNo) -> Result<Site, AllocError>
+fn open_site(alloc: Global, config: &Checked, env: EnvNo) -> Result<Followed, AllocError>
     requires sound { first_fault config.now ≡ None }
     requires low { 1 ≤ env }
     requires high { env ≤ length (owners config.now) }
     ensures { IfOk result (λ site. site ≡ spec.site config.now [] env) }
 {
-    let function = config.function_of(env);
-    Ok(Site {
+    Ok(Followed {
         number: env,
-        function,
         requests: 0,
         before: Phase::Starting {
             deadline: None,
             bound: None,
         },
-        environment: Environment::open(alloc, config.function(function))?,
+        site: Site::open(alloc, config, env)?,
     })
 }
 
 /// Returns the environments before any call.
-fn open_sites(alloc: Global, config: &Checked) -> Result<Vec<Site>, AllocError>
+fn open_sites(alloc: Global, config: &Checked) -> Result<Vec<Followed>, AllocError>
     requires { first_fault config.now ≡ None }
     ensures { IfOk result (λ sites. sites.items ≡ sites_in config.now []) }
 {
@@ -117,9 +114,9 @@ impl Follower {
 
     /// Returns the environments that the newest entry reached, in the order of their numbers: it moved no
     /// other.
-    pub(crate) fn reached(&self) -> &[Site]
+    pub(crate) fn reached(&self) -> &[Followed]
         requires { IsNumbered self.now }
-        ensures { (f : Site → List Token) → ((s : Site) → s.before ≡ s.environment.stand.phase → f s ≡ [])
+        ensures { (f : Followed → List Token) → ((s : Followed) → s.before ≡ s.site.environment.stand.phase → f s ≡ [])
             → flat_map f result.now ≡ flat_map f self.now }
     {
         within(&self.sites, self.reach)

@@ -7,6 +7,7 @@ mod arrival;
 mod call_object;
 mod draft;
 mod environment_object;
+mod followed;
 mod follower;
 pub mod laws;
 mod line;
@@ -14,9 +15,7 @@ mod listing;
 mod object;
 mod part;
 mod phase_object;
-mod reach;
 mod reached;
-mod site;
 mod teller;
 
 pub use draft::Draft;

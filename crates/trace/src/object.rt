@@ -5,7 +5,8 @@ ghost use Rattle.std.specs.List.{flat_map};
 ghost use Rattle.call_types.specs.declared.call.Entry.{Entry};
 ghost use Rattle.trace.specs.AnswerObject.{answer_object};
 ghost use Rattle.trace.specs.Members.{object};
-ghost use Rattle.trace.specs.Object.{before, charged_at, expired, object_tokens};
+ghost use Rattle.fleet.specs.Reaches.{before};
+ghost use Rattle.trace.specs.Object.{charged_at, expired, object_tokens};
 ghost use Rattle.trace.specs.Object.{released, request_if, told};
 ghost use Rattle.trace.specs.Sites.{sites as sites_in, turn_of};
 ghost use Rattle.trace.specs.Telling.{Tells};
@@ -13,10 +14,10 @@ ghost use Rattle.trace.specs.Telling.{Tells};
 use crate::answer_object::say_answer;
 use crate::call_object::say_call;
 use crate::draft::Draft;
+use crate::followed::Followed;
 use crate::follower::Follower;
 use crate::part::Part;
 use crate::phase_object::{say_all_released, say_phases};
-use crate::site::Site;
 use crate::teller::{Teller, widened};
 use arn_ids::EnvNo;
 use call_model::{Answer, Call, Entry, Past, Ticket};
@@ -69,7 +70,7 @@ fn say_entry(
     bodies: bool,
     ticket: Ticket,
     entry: &Entry,
-    sites: &[Site],
+    sites: &[Followed],
 )
     ensures { Tells (told bodies past.now.config.now past.now.salt (reverse past.now.entries.now.0) ticket
         entry.now (map turn_of sites.now)) teller.old teller.new }

@@ -10,8 +10,8 @@ ghost use Rattle.trace.specs.PhaseObject.{phase_object};
 ghost use Rattle.trace.specs.Sites.{turn_of};
 ghost use Rattle.trace.specs.Telling.{Tells};
 
+use crate::followed::Followed;
 use crate::part::Part;
-use crate::site::Site;
 use crate::teller::Teller;
 use arn_ids::EnvNo;
 use call_model::{Phase, Reason, Ticket};
@@ -147,16 +147,16 @@ fn same_phase(one: Phase, other: Phase) -> bool
 }
 
 /// Tells the phase of an environment after the newest entry, if the entry moved it.
-fn say_moved(teller: &mut Teller, site: &Site)
-    ensures { Tells (moved (turn_of site.now)) teller.old teller.new }
+fn say_moved(teller: &mut Teller, followed: &Followed)
+    ensures { Tells (moved (turn_of followed.now)) teller.old teller.new }
 {
-    if !same_phase(site.before, site.environment.phase()) {
-        say_phase(teller, site.number, &site.environment);
+    if !same_phase(followed.before, followed.site.environment.phase()) {
+        say_phase(teller, followed.number, &followed.site.environment);
     }
 }
 
 /// Tells the phases of all environments that the newest entry moved.
-pub(crate) fn say_phases(teller: &mut Teller, sites: &[Site])
+pub(crate) fn say_phases(teller: &mut Teller, sites: &[Followed])
     ensures { Tells (flat_map (λ s. moved (turn_of s)) sites.now) teller.old teller.new }
 {
     for site in sites {
@@ -176,16 +176,16 @@ fn ended_by(before: Phase, after: Phase) -> Option<Ticket>
 }
 
 /// Tells the ticket of the invocation whose charge the newest entry ended at an environment.
-fn say_released(teller: &mut Teller, site: &Site)
-    ensures { Tells (released (turn_of site.now)) teller.old teller.new }
+fn say_released(teller: &mut Teller, followed: &Followed)
+    ensures { Tells (released (turn_of followed.now)) teller.old teller.new }
 {
-    if let Some(invoke) = ended_by(site.before, site.environment.phase()) {
+    if let Some(invoke) = ended_by(followed.before, followed.site.environment.phase()) {
         teller.say_all(&[Part::Number(invoke)]);
     }
 }
 
 /// Tells the tickets of all invocations whose charge the newest entry ended.
-pub(crate) fn say_all_released(teller: &mut Teller, sites: &[Site])
+pub(crate) fn say_all_released(teller: &mut Teller, sites: &[Followed])
     ensures { Tells (flat_map (λ s. released (turn_of s)) sites.now) teller.old teller.new }
 {
     for site in sites {

@@ -3,18 +3,18 @@
 ghost use Rattle.std.specs.Prelude.{◌≡◌, ◌==◌, ◌<◌, ◌^◌, if◌then◌else◌, length, map, slice_set, slice_index_or, All};
 ghost use Rattle.std.specs.List.{filter};
 ghost use Rattle.env_phase.specs.Taking.{registered_name, IsShort};
-ghost use Rattle.trace.specs.Reaches.{reaches};
+ghost use Rattle.fleet.specs.Reaches.{reaches};
 ghost use Rattle.trace.specs.Sites.{counted_in, moved_by, moved_if, HasRoom, IsFew, IsNumbered};
 
 use crate::arrival::Arrival;
-use crate::reach::Reach;
-use crate::site::Site;
+use crate::followed::Followed;
 use arn_ids::EnvNo;
 use call_model::Call;
 use extension_set::Moves;
+use fleet::Reach;
 
 /// Returns the environment with a number, if there is one.
-fn numbered(sites: &[Site], env: EnvNo) -> &[Site]
+fn numbered(sites: &[Followed], env: EnvNo) -> &[Followed]
     requires { IsNumbered sites.now }
     ensures { result.now ≡ filter (λ s. env == s.number) sites.now }
 {
@@ -26,7 +26,7 @@ fn numbered(sites: &[Site], env: EnvNo) -> &[Site]
 }
 
 /// Returns the environments that are within a reach.
-pub(crate) fn within(sites: &[Site], reach: Reach) -> &[Site]
+pub(crate) fn within(sites: &[Followed], reach: Reach) -> &[Followed]
     requires { IsNumbered sites.now }
     ensures { result.now ≡ filter (λ s. reaches reach s.number) sites.now }
 {
@@ -38,7 +38,7 @@ pub(crate) fn within(sites: &[Site], reach: Reach) -> &[Site]
 }
 
 /// Counts a call at the environments of its function, if it is an Invoke.
-pub(crate) fn count_all(sites: &mut [Site], call: &Call)
+pub(crate) fn count_all(sites: &mut [Followed], call: &Call)
     requires { All IsFew sites.old }
     ensures { sites.new ≡ map (counted_in call.now) sites.old }
 {
@@ -50,19 +50,19 @@ pub(crate) fn count_all(sites: &mut [Site], call: &Call)
 }
 
 /// Lets the environment at an index take a call.
-fn take_at(sites: &mut [Site], index: usize, arrival: &Arrival<'_>, moves: &mut Moves)
+fn take_at(sites: &mut [Followed], index: usize, arrival: &Arrival<'_>, moves: &mut Moves)
     requires there { index < length sites.old }
     requires moment { arrival.now.moment < 2 ^ 53 }
     requires roomy { All HasRoom sites.old }
     requires short { IsShort (registered_name arrival.now.call.now) }
-    ensures { (d : Site) → sites.new
+    ensures { (d : Followed) → sites.new
         ≡ slice_set sites.old index (moved_by arrival.now (slice_index_or sites.old index d)) }
 {
     sites[index].take(arrival, moves);
 }
 
 /// Lets the environment with a number take a call, if there is one.
-fn take_numbered(sites: &mut [Site], env: EnvNo, arrival: &Arrival<'_>, moves: &mut Moves)
+fn take_numbered(sites: &mut [Followed], env: EnvNo, arrival: &Arrival<'_>, moves: &mut Moves)
     requires numbered { IsNumbered sites.old }
     requires moment { arrival.now.moment < 2 ^ 53 }
     requires roomy { All HasRoom sites.old }
@@ -76,7 +76,7 @@ fn take_numbered(sites: &mut [Site], env: EnvNo, arrival: &Arrival<'_>, moves: &
 }
 
 /// Lets each environment take a call.
-fn take_all(sites: &mut [Site], arrival: &Arrival<'_>, moves: &mut Moves)
+fn take_all(sites: &mut [Followed], arrival: &Arrival<'_>, moves: &mut Moves)
     requires moment { arrival.now.moment < 2 ^ 53 }
     requires roomy { All HasRoom sites.old }
     requires short { IsShort (registered_name arrival.now.call.now) }
@@ -88,7 +88,7 @@ fn take_all(sites: &mut [Site], arrival: &Arrival<'_>, moves: &mut Moves)
 }
 
 /// Lets the environments that a call reaches take it, once it is counted. `moves` is scratch space.
-pub(crate) fn take_within(sites: &mut [Site], arrival: &Arrival<'_>, moves: &mut Moves)
+pub(crate) fn take_within(sites: &mut [Followed], arrival: &Arrival<'_>, moves: &mut Moves)
     requires numbered { IsNumbered sites.old }
     requires moment { arrival.now.moment < 2 ^ 53 }
     requires roomy { All HasRoom sites.old }

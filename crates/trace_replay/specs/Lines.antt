@@ -4,7 +4,8 @@ use Rattle.std.specs.Io.KnownBytes.{Appends}
 use Rattle.account_book.specs.Book.{Kept}
 use Rattle.script_replay.specs.declared.fault.ReplayFault.{ReplayFault}
 use Rattle.script_replay.specs.declared.fault.ReplayFault.TheVariants as faults
-use Rattle.trace.specs.Object.{before, trace_from}
+use Rattle.fleet.specs.Reaches.{before}
+use Rattle.trace.specs.Object.{trace_from}
 use Rattle.trace_replay.specs.Traces.{CutShort, book_trace}
 
 -- The lines of the entries before the one with a ticket.

@@ -3,7 +3,7 @@
 ghost use Rattle.std.specs.Prelude.{◌≡◌, ◌+◌, ◌<◌, ◌≤◌, ◌^◌, length, OnOk, OnErr, IfErr};
 ghost use Rattle.std.specs.Io.KnownBytes.{Appends};
 ghost use Rattle.script_replay.specs.declared.fault.ReplayFault.TheVariants as faults;
-ghost use Rattle.trace.specs.Object.{before};
+ghost use Rattle.fleet.specs.Reaches.{before};
 ghost use Rattle.trace.specs.Sites.{sites};
 ghost use Rattle.trace_replay.specs.Lines.{Fails, Flushed, LineAdded};
 ghost use Rattle.trace_replay.specs.Traces.{CutShort, book_trace};

@@ -5,7 +5,7 @@ use Rattle.call_types.specs.declared.answer.Answer.{Answer}
 use Rattle.account_book.specs.Reserving.{in_force}
 use Rattle.account_book.specs.Crew.{Crew}
 use Rattle.account_book.specs.Fleets.{flown}
-use Rattle.account_book.specs.Reaches.{with_own, homed}
+use Rattle.account_book.specs.OwnAnswers.{with_own, homed}
 use Rattle.account_book.proofs.InForce.{in_order, pool_after}
 use Rattle.account_book.proofs.EntryAnswers.{answers_parts}
 use Rattle.account_book.proofs.answering.answer_call.Goals as goal

@@ -3,7 +3,7 @@ use Rattle.std.specs.List.{list_any}
 use Rattle.concurrency_pool.specs.Pools.{usage_at}
 use Rattle.env_phase.specs.Taking.{has_answered}
 use Rattle.account_book.specs.Premature.{in_way}
-use Rattle.account_book.specs.declared.site.Site.{Site}
+use Rattle.fleet.specs.declared.site.Site.{Site}
 use Rattle.account_book.proofs.premature.has_answered_in_way.Given as goal
 
 abbrev pub invariant-loop-site : goal.invariant-loop-site

@@ -27,11 +27,13 @@ no_bytes : All (λ (b : ℕ). b < 256) []
 no_bytes = λ k d low. omega (arith, low)
 
 asks : AreTaken one 100 ((0, RuntimeNext 1) ∷ [])
-unfolding due answers first_answers first_answer second_answer answer_to own_first role own_answer closes kept to_waiting members seen after lived life verdict in_flight reservation place
+unfolding due answers first_answers first_answer second_answer answer_to own_first role own_answer closes kept
+    to_waiting members seen after lived life verdict in_flight reservation place
 asks = (tt, record { timed = (omega arith, (omega arith, omega arith)); bytes = no_bytes; room = refl })
 
 output : (body : List ℕ) → IsSent body → HasOutput body (led_to one (answered_with body))
-unfolding next added due answers first_answers first_answer second_answer answer_to own_first role own_answer closes kept to_waiting members seen after lived life verdict in_flight reservation place reply_text
+unfolding next added due answers first_answers first_answer second_answer answer_to own_first role own_answer closes
+    kept to_waiting members seen after lived life verdict in_flight reservation place reply_text
 output body sent = record {
   reached = record {
     calls = answered_with body;
@@ -48,7 +50,8 @@ output body sent = record {
 }
 
 payload : (body : List ℕ) → IsSent body → HasPayload body (led_to one (invoked_with body))
-unfolding next added due answers first_answers first_answer second_answer answer_to own_first role own_answer closes kept to_waiting members seen after lived life verdict in_flight reservation place reply_text
+unfolding next added due answers first_answers first_answer second_answer answer_to own_first role own_answer closes
+    kept to_waiting members seen after lived life verdict in_flight reservation place reply_text
 payload body sent = record {
   reached = record {
     calls = invoked_with body;

@@ -22,7 +22,8 @@ passed w = let more : 1 ≤ 0 = w.reserved 0 refl in omega (arith, more)
 
 -- the history in which one waits is legal
 waits_legal : IsLegal one one_waits
-unfolding due answers first_answers first_answer second_answer answer_to own_first role own_answer closes kept to_waiting members seen after lived life verdict in_flight reservation place
+unfolding due answers first_answers first_answer second_answer answer_to own_first role own_answer closes kept
+    to_waiting members seen after lived life verdict in_flight reservation place
 waits_legal = (tt, record { later = omega arith; timely = refl; answers = refl; place = refl })
 
 no_two : Waits one two_wait 1 1 ⊎ Answered one two_wait 1 → ⊥

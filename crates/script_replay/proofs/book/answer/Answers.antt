@@ -20,7 +20,8 @@ pub returns-in-Ok-clause-text : goal.returns-in-Ok-clause-text
 returns-in-Ok-clause-text c =
     let free = not_true _ (λ yes. let never = sym c.in-Ok.is ∙ c.apply.ensures.full.1 yes in cc) in
     let before = c.len-before.ensures ∙ ap length c.entries.ensures ∙ length-reverse _ in
-    on_ok_weaker c.push_from.result (λ wrote. wrote ∙ ap (λ (text : List ℕ). c.args.out.now.items ++ text) (lines_answered _ _ _ _ _ free c.in-Ok.ensures.step before)) c.push_from.ensures
+    on_ok_weaker c.push_from.result
+    (λ wrote. wrote ∙ ap (λ (text : List ℕ). c.args.out.now.items ++ text) (lines_answered _ _ _ _ _ free c.in-Ok.ensures.step before)) c.push_from.ensures
 
 pub returns-in-Err-JournalFull-clause-text : goal.returns-in-Err-JournalFull-clause-text
 unfolding call_answered

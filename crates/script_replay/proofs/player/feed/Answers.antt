@@ -37,4 +37,5 @@ pub returns-clause-ok : goal.returns-clause-ok
 returns-clause-ok g c = on_ok_weaker c.keep-2.result (λ kept. rw kept (going_rest _ _ _ _ _ _ c.loop-line.invariant c.in_default.ensures)) c.keep-2.ensures.kept
 
 pub returns-clause-stopped : goal.returns-clause-stopped
-returns-clause-stopped g c = IfErr-weaker c.keep-2.result _ _ (λ e stopped. stopped_here _ _ _ _ _ _ e c.loop-line.invariant (λ more. stopped _ more)) c.keep-2.ensures.stopped
+returns-clause-stopped g c =
+    IfErr-weaker c.keep-2.result _ _ (λ e stopped. stopped_here _ _ _ _ _ _ e c.loop-line.invariant (λ more. stopped _ more)) c.keep-2.ensures.stopped

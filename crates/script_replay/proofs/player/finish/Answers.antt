@@ -12,4 +12,5 @@ pub returns-in-AtStart-clause-stopped : goal.returns-in-AtStart-clause-stopped
 returns-in-AtStart-clause-stopped g c = ends_played _ _ _ _ _ _ _ c.in_ok-play_last.ensures.ok (ap (λ (p : Progress). fault_at_end (seen p)) c.in-AtStart.is)
 
 pub returns-in-AfterForm-clause-stopped : goal.returns-in-AfterForm-clause-stopped
-returns-in-AfterForm-clause-stopped g c = ends_played _ _ _ _ _ _ _ c.in_ok-play_last.ensures.ok (ap (λ (p : Progress). fault_at_end (seen p)) c.in-AfterForm.is)
+returns-in-AfterForm-clause-stopped g c =
+    ends_played _ _ _ _ _ _ _ c.in_ok-play_last.ensures.ok (ap (λ (p : Progress). fault_at_end (seen p)) c.in-AfterForm.is)

@@ -40,7 +40,9 @@ loop-preserved g c = elim c.match-read.branch [
   | in-Ok+in_ok-feed-in-Ok w ↦ rw (w.player-is, w.writer-is) (
       let going = w.in_ok-feed-in-Ok.ensures.ok in record {
         so_far = read_piece _ _ _ _ _ _ _ _ _ c.loop.invariant.so_far w.in-Ok.ensures.bytes.0 going;
-        line = omega (arith, c.loop.invariant.line, going.few, going.counted, length-take-le w.in-Ok.n c.read.new.buf, w.in-Ok.ensures.bound, c.loop.auto.piece, c.requires.small);
+        line =
+            omega
+            (arith, c.loop.invariant.line, going.few, going.counted, length-take-le w.in-Ok.n c.read.new.buf, w.in-Ok.ensures.bound, c.loop.auto.piece, c.requires.small);
       })
   | in-Err+else-ne w ↦ rw (w.player-is, w.writer-is) (record {
     so_far = read_kept _ _ _ _ _ _ c.loop.invariant.so_far w.in-Err.ensures.bytes;

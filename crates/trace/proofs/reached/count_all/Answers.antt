@@ -1,18 +1,18 @@
 use Rattle.std.proofs.Common.{◌∙◌, ◌++◌, ℕ, List, map, take, drop, get_or, set, sym, ap, ap₂, add-one}
-use Rattle.trace.specs.declared.site.Site.{Site}
+use Rattle.trace.specs.declared.followed.Followed.{Followed}
 use Rattle.trace.specs.Sites.{counted_in}
-use Rattle.trace.proofs.Opening.{not_yet, one_more}
+use Rattle.fleet.proofs.Loops.{not_yet, one_more}
 use Rattle.trace.proofs.Reaching.{nothing_counted}
 use Rattle.trace.proofs.reached.count_all.Goals as goal
 
 pub loop-index-preserved : goal.loop-index-preserved
 loop-index-preserved c =
     let n : ℕ = c.loop-index.index in
-    let s : Site = c.index-sites-index.result in
-    let first : List Site = c.args.sites.now in
+    let s : Followed = c.index-sites-index.result in
+    let first : List Followed = c.args.sites.now in
     ap (set c.loop-index.sites n) c.count.ensures
-    ∙ ap₂ (λ (xs : List Site) (x : Site). set xs n (counted_in c.args.call.now x)) c.loop-index.invariant
-    (ap (λ (xs : List Site). get_or xs n s) c.loop-index.invariant ∙ not_yet (counted_in c.args.call.now) first n s c.loop-index-test.true)
+    ∙ ap₂ (λ (xs : List Followed) (x : Followed). set xs n (counted_in c.args.call.now x)) c.loop-index.invariant
+    (ap (λ (xs : List Followed). get_or xs n s) c.loop-index.invariant ∙ not_yet (counted_in c.args.call.now) first n s c.loop-index-test.true)
     ∙ one_more (counted_in c.args.call.now) first n s c.loop-index-test.true
     ∙ ap (λ (m : ℕ). map (counted_in c.args.call.now) (take m first) ++ drop m first) (sym (add-one n))
 

@@ -1,5 +1,5 @@
 use Rattle.std.proofs.Common.{◌≡◌, ◌≤◌, ◌-◌, length}
-use Rattle.trace.specs.Object.{before}
+use Rattle.fleet.specs.Reaches.{before}
 use Rattle.trace.specs.Sites.{sites}
 use Rattle.trace_replay.specs.Lines.{Underway}
 use Rattle.trace_replay.proofs.history.write_trace.Given as goal

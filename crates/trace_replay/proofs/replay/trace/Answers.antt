@@ -8,4 +8,5 @@ returns-in_err-book-clause-stopped g c =
     rw (p.1, p.2) (stops_reading _ _ _ _ _ c.in_err-book.ensures.stopped)
 
 pub returns-clause-stopped : goal.returns-clause-stopped
-returns-clause-stopped g c = IfErr-weaker c.write_trace.result _ _ (λ e failed. stops_writing _ _ _ _ _ _ e c.in_ok-book.ensures.ok failed) c.write_trace.ensures.err
+returns-clause-stopped g c =
+    IfErr-weaker c.write_trace.result _ _ (λ e failed. stops_writing _ _ _ _ _ _ e c.in_ok-book.ensures.ok failed) c.write_trace.ensures.err

@@ -4,7 +4,7 @@ use Rattle.arn_ids.specs.Environments.{owners}
 use Rattle.env_phase.specs.Meeting.{known_at}
 use Rattle.account_book.specs.Fleets.{site_at}
 use Rattle.account_book.specs.Pages.{Pages}
-use Rattle.account_book.specs.declared.site.Site.{Site}
+use Rattle.fleet.specs.declared.site.Site.{Site}
 use Rattle.account_book.proofs.FleetMeets.{sites_length}
 use Rattle.account_book.proofs.Visiting.{site_of}
 use Rattle.account_book.proofs.journal.Journal.environment.Goals as goal

@@ -5,8 +5,8 @@ use Rattle.std.specs.Arc.{arc_value}
 use Rattle.arn_ids.specs.Environments.{environments}
 use Rattle.call_model.specs.Life.{seen}
 use Rattle.env_phase.specs.Taking.{is_off}
-use Rattle.account_book.specs.declared.site.Site.{Site}
-use Rattle.account_book.specs.Taking.{site}
+use Rattle.fleet.specs.declared.site.Site.{Site}
+use Rattle.fleet.specs.Sites.{site}
 use Rattle.account_book.proofs.journal.Journal.is_off.Goals as goal
 
 pub returns : goal.returns

@@ -5,7 +5,7 @@ use Rattle.call_types.specs.declared.call.Call.TheVariants.{Invoke}
 use Rattle.call_model.specs.Limits.{Admits, admitted_to, verdict}
 use Rattle.call_model.proofs.Flight.{place_for_between}
 use Rattle.concurrency_pool.specs.Numbers.{Numbers}
-use Rattle.account_book.specs.declared.site.Site.{Site}
+use Rattle.fleet.specs.declared.site.Site.{Site}
 use Rattle.account_book.specs.Pages.{Pages}
 use Rattle.account_book.specs.Premature.{would_be_premature}
 use Rattle.account_book.proofs.AnsweredInWay.{answered_at, answered_in_way}

@@ -4,7 +4,7 @@ use Rattle.std.specs.Arc.{arc_value}
 use Rattle.call_types.specs.declared.answer.Throttle.TheVariants.{Environments as ByEnvironments}
 use Rattle.concurrency_pool.specs.Numbers.{Numbers}
 use Rattle.environment_step.specs.After.{Known}
-use Rattle.account_book.specs.declared.site.Site.{Site}
+use Rattle.fleet.specs.declared.site.Site.{Site}
 use Rattle.account_book.specs.Premature.{has_answered_in_way, is_unstarted}
 use Rattle.account_book.proofs.AnsweredInWay.{answered_at, answered_in_way}
 use Rattle.account_book.proofs.journal.Journal.would_start_beside.Goals as goal

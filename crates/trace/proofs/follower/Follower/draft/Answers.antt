@@ -1,7 +1,7 @@
 use Rattle.std.proofs.Common.{◌+◌, ◌∙◌, List, reverse}
 use Rattle.std.proofs.lemmas.Result.{IfOk-weaker}
 use Rattle.call_types.specs.declared.call.Entry.{Entry}
-use Rattle.trace.specs.Object.{before}
+use Rattle.fleet.specs.Reaches.{before}
 use Rattle.trace.proofs.Lines.{drafted, told_here}
 use Rattle.trace.proofs.Reaching.{numbered_sites, told_of}
 use Rattle.trace.proofs.follower.Follower.draft.Goals as goal

@@ -2,11 +2,11 @@ use Rattle.std.proofs.Common.{◌≡◌, ◌+◌, ◌-◌, ◌∷◌, ◌∙◌,
 use Rattle.std.proofs.lemmas.List.{length-reverse}
 use Rattle.call_types.specs.declared.call.Entry.{Entry}
 use Rattle.call_model.specs.Next.{IsLegal}
-use Rattle.trace.specs.declared.reach.Reach.{Reach}
-use Rattle.trace.specs.Object.{before}
-use Rattle.trace.specs.Reaches.{reach}
+use Rattle.fleet.specs.declared.reach.Reach.{Reach}
+use Rattle.fleet.specs.Reaches.{before}
+use Rattle.fleet.specs.Reaches.{reach}
 use Rattle.trace.specs.Sites.{sites, visited_by}
-use Rattle.trace.proofs.Earlier.{legal_drop, length_before, one_later}
+use Rattle.fleet.proofs.Earlier.{legal_drop, length_before, one_later}
 use Rattle.trace.proofs.Following.{few_sites, visit_sites}
 use Rattle.trace.proofs.Reaching.{numbered_sites}
 use Rattle.trace.proofs.follower.Follower.follow.Goals as goal

@@ -1,6 +1,6 @@
 use Rattle.std.proofs.Common.{◌∙◌, ap, map}
 use Rattle.trace.specs.Sites.{seen}
-use Rattle.trace.specs.declared.reach.Reach.TheVariants.{Nowhere}
+use Rattle.fleet.specs.declared.reach.Reach.TheVariants.{Nowhere}
 use Rattle.trace.proofs.Reaching.{seen_first}
 use Rattle.trace.proofs.follower.Follower.open.Goals as goal
 

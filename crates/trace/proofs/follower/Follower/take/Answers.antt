@@ -1,7 +1,7 @@
 use Rattle.std.proofs.Common.{◌≡◌, ◌∙◌, List, map, ap, refl}
 use Rattle.std.proofs.lemmas.List.{with_items_is}
 use Rattle.trace.specs.Sites.{counted_in, moved_if, seen, visited, HasRoom, IsFew}
-use Rattle.trace.specs.declared.site.Site.{Site}
+use Rattle.trace.specs.declared.followed.Followed.{Followed}
 use Rattle.trace.proofs.Reaching.{all_after, all_before, numbered_after, numbered_before, seen_next}
 use Rattle.trace.proofs.follower.Follower.take.Goals as goal
 
@@ -24,7 +24,7 @@ take_within-requires-clause-roomy c =
 
 pub returns : goal.returns
 returns c =
-    let raw : List Site = c.self.inside.sites.items in
+    let raw : List Followed = c.self.inside.sites.items in
     let counted : c.count_all.new.sites ≡ map (counted_in c.args.arrival.now.call.now) raw = c.count_all.ensures ∙ ap (map (counted_in c.args.arrival.now.call.now)) c.as_mut_slice-sites.ensures.value in
     ap (map (seen c.args.arrival.now.reach))
     (with_items_is c.self.inside.sites c.take_within.new.sites (c.take_within.auto.sites ∙ c.count_all.auto.sites ∙ c.as_mut_slice-sites.ensures.len)

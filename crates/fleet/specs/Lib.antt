@@ -1,0 +1,4 @@
+-- The environments that an entry reaches.
+pub mod Reaches
+-- The environments after a history.
+pub mod Sites
