@@ -20,8 +20,11 @@ use Rattle.account_lock.proofs.Waiting.{still_waiting}
 use Rattle.account_lock.proofs.Searching.{after_rise, with_own}
 
 -- the answers of what was added
-pub behind : (book after : Booked) (now : ℕ) (call : Call) (n : ℕ) → after ≡ next_book book now call → n ≡ length book.history → answers_of (drop n (reverse after.history)) ≡ given (added_to book now call)
-behind book after now call n step at = ap answers_of (newest (added_to book now call) book.history after.history n (ap (λ (b : Booked). b.history) step ∙ next_is book.config book.history now call) at)
+pub behind : (book after : Booked) (now : ℕ) (call : Call) (n : ℕ) → after ≡ next_book book now call
+    → n ≡ length book.history → answers_of (drop n (reverse after.history)) ≡ given (added_to book now call)
+behind book after now call n step at =
+    ap answers_of
+    (newest (added_to book now call) book.history after.history n (ap (λ (b : Booked). b.history) step ∙ next_is book.config book.history now call) at)
 
 pub within : (book after : Booked) (now : ℕ) (call : Call) (n : ℕ) → after ≡ next_book book now call → n ≡ length book.history → n ≤ length after.history
 within book after now call n step at =
@@ -32,9 +35,12 @@ pub risen_by : (book after : Booked) (now : ℕ) (call : Call) (before : Stats) 
     → (before.admitted ≤ admitted after.history) × (before.throttled ≤ throttled after.history) × (before.failed ≤ failed after.history)
 risen_by book after now call before was step =
     let r = risen book.config book.history now call in
-    coe 1 0 (i. ((was i).admitted ≤ admitted (step i).history) × ((was i).throttled ≤ throttled (step i).history) × ((was i).failed ≤ failed (step i).history)) (r.admitted, r.throttled, r.failed)
+    coe 1 0
+    (i. ((was i).admitted ≤ admitted (step i).history) × ((was i).throttled ≤ throttled (step i).history) × ((was i).failed ≤ failed (step i).history))
+    (r.admitted, r.throttled, r.failed)
 
-pub rise_by : (book after : Booked) (now : ℕ) (call : Call) (before : Stats) → before ≡ stats book.config book.history → after ≡ next_book book now call → IsWithin book.config call
+pub rise_by : (book after : Booked) (now : ℕ) (call : Call) (before : Stats) → before ≡ stats book.config book.history
+    → after ≡ next_book book now call → IsWithin book.config call
     → counts 1 (admitted after.history - before.admitted) (throttled after.history - before.throttled) (failed after.history - before.failed) ≡ counts_of (added_to book now call)
 rise_by book after now call before was step w =
     (λ i. counts 1 (admitted (step i).history - (was i).admitted) (throttled (step i).history - (was i).throttled) (failed (step i).history - (was i).failed))
@@ -42,7 +48,8 @@ rise_by book after now call before was step w =
 
 -- all bells are in rising order, that of the call behind those of the tickets that waited before
 pub rising_by : {B : Type 0} (book after : Booked) (now : ℕ) (call : Call) (t : ℕ) (bells stored : List (ℕ × B)) (bell : Option B) (totals : Counts)
-    → IsDesk (opened book bells totals) → after ≡ next_book book now call → t + 1 ≡ length after.history → stored ≡ bells ++ own_bell t bell → are_rising stored ≡ true
+    → IsDesk (opened book bells totals) → after ≡ next_book book now call → t + 1 ≡ length after.history
+    → stored ≡ bells ++ own_bell t bell → are_rising stored ≡ true
 rising_by book after now call t bells stored bell totals d step last all =
     ap are_rising all ∙ with_own book.config book.history now call t bells bell (last ∙ ap (λ (b : Booked). length b.history) step) d.waiting d.rising
 
@@ -56,7 +63,14 @@ desk_kept book after now call t bells left bell totals sums d w step last stay s
     let h = book.history in
     record {
       legal = coe 1 0 (i. IsLegal (step i).config (step i).history) (legal_next book.config h now call d.legal called);
-      waiting = coe 1 0 (i. list_all (λ b. pending (step i).history b.0) (stay i) ≡ true) (still_waiting book.config h now call t bells bell d.legal called (last ∙ ap (λ (b : Booked). length b.history) step) d.waiting);
-      rising = ap are_rising stay ∙ after_rise (given (added_to book now call)) (bells ++ own_bell t bell) (rising_by book after now call t bells (bells ++ own_bell t bell) bell totals d step last refl);
-      counted = sum ∙ ap (λ (c : Counts). plus c (counts_of (added_to book now call))) d.counted ∙ counts_next book.config h now call ∙ sym (ap (λ (b : Booked). counts_of b.history) step);
+      waiting =
+          coe 1 0 (i. list_all (λ b. pending (step i).history b.0) (stay i) ≡ true)
+          (still_waiting book.config h now call t bells bell d.legal called (last ∙ ap (λ (b : Booked). length b.history) step) d.waiting);
+      rising =
+          ap are_rising stay
+          ∙ after_rise (given (added_to book now call)) (bells ++ own_bell t bell)
+          (rising_by book after now call t bells (bells ++ own_bell t bell) bell totals d step last refl);
+      counted =
+          sum ∙ ap (λ (c : Counts). plus c (counts_of (added_to book now call))) d.counted
+          ∙ counts_next book.config h now call ∙ sym (ap (λ (b : Booked). counts_of b.history) step);
     }

@@ -1,5 +1,6 @@
 -- What is kept of calls, and the history.
-use Rattle.std.proofs.Common.{◌≡◌, ℕ, ◌+◌, ◌<◌, ◌≤◌, ◌==◌, Bool, true, false, cond, List, [], ◌∷◌, length, reverse, Option, Some, None, min, refl, sym, ap, ◌∙◌, arith, if◌then◌else◌}
+use Rattle.std.proofs.Common.{◌≡◌, ℕ, ◌+◌, ◌<◌, ◌≤◌, ◌==◌, Bool, true, false, cond, List, [], ◌∷◌, length, reverse}
+use Rattle.std.proofs.Common.{Option, Some, None, min, refl, sym, ap, ◌∙◌, arith, if◌then◌else◌}
 use Rattle.std.specs.Prelude.{is_some, nat_lt, slice_get}
 use Rattle.std.specs.List.{All}
 use Rattle.std.proofs.lemmas.Bool.Decides.{nat_tests}
@@ -75,11 +76,13 @@ none_stands {X = X} wanted (pair ∷ pairs) t none agree =
     go false e rest = omega (arith, rest)
 
 -- so it is over tallies
-none_stand : (wanted : ℕ → Option Head) (tallies : List Tallied) (t : ℕ) → wanted t ≡ None → All (λ tally. Agree wanted tally.held.kept.calls t) tallies → calls_of t tallies ≡ 0
+none_stand : (wanted : ℕ → Option Head) (tallies : List Tallied) (t : ℕ) → wanted t ≡ None
+    → All (λ tally. Agree wanted tally.held.kept.calls t) tallies → calls_of t tallies ≡ 0
 none_stand wanted [] t none agree = refl
 none_stand wanted (tally ∷ tallies) t none agree =
     sum_by-cons (λ (x : Tallied). occurrences t x.held.kept.calls) tally tallies
-    ∙ omega (arith, none_stands wanted tally.held.kept.calls t none (All-head (λ (x : Tallied). Agree wanted x.held.kept.calls t) tally tallies agree), none_stand wanted tallies t none (All-tail (λ (x : Tallied). Agree wanted x.held.kept.calls t) tally tallies agree))
+    ∙ omega
+    (arith, none_stands wanted tally.held.kept.calls t none (All-head (λ (x : Tallied). Agree wanted x.held.kept.calls t) tally tallies agree), none_stand wanted tallies t none (All-tail (λ (x : Tallied). Agree wanted x.held.kept.calls t) tally tallies agree))
 
 -- what four searches look for
 abbrev HeadsAt : List Entry → List Tallied → ℕ → Type 0
@@ -123,17 +126,20 @@ back all h tallies m t marks agree =
     ((agree.heads, (λ lt. agree.once)), (agree.rising, (λ a lt e. let k = agree.kept a e in let mark = marks lt in omega arith)))
 
 -- Four searches together look for a ticket at which the calls don't agree.
-pub calls_agree : (all : Bool) (h : List Entry) (tallies : List Tallied) (m : ℕ → ℕ) (a b c d : Option ℕ) → ((t : ℕ) → t < length h → m t ≡ min 1 (calls_of t tallies))
+pub calls_agree : (all : Bool) (h : List Entry) (tallies : List Tallied) (m : ℕ → ℕ) (a b c d : Option ℕ)
+    → ((t : ℕ) → t < length h → m t ≡ min 1 (calls_of t tallies))
     → FirstFailure (HeadsAt h tallies) a → FirstFailure (OnceAt h tallies) b → FirstFailure (RisesAt tallies) c → FirstFailure (KeptAt all h m) d
     → FirstFailure (CallsAgree all h tallies) (lesser (lesser a b) (lesser c d))
 calls_agree all h tallies m a b c d marks heads once rising kept =
-    same (λ t. (HeadsAt h tallies t × OnceAt h tallies t) × (RisesAt tallies t × KeptAt all h m t)) (CallsAgree all h tallies) (lesser (lesser a b) (lesser c d))
+    same (λ t. (HeadsAt h tallies t × OnceAt h tallies t) × (RisesAt tallies t × KeptAt all h m t))
+    (CallsAgree all h tallies) (lesser (lesser a b) (lesser c d))
     (λ t. there all h tallies m t (marks t)) (λ t. back all h tallies m t (marks t))
     (both (λ t. HeadsAt h tallies t × OnceAt h tallies t) (λ t. RisesAt tallies t × KeptAt all h m t) (lesser a b) (lesser c d)
     (both (HeadsAt h tallies) (OnceAt h tallies) a b heads once) (both (RisesAt tallies) (KeptAt all h m) c d rising kept))
 
 -- An answer is one to a ticket of the history, so its mark tells of its receipt.
-pub has_receipt : (config : Config) (h : List Entry) (tallies : List Tallied) (m : ℕ → ℕ) (f : Option ℕ) → IsLegal config h → ((t : ℕ) → t < length h → m t ≡ min 1 (receipts_of t tallies))
+pub has_receipt : (config : Config) (h : List Entry) (tallies : List Tallied) (m : ℕ → ℕ) (f : Option ℕ)
+    → IsLegal config h → ((t : ℕ) → t < length h → m t ≡ min 1 (receipts_of t tallies))
     → FirstFailure (λ t. t < length h → is_some (answer_of h t) ≡ true → 1 ≤ m t) f → FirstFailure (HasReceipt h tallies) f
 has_receipt config h tallies m f legal marks found =
     same (λ t. t < length h → is_some (answer_of h t) ≡ true → 1 ≤ m t) (HasReceipt h tallies) f

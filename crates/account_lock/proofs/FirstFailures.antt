@@ -1,5 +1,6 @@
 -- The least ticket at which one of several properties fails.
-use Rattle.std.proofs.Common.{◌≡◌, ◌≢◌, ℕ, ◌+◌, ◌<◌, ◌≤◌, Bool, true, false, List, length, take, get_or, Option, Some, None, ◌⊎◌, inl, inr, refl, sym, ap, ◌∙◌, subst, min, arith}
+use Rattle.std.proofs.Common.{◌≡◌, ◌≢◌, ℕ, ◌+◌, ◌<◌, ◌≤◌, Bool, true, false, List, length, take, get_or, Option, Some}
+use Rattle.std.proofs.Common.{None, ◌⊎◌, inl, inr, refl, sym, ap, ◌∙◌, subst, min, arith}
 use Rattle.std.specs.Prelude.{nat_le}
 use Rattle.std.specs.List.{All}
 use Rattle.std.proofs.lemmas.Bool.Decides.{nat_tests}
@@ -35,7 +36,8 @@ same P Q (Some t) there back p = ((λ w. p.0 (back t w)), (λ k lt. there k (p.1
 
 -- one element more of a list whose elements have a property
 pub all_more : {X : Type 0} (A : X → ℕ → Type 0) (xs : List X) (i : ℕ) (d : X) (f g : Option ℕ) → i < length xs
-    → FirstFailure (λ t. All (λ x. A x t) (take i xs)) f → FirstFailure (A (get_or xs i d)) g → FirstFailure (λ t. All (λ x. A x t) (take (i + 1) xs)) (lesser f g)
+    → FirstFailure (λ t. All (λ x. A x t) (take i xs)) f → FirstFailure (A (get_or xs i d)) g
+    → FirstFailure (λ t. All (λ x. A x t) (take (i + 1) xs)) (lesser f g)
 all_more A xs i d f g at p q =
     same (λ t. All (λ x. A x t) (take i xs) × A (get_or xs i d) t) (λ t. All (λ x. A x t) (take (i + 1) xs)) (lesser f g)
     (λ t w. All-more (λ x. A x t) xs i d at w.0 w.1)
@@ -43,8 +45,10 @@ all_more A xs i d f g at p q =
     (both (λ t. All (λ x. A x t) (take i xs)) (A (get_or xs i d)) f g p q)
 
 -- The same of what is read of the elements.
-pub element_more : {X Y : Type 0} (A : Y → ℕ → Type 0) (part : X → Y) (xs : List X) (i : ℕ) (x : X) (y : Y) (f g : Option ℕ) → i < length xs → x ≡ get_or xs i x → y ≡ part x
-    → FirstFailure (λ t. All (λ z. A (part z) t) (take i xs)) f → FirstFailure (A y) g → FirstFailure (λ t. All (λ z. A (part z) t) (take (i + 1) xs)) (lesser f g)
+pub element_more : {X Y : Type 0} (A : Y → ℕ → Type 0) (part : X → Y) (xs : List X) (i : ℕ) (x : X) (y : Y) (f g : Option ℕ)
+    → i < length xs → x ≡ get_or xs i x → y ≡ part x
+    → FirstFailure (λ t. All (λ z. A (part z) t) (take i xs)) f → FirstFailure (A y) g
+    → FirstFailure (λ t. All (λ z. A (part z) t) (take (i + 1) xs)) (lesser f g)
 element_more {X = X} {Y = Y} A part xs i x y f g at is read p q =
     all_more (λ (z : X) t. A (part z) t) xs i x f g at p (subst (λ (z : Y). FirstFailure (A z) g) (read ∙ ap part is) q)
 

@@ -11,4 +11,6 @@ answers_append (x ∷ xs) ys = omega (arith, length-append x.answers (answers_of
 
 pub given_length : (entries : List Entry) → length (given entries) ≡ answers_in entries
 given_length [] = omega arith
-given_length (entry ∷ entries) = omega (arith, ap (λ (es : List Entry). length (answers_of es)) (reverse-append (entry ∷ []) entries), answers_append (reverse entries) (entry ∷ []), length-append entry.answers [], given_length entries)
+given_length (entry ∷ entries) =
+    omega
+    (arith, ap (λ (es : List Entry). length (answers_of es)) (reverse-append (entry ∷ []) entries), answers_append (reverse entries) (entry ∷ []), length-append entry.answers [], given_length entries)

@@ -1,5 +1,6 @@
 -- Which tickets stand behind greater ones.
-use Rattle.std.proofs.Common.{◌≡◌, ◌≢◌, ℕ, ◌+◌, ◌<◌, ◌≤◌, ◌==◌, Bool, true, false, cond, List, [], ◌∷◌, ◌++◌, length, take, get_or, Option, max, refl, sym, ap, ◌∙◌, subst, arith}
+use Rattle.std.proofs.Common.{◌≡◌, ◌≢◌, ℕ, ◌+◌, ◌<◌, ◌≤◌, ◌==◌, Bool, true, false, cond, List, [], ◌∷◌, ◌++◌, length}
+use Rattle.std.proofs.Common.{take, get_or, Option, max, refl, sym, ap, ◌∙◌, subst, arith}
 use Rattle.std.specs.Prelude.{nat_lt}
 use Rattle.std.proofs.lemmas.Bool.Decides.{nat_tests}
 use Rattle.std.proofs.lemmas.List.{take_more}
@@ -26,7 +27,8 @@ elsewhere : (a t : ℕ) (b : Bool) → (a == t) ≡ b → a ≢ t → ◌≡◌ 
 elsewhere a t true e other = grind (arith, nat_tests)
 elsewhere a t false e other = refl
 
-occurrences-push : {X : Type 0} (t : ℕ) (pairs : List (ℕ × X)) (pair : ℕ × X) → occurrences t (pairs ++ pair ∷ []) ≡ occurrences t pairs + cond (pair.0 == t) 1 0
+occurrences-push : {X : Type 0} (t : ℕ) (pairs : List (ℕ × X)) (pair : ℕ × X)
+    → occurrences t (pairs ++ pair ∷ []) ≡ occurrences t pairs + cond (pair.0 == t) 1 0
 occurrences-push {X = X} t pairs pair = sum_by_push (λ (p : ℕ × X). cond (p.0 == t) 1 0) pairs pair
 
 -- one ticket more, which stands behind the others

@@ -1,5 +1,7 @@
 -- Where a ticket's bell stands among bells in rising order, and that what stays of them is in that order.
-use Rattle.std.proofs.Common.{◌≡◌, ◌≢◌, ℕ, zero, suc, ◌+◌, ◌<◌, ◌≤◌, ◌==◌, List, [], ◌∷◌, ◌++◌, Bool, true, false, length, get_or, remove, refl, sym, ap, ◌∙◌, subst, nat_lt, if◌then◌else◌, Option, Some, None, arith}
+use Rattle.std.proofs.Common.{◌≡◌, ◌≢◌, ℕ, zero, suc, ◌+◌, ◌<◌, ◌≤◌, ◌==◌, List, [], ◌∷◌, ◌++◌, Bool, true, false}
+use Rattle.std.proofs.Common.{length, get_or, remove, refl, sym, ap, ◌∙◌, subst, nat_lt, if◌then◌else◌, Option, Some}
+use Rattle.std.proofs.Common.{None, arith}
 use Rattle.std.specs.List.{list_all, AllWithin}
 use Rattle.std.specs.List.Sorted.{IsPartitionedBy}
 use Rattle.std.proofs.lemmas.Bool.Decides.{nat_tests}
@@ -42,7 +44,8 @@ none_above t [] w = (refl, refl)
 none_above t (bell ∷ bells) w = let s = and_true _ _ w in passed t bell bells [] bells (greater bell.0 t s.0) (none_above t bells s.1)
 
 -- the bell of a ticket, at its place
-pub found : {B : Type 0} (t : ℕ) (bells : List (ℕ × B)) (i : ℕ) (bell seen : ℕ × B) → i < length bells → bell ≡ get_or bells i bell → seen ≡ get_or bells i seen → seen.0 ≡ t
+pub found : {B : Type 0} (t : ℕ) (bells : List (ℕ × B)) (i : ℕ) (bell seen : ℕ × B) → i < length bells
+    → bell ≡ get_or bells i bell → seen ≡ get_or bells i seen → seen.0 ≡ t
     → AllWithin (λ b. nat_lt b.0 t ≡ true) bells 0 i → are_rising bells ≡ true → (of_ticket t bells ≡ bell.1 ∷ []) × (other_bells t bells ≡ remove bells i)
 found t [] i bell seen lt is so e below r = absurd (omega arith)
 found {B = B} t (x ∷ bells) zero bell seen lt is so e below r =
@@ -58,7 +61,8 @@ found t (x ∷ bells) (suc i) bell seen lt is so e below r =
     (found t bells i bell seen (omega arith) is so e (λ k d from to. below (suc k) d (omega arith) (omega arith)) (and_true _ _ r).1)
 
 -- no bell of a ticket, where none stands at its place
-pub absent : {B : Type 0} (t : ℕ) (bells : List (ℕ × B)) (i : ℕ) → AllWithin (λ b. nat_lt b.0 t ≡ true) bells 0 i → AllWithin (λ b. nat_lt b.0 t ≡ false) bells i (length bells)
+pub absent : {B : Type 0} (t : ℕ) (bells : List (ℕ × B)) (i : ℕ) → AllWithin (λ b. nat_lt b.0 t ≡ true) bells 0 i
+    → AllWithin (λ b. nat_lt b.0 t ≡ false) bells i (length bells)
     → are_rising bells ≡ true → (i < length bells → (seen : ℕ × B) × (seen ≡ get_or bells i seen) × (seen.0 ≢ t)) → HasNone t bells
 absent t [] i below above r other = (refl, refl)
 absent {B = B} t (x ∷ bells) zero below above r other =
@@ -87,7 +91,9 @@ pub others_rise : {B : Type 0} (t : ℕ) (bells : List (ℕ × B)) → are_risin
 others_rise t [] r = refl
 others_rise t (x ∷ bells) r = let s = and_true _ _ r in go (x.0 == t) (others (λ b. nat_lt x.0 b.0) t bells s.0) (others_rise t bells s.1)
   where
-    go : (b : Bool) → list_all (λ b. nat_lt x.0 b.0) (other_bells t bells) ≡ true → are_rising (other_bells t bells) ≡ true → are_rising (if b then other_bells t bells else x ∷ other_bells t bells) ≡ true
+    go : (b : Bool) → list_all (λ b. nat_lt x.0 b.0) (other_bells t bells) ≡ true
+        → are_rising (other_bells t bells) ≡ true
+        → are_rising (if b then other_bells t bells else x ∷ other_bells t bells) ≡ true
     go true v k = k
     go false v k = both_true _ _ v k
 
@@ -97,7 +103,8 @@ after_rise [] bells r = r
 after_rise (a ∷ answers) bells r = after_rise answers (other_bells a.0 bells) (others_rise a.0 bells r)
 
 -- the bell of a ticket behind all others
-pub own_rise : {B : Type 0} (bells : List (ℕ × B)) (t : ℕ) (bell : Option B) → are_rising bells ≡ true → list_all (λ b. nat_lt b.0 t) bells ≡ true → are_rising (bells ++ own_bell t bell) ≡ true
+pub own_rise : {B : Type 0} (bells : List (ℕ × B)) (t : ℕ) (bell : Option B) → are_rising bells ≡ true
+    → list_all (λ b. nat_lt b.0 t) bells ≡ true → are_rising (bells ++ own_bell t bell) ≡ true
 own_rise bells t None r w = ap are_rising (append-nil bells) ∙ r
 own_rise [] t (Some bell) r w = refl
 own_rise (x ∷ bells) t (Some bell) r w =
@@ -107,7 +114,8 @@ own_rise (x ∷ bells) t (Some bell) r w =
 
 -- the bell that a call brings stands behind those of the tickets that waited before
 pub with_own : {B : Type 0} (config : Config) (h : List Entry) (now : ℕ) (call : Call) (t : ℕ) (bells : List (ℕ × B)) (bell : Option B)
-    → t + 1 ≡ length (next config h now call) → list_all (λ b. pending h b.0) bells ≡ true → are_rising bells ≡ true → are_rising (bells ++ own_bell t bell) ≡ true
+    → t + 1 ≡ length (next config h now call) → list_all (λ b. pending h b.0) bells ≡ true → are_rising bells ≡ true
+    → are_rising (bells ++ own_bell t bell) ≡ true
 unfolding next
 with_own config h now call t bells bell last w r =
     let behind = past config h now call t last in

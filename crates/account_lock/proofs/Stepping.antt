@@ -20,7 +20,8 @@ next_is config h now call = refl
 
 -- what was added stands behind what was there, the oldest first
 pub newest : (es h k : List Entry) (n : ℕ) → k ≡ es ++ h → n ≡ length h → drop n (reverse k) ≡ reverse es
-newest es h k n is at = ap (λ (x : List Entry). drop n (reverse x)) is ∙ ap (drop n) (reverse-append es h) ∙ drop_at (reverse h) (reverse es) n (length-reverse h ∙ sym at)
+newest es h k n is at =
+    ap (λ (x : List Entry). drop n (reverse x)) is ∙ ap (drop n) (reverse-append es h) ∙ drop_at (reverse h) (reverse es) n (length-reverse h ∙ sym at)
 
 no_calls : (config : Config) (m : ℕ) (es : List ℕ) (h : List Entry) → calls (expiries config m es h) ≡ 0
 no_calls config m [] h = refl
@@ -43,11 +44,13 @@ one_call config h now call e =
 pub one_call_within : (config : Config) (h : List Entry) (now : ℕ) (call : Call) → IsWithin config call → calls (added config h now call) ≡ 1
 one_call_within config h now call w = one_call config h now call (no_expiry config call w)
 
-pub admitted_next : (config : Config) (h : List Entry) (now : ℕ) (call : Call) → admitted (next config h now call) ≡ admitted (added config h now call) + admitted h
+pub admitted_next : (config : Config) (h : List Entry) (now : ℕ) (call : Call)
+    → admitted (next config h now call) ≡ admitted (added config h now call) + admitted h
 unfolding next
 admitted_next config h now call = admitted_append (added config h now call) h
 
-pub throttled_next : (config : Config) (h : List Entry) (now : ℕ) (call : Call) → throttled (next config h now call) ≡ throttled (added config h now call) + throttled h
+pub throttled_next : (config : Config) (h : List Entry) (now : ℕ) (call : Call)
+    → throttled (next config h now call) ≡ throttled (added config h now call) + throttled h
 unfolding next
 throttled_next config h now call = answers_that_append is_throttle (added config h now call) h
 
@@ -76,7 +79,8 @@ rises_are config h now call w =
     (rest_of _ _ _ (failed_next config h now call))
 
 -- the counts of the longer history are those of its two parts
-pub counts_next : (config : Config) (h : List Entry) (now : ℕ) (call : Call) → plus (counts_of h) (counts_of (added config h now call)) ≡ counts_of (next config h now call)
+pub counts_next : (config : Config) (h : List Entry) (now : ℕ) (call : Call)
+    → plus (counts_of h) (counts_of (added config h now call)) ≡ counts_of (next config h now call)
 counts_next config h now call =
     counts_same _ _ _ _ _ _ _ _
     (omega (arith, calls_next config h now call))

@@ -7,9 +7,10 @@ use Rattle.call_types.specs.declared.call.Entry.{Entry}
 use Rattle.shared_history.specs.Sharing.{Extends}
 use Rattle.json.specs.Print.{print}
 use Rattle.json.specs.Token.{Token}
-use Rattle.trace.specs.Object.{before, object_text}
+use Rattle.fleet.specs.Reaches.{before}
+use Rattle.trace.specs.Object.{object_text}
 use Rattle.trace.specs.Sites.{sites}
-use Rattle.trace.specs.declared.site.Site.{Site}
+use Rattle.trace.specs.declared.followed.Followed.{Followed}
 use Rattle.account_lock.specs.Trails.{IsLineOf, IsObjectOf}
 
 all_dropped : (h : List Entry) → drop (length h) h ≡ []
@@ -28,7 +29,8 @@ before_longer h k n longer within =
     ap (λ (l : List Entry). before l n) longer.1 ∙ ap (λ (m : ℕ). drop m (newer ++ h)) far ∙ drop-append-add newer h (length h - n)
 
 -- so the environments stay
-pub still : (config : Config) (h k : List Entry) (n : ℕ) (follower : List Site) → Extends h k → (follower ≡ sites config (before h n)) × (n ≤ length h) → (follower ≡ sites config (before k n)) × (n ≤ length k)
+pub still : (config : Config) (h k : List Entry) (n : ℕ) (follower : List Followed) → Extends h k
+    → (follower ≡ sites config (before h n)) × (n ≤ length h) → (follower ≡ sites config (before k n)) × (n ≤ length k)
 still config h k n follower longer at =
     let grown : length k ≡ length longer.0 + length h = ap length longer.1 ∙ length-append longer.0 h in
     (at.0 ∙ ap (sites config) (sym (before_longer h k n longer at.1)), omega (arith, grown, at.1))

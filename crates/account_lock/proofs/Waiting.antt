@@ -1,5 +1,7 @@
 -- The bells that stay are those of tickets that wait.
-use Rattle.std.proofs.Common.{◌≡◌, ℕ, suc, ◌+◌, ◌<◌, ◌≤◌, List, [], ◌∷◌, ◌++◌, Bool, true, false, not, ◌&&◌, ◌||◌, ◌==◌, length, length-append, reverse, Option, Some, None, if◌then◌else◌, refl, sym, ap, ◌∙◌, arith}
+use Rattle.std.proofs.Common.{◌≡◌, ℕ, suc, ◌+◌, ◌<◌, ◌≤◌, List, [], ◌∷◌, ◌++◌, Bool, true, false, not, ◌&&◌, ◌||◌, ◌==◌}
+use Rattle.std.proofs.Common.{length, length-append, reverse, Option, Some, None, if◌then◌else◌, refl, sym, ap, ◌∙◌}
+use Rattle.std.proofs.Common.{arith}
 use Rattle.std.specs.Prelude.{is_some}
 use Rattle.std.specs.List.{list_all, list_any}
 use Rattle.std.proofs.lemmas.Bool.Decides.{nat_tests}
@@ -67,21 +69,27 @@ gives_none (entry ∷ es) t e =
     ap (λ (a : Option Answer). or_else a (answer_of es t)) (gives_none_in entry.answers t s.1) ∙ gives_none es t s.0
 
 -- the bells that stay, of those for whose tickets something holds
-apart : {B : Type 0} (p : ℕ → Bool) (t : ℕ) (bells : List (ℕ × B)) → list_all (λ b. p b.0) bells ≡ true → list_all (λ b. p b.0 && not (t == b.0)) (other_bells t bells) ≡ true
+apart : {B : Type 0} (p : ℕ → Bool) (t : ℕ) (bells : List (ℕ × B)) → list_all (λ b. p b.0) bells ≡ true
+    → list_all (λ b. p b.0 && not (t == b.0)) (other_bells t bells) ≡ true
 apart p t [] w = refl
 apart p t (bell ∷ bells) w = let s = and_true _ _ w in go (bell.0 == t) refl s.0 (apart p t bells s.1)
   where
-    go : (b : Bool) → (bell.0 == t) ≡ b → p bell.0 ≡ true → list_all (λ c. p c.0 && not (t == c.0)) (other_bells t bells) ≡ true → list_all (λ c. p c.0 && not (t == c.0)) (if b then other_bells t bells else bell ∷ other_bells t bells) ≡ true
+    go : (b : Bool) → (bell.0 == t) ≡ b → p bell.0 ≡ true
+        → list_all (λ c. p c.0 && not (t == c.0)) (other_bells t bells) ≡ true
+        → list_all (λ c. p c.0 && not (t == c.0)) (if b then other_bells t bells else bell ∷ other_bells t bells) ≡ true
     go true q v k = k
     go false q v k = both_true _ _ (both_true _ _ v (ap not turned)) k
       where
         turned : (t == bell.0) ≡ false
         turned = grind (arith, nat_tests, q)
 
-pub left : {B : Type 0} (answers : List (ℕ × Answer)) (p : ℕ → Bool) (bells : List (ℕ × B)) → list_all (λ b. p b.0) bells ≡ true → list_all (λ b. p b.0 && not (gives answers b.0)) (bells_after answers bells) ≡ true
+pub left : {B : Type 0} (answers : List (ℕ × Answer)) (p : ℕ → Bool) (bells : List (ℕ × B))
+    → list_all (λ b. p b.0) bells ≡ true
+    → list_all (λ b. p b.0 && not (gives answers b.0)) (bells_after answers bells) ≡ true
 left [] p bells w = all_by (λ b. p b.0) (λ b. p b.0 && true) bells (λ b v. both_true _ _ v refl) w
 left (a ∷ answers) p bells w =
-    all_by (λ b. (p b.0 && not (a.0 == b.0)) && not (gives answers b.0)) (λ b. p b.0 && not (gives (a ∷ answers) b.0)) (bells_after answers (other_bells a.0 bells))
+    all_by (λ b. (p b.0 && not (a.0 == b.0)) && not (gives answers b.0)) (λ b. p b.0 && not (gives (a ∷ answers) b.0))
+    (bells_after answers (other_bells a.0 bells))
     (λ b v. let s = and_true _ _ v in let r = and_true _ _ s.0 in both_true _ _ r.0 (not_either _ _ (not_true _ r.1) (not_true _ s.1)))
     (left answers (λ t. p t && not (a.0 == t)) (other_bells a.0 bells) (apart p a.0 bells w))
 
@@ -90,7 +98,8 @@ pub known : (h : List Entry) (t : ℕ) → is_expiry (call_of h t) ≡ false →
 known [] t e = cc
 known (entry ∷ h) t e = go (λ k. known h t k) (t == length h) refl e
   where
-    go : (is_expiry (call_of h t) ≡ false → t < length h) → (b : Bool) → (t == length h) ≡ b → is_expiry (if b then entry.call else call_of h t) ≡ false → t < suc (length h)
+    go : (is_expiry (call_of h t) ≡ false → t < length h) → (b : Bool) → (t == length h) ≡ b
+        → is_expiry (if b then entry.call else call_of h t) ≡ false → t < suc (length h)
     go older true q k = grind (arith, nat_tests, q)
     go older false q k = omega (arith, older k)
 
@@ -135,7 +144,8 @@ own_head entry h t q = go (t == length h) same
     go true k = refl
     go false k = cc
 
-own_call : (config : Config) (h : List Entry) (now : ℕ) (call : Call) (t : ℕ) → t + 1 ≡ length (added config h now call ++ h) → call_of (added config h now call ++ h) t ≡ call
+own_call : (config : Config) (h : List Entry) (now : ℕ) (call : Call) (t : ℕ)
+    → t + 1 ≡ length (added config h now call ++ h) → call_of (added config h now call ++ h) t ≡ call
 unfolding added
 own_call config h now call t q =
     let m = moment_at h now in

@@ -25,12 +25,13 @@ use Rattle.account_lock.specs.Steps.{IsHandedBack, IsRefusal, IsStep}
 use Rattle.account_lock.specs.Submits.{IsNotTaken, IsTurnedAway, Took}
 use Rattle.account_lock.specs.declared.desk.Refused.{Refused as Back}
 use Rattle.account_lock.specs.declared.desk.Step.{Step}
-use Rattle.account_lock.specs.declared.unless_premature.NotTaken.{NotTaken}
-use Rattle.account_lock.specs.declared.unless_premature.NotTaken.TheVariants.{Premature, Refused}
+use Rattle.account_lock.specs.declared.desk.unless_premature.NotTaken.{NotTaken}
+use Rattle.account_lock.specs.declared.desk.unless_premature.NotTaken.TheVariants.{Premature, Refused}
 use Rattle.account_lock.proofs.Stepping.{next_is, one_call_within}
 
 -- the next history goes on where the one before it ends, which the pen wrote
-pub goes_on : (config : Config) (h written now_there : List Entry) (now : ℕ) (call : Call) → h ≡ written → now_there ≡ next config h now call → Extends written now_there
+pub goes_on : (config : Config) (h written now_there : List Entry) (now : ℕ) (call : Call) → h ≡ written
+    → now_there ≡ next config h now call → Extends written now_there
 goes_on config h written now_there now call is step =
     (added config h now call, step ∙ (next_is config h now call ∙ ap (λ l. added config h now call ++ l) is))
 
@@ -38,7 +39,8 @@ newest : (entry : Entry) (h : List Entry) (ticket : ℕ) → ticket + 1 ≡ leng
 newest entry h ticket at = let same : length h ≡ ticket = omega (arith, at) in subst (λ (t : ℕ). call_of (entry ∷ h) t ≡ entry.call) same (call_of_new entry h)
 
 -- its newest call is the one that was taken
-stands : (config : Config) (h : List Entry) (now : ℕ) (call : Call) (ticket : ℕ) → ticket + 1 ≡ length (next config h now call) → call_of (next config h now call) ticket ≡ call
+stands : (config : Config) (h : List Entry) (now : ℕ) (call : Call) (ticket : ℕ)
+    → ticket + 1 ≡ length (next config h now call) → call_of (next config h now call) ticket ≡ call
 unfolding next added
 stands config h now call ticket at =
     let m = moment_at h now in

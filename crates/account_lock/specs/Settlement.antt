@@ -11,10 +11,10 @@ use Rattle.usage_ledger.specs.Tallies.{Tallied}
 use Rattle.account_lock.specs.Counting.{counts_of}
 use Rattle.account_lock.specs.Gathered.{parts_in, counts_in, occurrences, receipts_of, calls_of}
 use Rattle.account_lock.specs.Failing.{FailsFirstAt}
-use Rattle.account_lock.specs.declared.fault.SettleFault.{SettleFault}
-use Rattle.account_lock.specs.declared.fault.SettleFault.TheVariants.{TallyMissing, OutOfMemory}
-use Rattle.account_lock.specs.declared.fault.SettleFault.TheVariants.{ReceiptDiffers, ReceiptMissing}
-use Rattle.account_lock.specs.declared.fault.SettleFault.TheVariants.{CallDiffers}
+use Rattle.account_lock.specs.declared.settle.fault.SettleFault.{SettleFault}
+use Rattle.account_lock.specs.declared.settle.fault.SettleFault.TheVariants.{TallyMissing, OutOfMemory}
+use Rattle.account_lock.specs.declared.settle.fault.SettleFault.TheVariants.{ReceiptDiffers, ReceiptMissing}
+use Rattle.account_lock.specs.declared.settle.fault.SettleFault.TheVariants.{CallDiffers}
 
 -- The head of a call that a caller made; an expiry has none.
 abbrev pub made : Call → Option Head

@@ -11,8 +11,8 @@ use Rattle.account_lock.specs.Bells.{given}
 use Rattle.account_lock.specs.Desks.{Opened, added_to, after_step, is_premature, handed_out, held_after, is_full}
 use Rattle.account_lock.specs.declared.desk.Refused.{Refused as TheRefused}
 use Rattle.account_lock.specs.declared.desk.Step.{Step}
-use Rattle.account_lock.specs.declared.unless_premature.NotTaken.{NotTaken}
-use Rattle.account_lock.specs.declared.unless_premature.NotTaken.TheVariants.{Premature, Refused}
+use Rattle.account_lock.specs.declared.desk.unless_premature.NotTaken.{NotTaken}
+use Rattle.account_lock.specs.declared.desk.unless_premature.NotTaken.TheVariants.{Premature, Refused}
 
 -- A desk took a call at a moment, with this bell, from a caller whose tally held `had`. The book had room for the
 -- call, and has taken it; the newest entry is the call's, at its ticket. The bells of the tickets that were answered

@@ -13,8 +13,8 @@ use Rattle.usage_ledger.specs.Keeping.{Kept}
 use Rattle.usage_ledger.specs.Tallies.{Held}
 use Rattle.account_lock.specs.Shown.{IsTaken, Sees}
 use Rattle.account_lock.specs.Tallying.{HasPartsOf, KeepsCall}
-use Rattle.account_lock.specs.declared.unless_premature.NotTaken.{NotTaken}
-use Rattle.account_lock.specs.declared.unless_premature.NotTaken.TheVariants.{Premature, Refused}
+use Rattle.account_lock.specs.declared.desk.unless_premature.NotTaken.{NotTaken}
+use Rattle.account_lock.specs.declared.desk.unless_premature.NotTaken.TheVariants.{Premature, Refused}
 
 -- A call was taken from a caller that had seen the history `had`, and whose tally held `before`: the call is in the
 -- history at its ticket. The tally counts one call more, has the same parts, and has noted some answers and then the

@@ -6,7 +6,8 @@ use Rattle.account_book.specs.declared.book.Life.TheVariants.{Open, Stopping, Of
 use Rattle.arn_ids.specs.declared.config.Config.{Config}
 use Rattle.call_types.specs.declared.call.Entry.{Entry}
 use Rattle.json.specs.Token.{Token}
-use Rattle.trace.specs.Object.{before, object_text, object_tokens}
+use Rattle.fleet.specs.Reaches.{before}
+use Rattle.trace.specs.Object.{object_text, object_tokens}
 
 -- A trail: the history that it has seen, and the ticket of the entry that comes next. It has followed the entries before
 -- that one.

@@ -1,5 +1,7 @@
 //! The account: a desk that threads share.
 
+mod locked;
+
 ghost use Rattle.std.specs.Prelude.{◌≡◌, ◌≢◌, ◌⊎◌, [], ◌+◌, ◌<◌, ◌≤◌, ◌^◌, ◌↔◌, true, false, is_some};
 ghost use Rattle.std.specs.Prelude.{length, IfOk, IfErr, IfSome, IfNone, IsErrOf};
 ghost use Rattle.std.specs.Arc.{arc_value};
@@ -25,14 +27,14 @@ ghost use Rattle.account_lock.specs.Looks.{look_of};
 ghost use Rattle.account_lock.specs.Settlement.{IsSettled, IsFault};
 ghost use Rattle.account_lock.specs.Shown.{IsTextOf, Sees};
 ghost use Rattle.account_lock.specs.Submits.{IsNotTaken, IsTurnedAway, Took};
-ghost use Rattle.account_lock.specs.declared.fault.SettleFault.TheVariants.{TallyMissing};
+ghost use Rattle.account_lock.specs.declared.settle.fault.SettleFault.TheVariants.{TallyMissing};
 
-use crate::locked::Locked;
 use crate::{Bell, Desk, Look, NotTaken, Refused, Settled, Step, Unsettled};
 use account_book::{Book, Life, OpenFault};
 use arn_ids::{Checked, FnNo};
 use call_model::{Call, Stats, Ticket};
 use lambda_wire::Reply;
+use locked::Locked;
 use script::Draft;
 use std::alloc::{AllocError, Global};
 use std::marker::Brand;

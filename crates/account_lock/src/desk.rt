@@ -1,5 +1,13 @@
 //! The desk: the book, the bells of the callers that wait, and the totals of its ledgers.
 
+mod bells;
+mod resting;
+mod rings;
+mod rises;
+mod room;
+mod serving;
+mod unless_premature;
+
 ghost use Rattle.std.specs.Prelude.{◌≡◌, ◌<◌, ◌^◌, [], true, false, IfOk, IfErr, OnErr};
 ghost use Rattle.call_types.specs.Within.{IsWithin};
 ghost use Rattle.account_book.specs.Reached.{IsBooked, IsReached};
@@ -8,14 +16,16 @@ ghost use Rattle.account_lock.specs.Looks.{look_of};
 ghost use Rattle.account_lock.specs.Desks.{IsDesk, opened};
 ghost use Rattle.account_lock.specs.Steps.{IsRefusal, IsStep};
 
-use crate::bells::store;
-use crate::room::{make_room, most_given};
-use crate::serving::serve_step;
-use crate::{Bell, Rings};
 use account_book::{Book, Refusal};
+pub use bells::Bell;
+use bells::store;
 use call_model::{Answer, Call, Ticket};
+pub use rings::Rings;
+use room::{make_room, most_given};
+use serving::serve_step;
 use std::alloc::Global;
 use std::marker::Model;
+pub use unless_premature::NotTaken;
 use usage_ledger::{Keep, Ledgers, Tally, Totals};
 
 /// What is known of a ticket.

@@ -11,8 +11,8 @@ ghost use Rattle.usage_ledger.specs.Tallies.{Tallied, fresh};
 ghost use Rattle.account_book.specs.Reached.{IsReached};
 ghost use Rattle.account_lock.specs.Counting.{counts_of};
 ghost use Rattle.account_lock.specs.Gathered.{counts_in};
-ghost use Rattle.account_lock.specs.declared.fault.SettleFault.{SettleFault};
-ghost use Rattle.account_lock.specs.declared.fault.SettleFault.TheVariants.{OutOfMemory};
+ghost use Rattle.account_lock.specs.declared.settle.fault.SettleFault.{SettleFault};
+ghost use Rattle.account_lock.specs.declared.settle.fault.SettleFault.TheVariants.{OutOfMemory};
 ghost use Rattle.account_lock.specs.Settlement.{IsSettled, IsFault};
 ghost use Rattle.account_lock.specs.Shown.{IsTaken, Sees};
 

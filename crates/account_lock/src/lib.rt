@@ -1,34 +1,26 @@
 //! One account behind a lock: its book, the bells of the callers that wait for an answer, and the
 //! totals of what its threads counted.
+//!
+//! The groups of modules stand in the order in which to read them.
 #![tactic(auto)]
 
-mod account;
-mod bells;
-mod calls;
-mod claims;
+// A `Desk` takes one call after the other: it hands out the bells of the callers that then have an answer, and counts
+// each step in the tally of the caller's thread.
 mod desk;
-mod environments;
-mod fault;
-pub mod laws;
-mod least;
-mod locked;
-mod marks;
-mod receipts;
-mod resting;
-mod rings;
-mod rises;
-mod room;
-mod serving;
-mod settle;
+
+// An `Account` is a desk that threads share, behind a Mutex, for one step or one look at a time.
+mod account;
+
+// The trace of its history is read along a `Trail`, one entry at a time; the environments are listed as they are.
 mod tracing;
-mod trail;
-mod unless_premature;
+
+// Settlement compares what the tallies counted with the book.
+mod settle;
+
+// What follows for accounts that were settled, and for calls that were taken.
+pub mod laws;
 
 pub use account::{Account, Identity};
-pub use bells::Bell;
-pub use desk::{Desk, Look, Refused, Step};
-pub use fault::SettleFault;
-pub use rings::Rings;
-pub use settle::{Settled, Unsettled};
-pub use trail::Trail;
-pub use unless_premature::NotTaken;
+pub use desk::{Bell, Desk, Look, NotTaken, Refused, Rings, Step};
+pub use settle::{SettleFault, Settled, Unsettled};
+pub use tracing::Trail;

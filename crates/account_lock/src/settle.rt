@@ -1,5 +1,12 @@
 //! Settling an account: comparing its tallies with its book.
 
+mod calls;
+mod claims;
+mod fault;
+mod least;
+mod marks;
+mod receipts;
+
 ghost use Rattle.std.specs.Prelude.{◌≡◌, ◌≢◌, ◌==◌, ◌^◌, ℕ, true, false, None, length, vec_len, IfOk, IfErr};
 ghost use Rattle.std.specs.Prelude.{IfSome, IfNone};
 ghost use Rattle.std.specs.List.{list_all};
@@ -8,15 +15,16 @@ ghost use Rattle.account_lock.specs.Counting.{counts_of};
 ghost use Rattle.account_lock.specs.Gathered.{parts_in, counts_in, keeps_nothing};
 ghost use Rattle.account_lock.specs.Marking.{marked};
 ghost use Rattle.account_lock.specs.Settlement.{IsKept, IsSettled, IsFault};
-ghost use Rattle.account_lock.specs.declared.fault.SettleFault.TheVariants.{TallyMissing};
+ghost use Rattle.account_lock.specs.declared.settle.fault.SettleFault.TheVariants.{TallyMissing};
 
-use crate::calls::call_differs;
-use crate::claims::wrong_claim;
-use crate::marks::blank_marks;
-use crate::receipts::receipt_missing;
-use crate::{Bell, Desk, SettleFault};
+use crate::{Bell, Desk};
 use account_book::Book;
 use call_model::{Answer, Stats};
+use calls::call_differs;
+use claims::wrong_claim;
+pub use fault::SettleFault;
+use marks::blank_marks;
+use receipts::receipt_missing;
 use std::alloc::Global;
 use usage_ledger::{Keep, Ledgers, Tally, Token, Totals};
 

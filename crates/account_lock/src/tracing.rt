@@ -1,14 +1,19 @@
 //! The trace of an account's history, as it grows.
 
+mod environments;
+mod trail;
+
 ghost use Rattle.std.specs.Prelude.{◌≡◌, [], true, is_some, IfOk, OnErr};
 ghost use Rattle.account_book.specs.Books.{life};
 ghost use Rattle.account_lock.specs.Shown.{Sees};
 ghost use Rattle.account_lock.specs.Trails.{GoesOn, IsLineOf, is_off};
 
-use crate::{Account, Bell, Identity, Trail};
+use crate::{Account, Bell, Identity};
+pub(crate) use environments::draft_environments;
 use script::Draft;
 use std::alloc::{AllocError, Global};
 use std::sync::Wait;
+pub use trail::Trail;
 
 impl<S: Identity, B: Bell> Account<S, B> {
     /// Returns a trail of the account's trace, which has followed no entry of the history as it is.

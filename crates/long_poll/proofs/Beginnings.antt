@@ -20,19 +20,19 @@ use Rattle.arn_ids.specs.Limits.{longest_body}
 use Rattle.long_poll.specs.Exchanges.{Awaits, ComesOfCall, Decides, Exchanges, IsOfBody, IsBegun, IsSubmission, HasBegun, shown}
 use Rattle.long_poll.specs.Outcomes.{IsHistoryOf, IsTraceOf, IsStreamOf}
 use Rattle.long_poll.specs.Stages.{GivesFrom, StartsFrom}
-use Rattle.long_poll.specs.declared.bell.Heard.{Heard}
-use Rattle.long_poll.specs.declared.clock.Clock as Clock
-use Rattle.long_poll.specs.declared.connection.Begun.{Begun}
-use Rattle.long_poll.specs.declared.connection.Begun.TheVariants.{Replied, HeldBack, AsksForHistory, AsksForTrace, Parked}
-use Rattle.long_poll.specs.declared.connection.Connection.{Connection}
-use Rattle.long_poll.specs.declared.connection.Submission.{Submission}
+use Rattle.long_poll.specs.declared.service.bell.Heard.{Heard}
+use Rattle.long_poll.specs.declared.service.clock.Clock as Clock
+use Rattle.long_poll.specs.declared.exchange.connection.Begun.{Begun}
+use Rattle.long_poll.specs.declared.exchange.connection.Begun.TheVariants.{Replied, HeldBack, AsksForHistory, AsksForTrace, Parked}
+use Rattle.long_poll.specs.declared.exchange.connection.Connection.{Connection}
+use Rattle.long_poll.specs.declared.exchange.submission.Submission.{Submission}
 use Rattle.decisions.specs.declared.decide.Decide as Decide
 use Rattle.long_poll.specs.declared.exchange.Stage.{Stage}
 use Rattle.long_poll.specs.declared.exchange.Stage.TheVariants.{Collecting, Submitting, Trying, Waiting}
-use Rattle.long_poll.specs.declared.fault.ExchangeFault.{ExchangeFault}
-use Rattle.long_poll.specs.declared.fault.ExchangeFault.TheVariants.{BodyFailed, OutOfMemory, BellLost}
-use Rattle.long_poll.specs.declared.outcome.Outcome.{Outcome}
-use Rattle.long_poll.specs.declared.outcome.Outcome.TheVariants as outcome
+use Rattle.long_poll.specs.declared.exchange.fault.ExchangeFault.{ExchangeFault}
+use Rattle.long_poll.specs.declared.exchange.fault.ExchangeFault.TheVariants.{BodyFailed, OutOfMemory, BellLost}
+use Rattle.long_poll.specs.declared.exchange.outcome.Outcome.{Outcome}
+use Rattle.long_poll.specs.declared.exchange.outcome.Outcome.TheVariants as outcome
 use Rattle.long_poll.specs.declared.service.Service as Service
 use Rattle.long_poll.specs.declared.streamed_body.StreamedBody.{StreamedBody}
 use Rattle.usage_ledger.specs.declared.keep.Keep as Keep

@@ -1,13 +1,14 @@
 -- What is read of a body, one frame more at a time.
-use Rattle.std.proofs.Common.{◌≡◌, ◌≤◌, ◌-◌, ℕ, List, [], ◌∷◌, ◌++◌, length, take, Some, None, Result, Ok, Err, MatchResult, refl, sym, ap, ◌∙◌, inl, inr, append_assoc, append-nil, arith, zero, suc}
+use Rattle.std.proofs.Common.{◌≡◌, ◌≤◌, ◌-◌, ℕ, List, [], ◌∷◌, ◌++◌, length, take, Some, None, Result, Ok, Err}
+use Rattle.std.proofs.Common.{MatchResult, refl, sym, ap, ◌∙◌, inl, inr, append_assoc, append-nil, arith, zero, suc}
 use Rattle.std.proofs.lemmas.List.{take_all}
 use Rattle.bytes.proofs.Ranges.{take-append_past}
 use Rattle.futures.specs.Runs.{Runs, After, Within}
 use Rattle.futures.proofs.RunLemmas.{Begins-Within}
 use Rattle.http_body.specs.declared.frame.Frame.{Frame}
 use Rattle.long_poll.specs.Bodies.{most_bytes, IsDataOf, Collects}
-use Rattle.long_poll.specs.declared.fault.ExchangeFault.{ExchangeFault}
-use Rattle.long_poll.specs.declared.fault.ExchangeFault.TheVariants.{BodyFailed, OutOfMemory, BellLost}
+use Rattle.long_poll.specs.declared.exchange.fault.ExchangeFault.{ExchangeFault}
+use Rattle.long_poll.specs.declared.exchange.fault.ExchangeFault.TheVariants.{BodyFailed, OutOfMemory, BellLost}
 
 -- the first of two lists is taken whole, and then what is left of the number
 pub taken_behind : (n : ℕ) (xs ys : List ℕ) → length xs ≤ n → take n (xs ++ ys) ≡ xs ++ take (n - length xs) ys
@@ -20,7 +21,8 @@ take_again (suc n) [] ys = refl
 take_again (suc n) (x ∷ xs) ys = ap (λ (t : List ℕ). x ∷ t) (take_again n xs ys)
 
 -- the same with more behind it
-take_more : (n : ℕ) (held bytes rest next read : List ℕ) → next ≡ take n (held ++ bytes) → read ≡ take n (next ++ rest) → read ≡ take n (held ++ (bytes ++ rest))
+take_more : (n : ℕ) (held bytes rest next read : List ℕ) → next ≡ take n (held ++ bytes) → read ≡ take n (next ++ rest)
+    → read ≡ take n (held ++ (bytes ++ rest))
 take_more n held bytes rest next read is was =
     was ∙ ap (λ (t : List ℕ). take n (t ++ rest)) is ∙ take_again n (held ++ bytes) rest ∙ ap (take n) (append_assoc held bytes rest)
 

@@ -5,8 +5,8 @@ use Rattle.http_body.specs.declared.frame.Frame.{Frame}
 use Rattle.http_body.specs.Frame.{data_frame}
 use Rattle.long_poll.specs.HistoryFrames.{Answers, Frames, behind}
 use Rattle.long_poll.specs.Pieces.{IsPiece, text_left}
-use Rattle.long_poll.specs.declared.history_body.Stage.{Stage}
-use Rattle.long_poll.specs.declared.history_body.Stage.TheVariants.{Entry}
+use Rattle.long_poll.specs.declared.streamed_body.history_body.Stage.{Stage}
+use Rattle.long_poll.specs.declared.streamed_body.history_body.Stage.TheVariants.{Entry}
 use Rattle.long_poll.specs.declared.service.Service as Service
 
 -- a text that is one piece

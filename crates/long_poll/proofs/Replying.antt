@@ -14,9 +14,9 @@ use Rattle.long_poll.specs.Exchanges.{IsReply, service_of}
 use Rattle.long_poll.specs.Moments.{moment_of}
 use Rattle.long_poll.specs.Reads.{Renders}
 use Rattle.long_poll.specs.Replies.{IsReplyAt}
-use Rattle.long_poll.specs.declared.bell.OneShotBell.{OneShotBell}
-use Rattle.long_poll.specs.declared.clock.Clock as Clock
-use Rattle.long_poll.specs.declared.connection.Connection.{Connection}
+use Rattle.long_poll.specs.declared.service.bell.OneShotBell.{OneShotBell}
+use Rattle.long_poll.specs.declared.service.clock.Clock as Clock
+use Rattle.long_poll.specs.declared.exchange.connection.Connection.{Connection}
 use Rattle.long_poll.specs.declared.service.Service as Service
 use Rattle.usage_ledger.specs.Tallies.{Held}
 use Rattle.usage_ledger.specs.declared.keep.Keep as Keep

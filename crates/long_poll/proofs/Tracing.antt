@@ -7,10 +7,10 @@ use Rattle.futures.specs.declared.task.Poll.TheVariants.{Ready, Pending}
 use Rattle.http_body.specs.declared.frame.Frame.{Frame}
 use Rattle.long_poll.specs.TraceFrames.{Finds, IsPieceFound, Moves, Misses, Shows, ShowsOf, Stops, Frames, Yields}
 use Rattle.long_poll.specs.declared.service.Service as Service
-use Rattle.long_poll.specs.declared.trace_body.Course.{Course}
-use Rattle.long_poll.specs.declared.trace_body.Found.{Found}
-use Rattle.long_poll.specs.declared.trace_body.Found.TheVariants.{Piece, Passed, Nothing}
-use Rattle.long_poll.specs.declared.trace_body.TraceBody.{TraceBody}
+use Rattle.long_poll.specs.declared.streamed_body.trace_body.Course.{Course}
+use Rattle.long_poll.specs.declared.streamed_body.trace_body.Found.{Found}
+use Rattle.long_poll.specs.declared.streamed_body.trace_body.Found.TheVariants.{Piece, Passed, Nothing}
+use Rattle.long_poll.specs.declared.streamed_body.trace_body.TraceBody.{TraceBody}
 
 -- what two facts give that hold while it is pending
 pub while_both : {O X Y Z : Type 0} (r : Poll O) → (X → Y → Z) → OnPending r X → OnPending r Y → OnPending r Z

@@ -3,13 +3,13 @@ use Rattle.std.specs.Prelude.{◌≡◌, ◌<◌, ℕ, Ok}
 use Rattle.call_types.specs.declared.call.Call.{Call}
 use Rattle.decisions.specs.declared.decide.Decide as Decide
 use Rattle.long_poll.specs.Exchanges.{SubmittedWith, TurnedAway}
-use Rattle.long_poll.specs.declared.bell.OneShotBell.{OneShotBell}
-use Rattle.long_poll.specs.declared.clock.Clock as Clock
-use Rattle.long_poll.specs.declared.connection.Attempt.{Attempt}
-use Rattle.long_poll.specs.declared.connection.Attempt.TheVariants.{Taken, Refused, TooEarly}
-use Rattle.long_poll.specs.declared.connection.Begun.{Begun}
-use Rattle.long_poll.specs.declared.connection.Begun.TheVariants.{Replied, HeldBack, AsksForHistory, AsksForTrace, Parked}
-use Rattle.long_poll.specs.declared.connection.Connection.{Connection}
+use Rattle.long_poll.specs.declared.service.bell.OneShotBell.{OneShotBell}
+use Rattle.long_poll.specs.declared.service.clock.Clock as Clock
+use Rattle.long_poll.specs.declared.exchange.submission.Attempt.{Attempt}
+use Rattle.long_poll.specs.declared.exchange.submission.Attempt.TheVariants.{Taken, Refused, TooEarly}
+use Rattle.long_poll.specs.declared.exchange.connection.Begun.{Begun}
+use Rattle.long_poll.specs.declared.exchange.connection.Begun.TheVariants.{Replied, HeldBack, AsksForHistory, AsksForTrace, Parked}
+use Rattle.long_poll.specs.declared.exchange.connection.Connection.{Connection}
 use Rattle.long_poll.specs.declared.service.Service as Service
 use Rattle.usage_ledger.specs.declared.keep.Keep as Keep
 

@@ -1,7 +1,7 @@
 -- What is counted of the requests that are rejected, and what of them is told.
 use Rattle.std.specs.Prelude.{◌≡◌, ◌+◌, ◌-◌, ◌^◌, ◌==◌, ◌&&◌, ◌||◌, ℕ, Bool, min, not, List, None, slice_index_or, slice_set}
-use Rattle.long_poll.specs.declared.board.Row.{Row}
-use Rattle.long_poll.specs.declared.rejection.Told.{Told}
+use Rattle.long_poll.specs.declared.rejections.board.Row.{Row}
+use Rattle.long_poll.specs.declared.rejections.rejection.Told.{Told}
 
 -- The greatest count.
 abbrev pub most : ℕ

@@ -4,8 +4,8 @@ use Rattle.std.specs.Prelude.{Some, None, MatchOption, Result, Ok, Err}
 use Rattle.futures.specs.Runs.{Runs, Begins}
 use Rattle.http_body.specs.declared.frame.Frame.{Frame}
 use Rattle.http_body.specs.Frame.{data_of}
-use Rattle.long_poll.specs.declared.fault.ExchangeFault.{ExchangeFault}
-use Rattle.long_poll.specs.declared.fault.ExchangeFault.TheVariants.{BodyFailed, OutOfMemory, BellLost}
+use Rattle.long_poll.specs.declared.exchange.fault.ExchangeFault.{ExchangeFault}
+use Rattle.long_poll.specs.declared.exchange.fault.ExchangeFault.TheVariants.{BodyFailed, OutOfMemory, BellLost}
 
 -- The most bytes of a body that are read: one more than a body may have (Lambda quotas: invocation payload).
 abbrev pub most_bytes : ℕ

@@ -1,7 +1,7 @@
 -- Why a request is rejected, by the status of its response.
 use Rattle.std.specs.Prelude.{◌==◌, ℕ, cond, Option, Some, None}
-use Rattle.long_poll.specs.declared.rejection.Cause.{Cause}
-use Rattle.long_poll.specs.declared.rejection.Cause.TheVariants.{Malformed, Unregistered, NotFound, WrongMethod, TooLong}
+use Rattle.long_poll.specs.declared.rejections.rejection.Cause.{Cause}
+use Rattle.long_poll.specs.declared.rejections.rejection.Cause.TheVariants.{Malformed, Unregistered, NotFound, WrongMethod, TooLong}
 
 abbrev pub cause_of_status : ℕ → Option Cause
 cause_of_status status =

@@ -22,13 +22,13 @@ use Rattle.call_types.specs.Calls.{is_invoke}
 use Rattle.long_poll.specs.Refusals.{refusal_reply}
 use Rattle.long_poll.specs.Clocks.{IsClockReply}
 use Rattle.long_poll.specs.Views.{stats_reply, environments_reply, followers_reply, reservation_reply, version_reply}
-use Rattle.long_poll.specs.declared.bell.Heard.{Heard}
-use Rattle.long_poll.specs.declared.bell.OneShotBell.{OneShotBell}
-use Rattle.long_poll.specs.declared.clock.Clock as Clock
-use Rattle.long_poll.specs.declared.connection.Begun.{Begun}
-use Rattle.long_poll.specs.declared.connection.Begun.TheVariants.{Replied, HeldBack, AsksForHistory, AsksForTrace, Parked}
-use Rattle.long_poll.specs.declared.connection.Connection.{Connection}
-use Rattle.long_poll.specs.declared.connection.Submission.{Submission}
+use Rattle.long_poll.specs.declared.service.bell.Heard.{Heard}
+use Rattle.long_poll.specs.declared.service.bell.OneShotBell.{OneShotBell}
+use Rattle.long_poll.specs.declared.service.clock.Clock as Clock
+use Rattle.long_poll.specs.declared.exchange.connection.Begun.{Begun}
+use Rattle.long_poll.specs.declared.exchange.connection.Begun.TheVariants.{Replied, HeldBack, AsksForHistory, AsksForTrace, Parked}
+use Rattle.long_poll.specs.declared.exchange.connection.Connection.{Connection}
+use Rattle.long_poll.specs.declared.exchange.submission.Submission.{Submission}
 use Rattle.decisions.specs.declared.decide.Decide as Decide
 use Rattle.decisions.specs.declared.decide.ClockRequest.{ClockRequest}
 use Rattle.decisions.specs.declared.decide.Decision.{Decision}
@@ -36,10 +36,10 @@ use Rattle.decisions.specs.declared.decide.Decision.TheVariants as decision
 use Rattle.decisions.specs.declared.decide.Shown.{Shown}
 use Rattle.decisions.specs.declared.decide.TraceQuery.{TraceQuery}
 use Rattle.decisions.specs.declared.decide.Shown.TheVariants.{Stats, History, Trace, Environments, Reservation, Version}
-use Rattle.long_poll.specs.declared.fault.ExchangeFault.{ExchangeFault}
-use Rattle.long_poll.specs.declared.fault.ExchangeFault.TheVariants.{BodyFailed, OutOfMemory, BellLost}
-use Rattle.long_poll.specs.declared.outcome.Outcome.{Outcome}
-use Rattle.long_poll.specs.declared.outcome.Outcome.TheVariants as outcome
+use Rattle.long_poll.specs.declared.exchange.fault.ExchangeFault.{ExchangeFault}
+use Rattle.long_poll.specs.declared.exchange.fault.ExchangeFault.TheVariants.{BodyFailed, OutOfMemory, BellLost}
+use Rattle.long_poll.specs.declared.exchange.outcome.Outcome.{Outcome}
+use Rattle.long_poll.specs.declared.exchange.outcome.Outcome.TheVariants as outcome
 use Rattle.long_poll.specs.declared.service.Service as Service
 use Rattle.usage_ledger.specs.declared.keep.Keep as Keep
 

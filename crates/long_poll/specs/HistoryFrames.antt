@@ -4,8 +4,8 @@ use Rattle.call_types.specs.declared.call.Entry.{Entry as Taken}
 use Rattle.futures.specs.Runs.{Runs}
 use Rattle.http_body.specs.declared.frame.Frame.{Frame}
 use Rattle.long_poll.specs.Pieces.{IsPiece}
-use Rattle.long_poll.specs.declared.history_body.Stage.{Stage}
-use Rattle.long_poll.specs.declared.history_body.Stage.TheVariants.{Opening, Entry, Ended}
+use Rattle.long_poll.specs.declared.streamed_body.history_body.Stage.{Stage}
+use Rattle.long_poll.specs.declared.streamed_body.history_body.Stage.TheVariants.{Opening, Entry, Ended}
 use Rattle.long_poll.specs.declared.service.Service as Service
 
 -- The stage at which a body begins: the opening if it shows the whole history, otherwise the entry of a ticket.

@@ -7,9 +7,9 @@ use Rattle.lambda_wire.specs.declared.reply.Reply.{Reply as Replied}
 use Rattle.long_poll.specs.HistoryFrames.{first_stage}
 use Rattle.long_poll.specs.TraceFrames.{IsTraceFrom}
 use Rattle.long_poll.specs.Views.{followers_reply}
-use Rattle.long_poll.specs.declared.history_body.HistoryBody.{HistoryBody}
-use Rattle.long_poll.specs.declared.outcome.Outcome.{Outcome}
-use Rattle.long_poll.specs.declared.outcome.Outcome.TheVariants.{Reply, History, Trace}
+use Rattle.long_poll.specs.declared.streamed_body.history_body.HistoryBody.{HistoryBody}
+use Rattle.long_poll.specs.declared.exchange.outcome.Outcome.{Outcome}
+use Rattle.long_poll.specs.declared.exchange.outcome.Outcome.TheVariants.{Reply, History, Trace}
 use Rattle.long_poll.specs.declared.service.Service as Service
 use Rattle.long_poll.specs.declared.streamed_body.StreamedBody.{StreamedBody}
 use Rattle.long_poll.specs.declared.streamed_body.StreamedBody.TheVariants as streamed

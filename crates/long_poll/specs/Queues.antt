@@ -1,7 +1,7 @@
 -- The order in which callers wait whose Invokes are held back.
 use Rattle.std.specs.Prelude.{◌≡◌, ◌==◌, ◌&&◌, ◌<◌, ◌+◌, ◌-◌, ◌^◌, ◌⊎◌, ℕ, Bool, cond, min, List, Option, Some, position, slice_index_or, slice_set}
 use Rattle.std.specs.Option.{option_or}
-use Rattle.long_poll.specs.declared.queue.Caller.{Caller}
+use Rattle.long_poll.specs.declared.line.queue.Caller.{Caller}
 
 -- The caller invokes this function.
 abbrev pub is_of : ℕ → Caller → Bool

@@ -1,8 +1,8 @@
 -- The sources of wakes of a bell: where it rings, and where it is heard.
 use Rattle.std.specs.Prelude.{ℕ}
 use Rattle.futures.specs.Channel.{completed_source, canceled_source}
-use Rattle.long_poll.specs.declared.bell.OneShotBell.{OneShotBell}
-use Rattle.long_poll.specs.declared.bell.Heard.{Heard}
+use Rattle.long_poll.specs.declared.service.bell.OneShotBell.{OneShotBell}
+use Rattle.long_poll.specs.declared.service.bell.Heard.{Heard}
 
 -- The source of wakes that fires once the bell rings or is dropped.
 abbrev pub rings_at : OneShotBell → ℕ

@@ -7,17 +7,17 @@ use Rattle.long_poll.specs.Bodies.{Fails}
 use Rattle.long_poll.specs.Exchanges.{Exchanges, IsOfBody, ComesOfCall, IsBegun, HasBegun, Awaits, shown}
 use Rattle.long_poll.specs.Lengths.{declares_too_long}
 use Rattle.long_poll.specs.Ringing.{hears_at}
-use Rattle.long_poll.specs.declared.clock.Clock as Clock
-use Rattle.long_poll.specs.declared.connection.Begun.{Begun}
-use Rattle.long_poll.specs.declared.connection.Connection.{Connection}
-use Rattle.long_poll.specs.declared.connection.Submission.{Submission}
+use Rattle.long_poll.specs.declared.service.clock.Clock as Clock
+use Rattle.long_poll.specs.declared.exchange.connection.Begun.{Begun}
+use Rattle.long_poll.specs.declared.exchange.connection.Connection.{Connection}
+use Rattle.long_poll.specs.declared.exchange.submission.Submission.{Submission}
 use Rattle.decisions.specs.declared.decide.Decide as Decide
 use Rattle.decisions.specs.declared.decide.Shown.{Shown}
 use Rattle.long_poll.specs.declared.exchange.Stage.{Stage}
 use Rattle.long_poll.specs.declared.exchange.Stage.TheVariants.{Collecting, Submitting, Trying, Waiting}
-use Rattle.long_poll.specs.declared.fault.ExchangeFault.{ExchangeFault}
-use Rattle.long_poll.specs.declared.fault.ExchangeFault.TheVariants.{BodyFailed, OutOfMemory, BellLost}
-use Rattle.long_poll.specs.declared.outcome.Outcome.{Outcome}
+use Rattle.long_poll.specs.declared.exchange.fault.ExchangeFault.{ExchangeFault}
+use Rattle.long_poll.specs.declared.exchange.fault.ExchangeFault.TheVariants.{BodyFailed, OutOfMemory, BellLost}
+use Rattle.long_poll.specs.declared.exchange.outcome.Outcome.{Outcome}
 use Rattle.long_poll.specs.declared.service.Service as Service
 use Rattle.usage_ledger.specs.declared.keep.Keep as Keep
 

@@ -7,12 +7,12 @@ use Rattle.http_body.specs.declared.frame.Frame.{Frame}
 use Rattle.long_poll.specs.Exchanges.{IsSubmission, service_of}
 use Rattle.long_poll.specs.Outcomes.{IsStreamOf}
 use Rattle.long_poll.specs.Stages.{GivesFrom, StartsFrom}
-use Rattle.long_poll.specs.declared.clock.Clock as Clock
-use Rattle.long_poll.specs.declared.connection.Begun.{Begun}
-use Rattle.long_poll.specs.declared.connection.Submission.{Submission}
+use Rattle.long_poll.specs.declared.service.clock.Clock as Clock
+use Rattle.long_poll.specs.declared.exchange.connection.Begun.{Begun}
+use Rattle.long_poll.specs.declared.exchange.submission.Submission.{Submission}
 use Rattle.long_poll.specs.declared.exchange.Exchange.{Exchange}
-use Rattle.long_poll.specs.declared.fault.ExchangeFault.{ExchangeFault}
-use Rattle.long_poll.specs.declared.outcome.Outcome.{Outcome}
+use Rattle.long_poll.specs.declared.exchange.fault.ExchangeFault.{ExchangeFault}
+use Rattle.long_poll.specs.declared.exchange.outcome.Outcome.{Outcome}
 use Rattle.long_poll.specs.declared.service.Service as Service
 use Rattle.long_poll.specs.declared.streamed_body.StreamedBody.{StreamedBody}
 use Rattle.usage_ledger.specs.declared.keep.Keep as Keep

@@ -7,12 +7,12 @@ use Rattle.futures.specs.Runs.{Runs, EndsIf}
 use Rattle.http_body.specs.declared.frame.Frame.{Frame}
 use Rattle.long_poll.specs.Pieces.{IsPiece}
 use Rattle.long_poll.specs.Ringing.{hears_at}
-use Rattle.long_poll.specs.declared.bell.Heard.{Heard}
+use Rattle.long_poll.specs.declared.service.bell.Heard.{Heard}
 use Rattle.long_poll.specs.declared.service.Service as Service
-use Rattle.long_poll.specs.declared.trace_body.Course.{Course}
-use Rattle.long_poll.specs.declared.trace_body.Found.{Found}
-use Rattle.long_poll.specs.declared.trace_body.Found.TheVariants as found
-use Rattle.long_poll.specs.declared.trace_body.TraceBody.{TraceBody}
+use Rattle.long_poll.specs.declared.streamed_body.trace_body.Course.{Course}
+use Rattle.long_poll.specs.declared.streamed_body.trace_body.Found.{Found}
+use Rattle.long_poll.specs.declared.streamed_body.trace_body.Found.TheVariants as found
+use Rattle.long_poll.specs.declared.streamed_body.trace_body.TraceBody.{TraceBody}
 
 -- At the end of the history as it is, a body ends only if it does not follow the history any more, or by a failure.
 abbrev pub Stops : {T E : Type 0} → Course T → Option (Result (Frame (List ℕ)) E) → Type 0

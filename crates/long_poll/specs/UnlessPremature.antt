@@ -1,12 +1,12 @@
 -- The result of a call that is submitted to an account.
 use Rattle.std.specs.Prelude.{◌≡◌, ℕ, List, Option, Result, Ok, Err}
 use Rattle.account_lock.specs.declared.desk.Refused.{Refused}
-use Rattle.account_lock.specs.declared.unless_premature.NotTaken.{NotTaken}
-use Rattle.account_lock.specs.declared.unless_premature.NotTaken.TheVariants as not_taken
+use Rattle.account_lock.specs.declared.desk.unless_premature.NotTaken.{NotTaken}
+use Rattle.account_lock.specs.declared.desk.unless_premature.NotTaken.TheVariants as not_taken
 use Rattle.call_types.specs.declared.call.Call.{Call}
 use Rattle.call_types.specs.declared.call.Entry.{Entry}
 use Rattle.usage_ledger.specs.Tallies.{Held}
-use Rattle.long_poll.specs.declared.bell.OneShotBell.{OneShotBell}
+use Rattle.long_poll.specs.declared.service.bell.OneShotBell.{OneShotBell}
 
 -- The result of a submit: the ticket, with the history that its token has seen; or why the call was refused, with its
 -- bell.

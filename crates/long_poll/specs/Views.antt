@@ -1,7 +1,7 @@
 -- The replies that show something of an account.
 use Rattle.std.specs.Prelude.{ℕ, Bool, true, false, List, [], ◌∷◌, ◌++◌, codes, decimal, Option}
 use Rattle.call_types.specs.declared.stats.Stats.{Stats}
-use Rattle.long_poll.specs.declared.views.TheConstants.{VERSION}
+use Rattle.long_poll.specs.declared.exchange.views.TheConstants.{VERSION}
 use Rattle.serde_json.specs.Data.{Data, boolean, number, unsigned, string, object, member, no_members}
 use Rattle.http_header.specs.FieldValue.{FieldValue}
 use Rattle.lambda_wire.specs.Bodies.{reservation_text}

@@ -1,7 +1,11 @@
 //! What is told after each step: how the ticker rests while nothing happens, and who follows the history.
 
-use crate::Alarm;
-use crate::followers::Followers;
+mod alarm;
+mod followers;
+
+pub use alarm::Alarm;
+pub(crate) use followers::FollowerPlace;
+use followers::Followers;
 use std::alloc::Global;
 use std::sync::atomic::AtomicBool;
 use std::sync::atomic::Ordering::SeqCst;

@@ -1,5 +1,16 @@
 //! One request, from its body to its reply.
 
+mod clock_request;
+mod collecting;
+mod connection;
+mod fault;
+mod first_bytes;
+mod lengths;
+mod outcome;
+mod refusal;
+mod submission;
+mod views;
+
 ghost use Rattle.std.specs.Prelude.{◌≡◌, [], MatchResult};
 ghost use Rattle.std.specs.Arc.{arc_value};
 ghost use Rattle.futures.specs.Task.{Covers, Keeps};
@@ -10,23 +21,32 @@ ghost use Rattle.decisions.specs.declared.decide.Shown.TheVariants.{Trace};
 ghost use Rattle.long_poll.specs.Exchanges.{service_of};
 ghost use Rattle.long_poll.specs.Pending.{KeepsTo};
 ghost use Rattle.long_poll.specs.declared.exchange.Stage.TheVariants as stage;
-ghost use Rattle.long_poll.specs.declared.fault.ExchangeFault.TheVariants.{OutOfMemory};
+ghost use Rattle.long_poll.specs.declared.exchange.fault.ExchangeFault.TheVariants.{OutOfMemory};
 
-use crate::collecting::Collecting;
-use crate::connection::{Begun, Connection, Submission};
-use crate::{BodyFault, Clock, ExchangeFault, Heard, Outcome, Service, StreamedBody};
+use crate::{Clock, Heard, Service, StreamedBody};
 use bytes::Bytes;
 use call_model::Ticket;
+pub use collecting::Collecting;
+use connection::Begun;
+pub use connection::Connection;
 use decisions::{Decide, Received, TraceQuery};
+pub use fault::{BodyFault, ExchangeFault};
 use futures::future::Future;
 use futures::ready;
 use futures::task::{Context, Poll};
 use http::request::Parts;
 use http_body::Body;
 use lambda_wire::HeaderMaps;
+pub use lengths::declares_too_long;
+pub use outcome::Outcome;
 use std::sync::{Arc, Wait};
 use std::{mem, time};
+use submission::Submission;
 use usage_ledger::{Keep, Ledgers, Token};
+pub use views::{
+    VERSION, clock_reply, environments_reply, history_headers, reservation_reply, stats_reply,
+    version_reply,
+};
 
 /// The stage of an exchange.
 #[derive(Drop)]

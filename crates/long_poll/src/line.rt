@@ -1,8 +1,11 @@
 //! The line in which callers wait whose Invokes are held back.
 
-use crate::queue::{Caller, Queue};
-use crate::seat::Seat;
+mod queue;
+mod seat;
+
 use arn_ids::FnNo;
+use queue::{Caller, Queue};
+use seat::Seat;
 use std::alloc::{AllocError, Global};
 use std::sync::atomic::AtomicU64;
 use std::sync::atomic::Ordering::SeqCst;

@@ -1,4 +1,5 @@
-//! What a connection waits for without a limit: the answer to its open Next, or the next entry of the history.
+//! What a connection waits for without a limit: the answer to its open Next, the next entry of the history, or a handler
+//! of requests.
 
 use call_model::Ticket;
 use std::sync::atomic::Ordering::SeqCst;
@@ -11,8 +12,8 @@ use std::sync::atomic::{AtomicBool, AtomicU64};
 pub struct OpenPoll {
     // One more than the ticket; 0 if none is open.
     noted: AtomicU64,
-    // Whether a trace that is sent waits for the next entry of the history.
-    awaits_entry: AtomicBool,
+    // Whether it waits for something else.
+    awaits: AtomicBool,
 }
 
 impl OpenPoll {
@@ -20,7 +21,7 @@ impl OpenPoll {
     pub fn new() -> OpenPoll {
         OpenPoll {
             noted: AtomicU64::new(0),
-            awaits_entry: AtomicBool::new(false),
+            awaits: AtomicBool::new(false),
         }
     }
 
@@ -29,14 +30,15 @@ impl OpenPoll {
         self.noted.load(SeqCst).checked_sub(1)
     }
 
-    /// Returns whether the connection waits for the answer to a Next, or for the next entry of the history.
+    /// Returns whether the connection waits for something without a limit.
     pub fn waits(&self) -> bool {
-        self.ticket().is_some() || self.awaits_entry.load(SeqCst)
+        self.ticket().is_some() || self.awaits.load(SeqCst)
     }
 
-    /// Notes whether the next entry of the history is awaited.
-    pub(crate) fn note_entry_awaited(&self, is_awaited: bool) {
-        self.awaits_entry.store(is_awaited, SeqCst);
+    /// Notes whether something is awaited that is not the answer to a Next: the next entry of the history, a request that
+    /// a handler asks for, or what a handler gives for a request.
+    pub fn note_awaited(&self, is_awaited: bool) {
+        self.awaits.store(is_awaited, SeqCst);
     }
 
     /// Notes that the Next with this ticket is open. (A ticket of 2^64 - 1, which no journal has, is not noted.)

@@ -1,10 +1,13 @@
 //! The requests that are rejected, as the connections of a service count them for its log.
 
+mod board;
+mod rejection;
+
 use crate::Alarm;
-use crate::board::Board;
-use crate::rejection::{Kind, Told};
+use board::Board;
 use http::request::Parts;
 use percent_encoding::{CONTROLS, percent_encode};
+pub use rejection::{Cause, Kind, Told};
 use std::alloc::{AllocError, Global};
 use std::sync::atomic::AtomicBool;
 use std::sync::atomic::Ordering::SeqCst;

@@ -1,5 +1,9 @@
 //! What a connection asks of an account.
 
+mod bell;
+mod clock;
+mod of_account;
+
 ghost use Rattle.std.specs.Prelude.{◌≡◌, ◌<◌, ◌^◌, ℕ, Bool, List, Option, IfOk};
 ghost use Rattle.arn_ids.specs.declared.config.Config.{Config};
 ghost use Rattle.call_types.specs.declared.call.Call.{Call as Called};
@@ -10,12 +14,13 @@ ghost use Rattle.call_types.specs.Within.{IsWithin, IsFunction};
 ghost use Rattle.usage_ledger.specs.Tallies.{Held};
 ghost use Rattle.account_lock.specs.declared.desk.Look.{Look as Seen};
 ghost use Rattle.long_poll.specs.UnlessPremature.{CameBack, UnlessPremature};
-ghost use Rattle.long_poll.specs.declared.bell.OneShotBell.{OneShotBell as Rings};
+ghost use Rattle.long_poll.specs.declared.service.bell.OneShotBell.{OneShotBell as Rings};
 
-use crate::OneShotBell;
 use account_lock::{Look, NotTaken, Refused};
 use arn_ids::FnNo;
+pub use bell::{Heard, OneShotBell};
 use call_model::{Call, Stats, Ticket};
+pub use clock::{Clock, ClockFace, MOST_LAG_MS, moment};
 use lambda_wire::Reply;
 use script::Draft;
 use std::alloc::{AllocError, Global};

@@ -1,13 +1,17 @@
 //! What is streamed of an account.
 
+mod history_body;
+mod piece;
+mod trace_body;
+
 use crate::Service;
-use crate::history_body::HistoryBody;
-use crate::trace_body::TraceBody;
 use bytes::Bytes;
 use futures::task::{Context, Poll};
+pub use history_body::HistoryBody;
 use http_body::{Body, Frame};
 use std::alloc::AllocError;
 use std::sync::Wait;
+pub use trace_body::TraceBody;
 use usage_ledger::{Keep, Ledgers};
 
 /// What is streamed of an account: its history, or its trace. (Both are on the heap: each response has the size of the

@@ -37,6 +37,10 @@ impl Clock for At {
         self.0
     }
 
+    fn lag(&self) -> u64 {
+        0
+    }
+
     fn face(&self) -> ClockFace {
         self.shown(true)
     }

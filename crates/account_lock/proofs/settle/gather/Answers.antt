@@ -24,5 +24,7 @@ loop-tally-preserved g c =
     let more = ap (λ (s : Held). s.parts) held in
     record {
       parts = omega (arith, parts, more, c.loop-tally.invariant.parts);
-      counts = taken c.args.tallies.items c.loop-tally.tallies.items rest tally c.absorb.new.self.held.counts c.loop-tally.all.held.counts is (ap (λ (s : Held). s.counts) held) c.loop-tally.invariant.counts;
+      counts =
+          taken c.args.tallies.items c.loop-tally.tallies.items rest tally c.absorb.new.self.held.counts c.loop-tally.all.held.counts is
+          (ap (λ (s : Held). s.counts) held) c.loop-tally.invariant.counts;
     }

@@ -9,7 +9,8 @@ use Rattle.account_lock.proofs.AfterCall.{behind, within, risen_by, rise_by, ris
 use Rattle.account_lock.proofs.desk.Desk.apply.Goals as goal
 
 pub serve_step-requires-clause-start : goal.serve_step-requires-clause-start
-serve_step-requires-clause-start g c = within c.self.inside.book c.take.new.self c.args.now c.args.call c.len-start.result c.in-Ok-take.ensures.step c.len-start.ensures.value
+serve_step-requires-clause-start g c =
+    within c.self.inside.book c.take.new.self c.args.now c.args.call c.len-start.result c.in-Ok-take.ensures.step c.len-start.ensures.value
 
 pub serve_step-requires-clause-notes : goal.serve_step-requires-clause-notes
 serve_step-requires-clause-notes g c =
@@ -19,7 +20,8 @@ serve_step-requires-clause-notes g c =
 pub serve_step-requires-clause-room : goal.serve_step-requires-clause-room
 serve_step-requires-clause-room g c =
     let few = behind c.self.inside.book c.take.new.self c.args.now c.args.call c.len-start.result c.in-Ok-take.ensures.step c.len-start.ensures.value in
-    omega (arith, ap length few, c.most_given-most.ensures c.args.now c.count_due-expiries.ensures.value, c.in-Ok.ensures.rings, ap length (c.make_room.ensures.same.1 ∙ c.self.invariant.1))
+    omega
+    (arith, ap length few, c.most_given-most.ensures c.args.now c.count_due-expiries.ensures.value, c.in-Ok.ensures.rings, ap length (c.make_room.ensures.same.1 ∙ c.self.invariant.1))
 
 pub serve_step-requires-clause-rising : goal.serve_step-requires-clause-rising
 serve_step-requires-clause-rising g c =
@@ -28,7 +30,8 @@ serve_step-requires-clause-rising g c =
     rising_by old.book c.take.new.self c.args.now c.args.call c.in-Ok-take.ticket old.bells.items c.store.new.bells.items c.args.bell old.totals c.self.invariant.0 c.in-Ok-take.ensures.step c.in-Ok-take.ensures.ticket all
 
 pub serve_step-requires-clause-risen : goal.serve_step-requires-clause-risen
-serve_step-requires-clause-risen g c = risen_by c.self.inside.book c.take.new.self c.args.now c.args.call c.stats-before.result c.stats-before.ensures c.in-Ok-take.ensures.step
+serve_step-requires-clause-risen g c =
+    risen_by c.self.inside.book c.take.new.self c.args.now c.args.call c.stats-before.result c.stats-before.ensures c.in-Ok-take.ensures.step
 
 pub invariant_of-self-2 : goal.invariant_of-self-2
 invariant_of-self-2 g c =
@@ -72,7 +75,8 @@ returns-clause-taken g c =
           c.made.ensures.same
           ∙ ap (λ (s : Held). record s { kept = k }) c.serve_step.ensures.held
           ∙ (λ i. record (was i) { counts = plus (was i).counts (rose i); kept = k })
-          ∙ ap (λ d. record c.args.tally.now.held { counts = plus c.args.tally.now.held.counts (counts_of (added_to d.book c.args.now c.args.call)); kept = k }) c.self.view_is;
+          ∙ ap
+          (λ d. record c.args.tally.now.held { counts = plus c.args.tally.now.held.counts (counts_of (added_to d.book c.args.now c.args.call)); kept = k }) c.self.view_is;
       keeps = (
         c.serve_step.new.tally.held.kept,
         coe 0 1 (i. Steps g.K.Keep.notes (was i).kept (answers i) c.serve_step.new.tally.held.kept) c.serve_step.ensures.kept,
