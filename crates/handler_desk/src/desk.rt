@@ -24,6 +24,13 @@ pub enum Taken {
     Over,
 }
 
+/// Wakes the handlers whose bells these are.
+fn ring(bells: Vec<Sender<()>>) {
+    for bell in bells {
+        let _ = bell.send(());
+    }
+}
+
 /// The desk. Its lock is taken by no one who holds that of an account, and no account's is taken by who holds it.
 #[derive(Drop)]
 pub struct Desk {
@@ -80,17 +87,21 @@ impl Desk {
     /// If no handler is here, if too many requests wait, or if an allocation fails.
     pub fn put<R: Wait + Clock>(&self, rt: &R, request: Request) -> Result<Put, NotPut> {
         let now = self.now(rt);
-        let put = self.state.lock(rt).put(now, request);
-        self.wake(rt);
+        let (put, bells) = self.put_at(rt, now, request);
+        ring(bells);
         put
     }
 
-    /// Wakes the handlers that wait for a request.
-    fn wake(&self, rt: &impl Wait) {
-        let bells = self.state.lock(rt).take_bells();
-        for bell in bells {
-            let _ = bell.send(());
-        }
+    /// Lets a request wait, and takes the bells of the handlers that wait for one.
+    fn put_at(
+        &self,
+        rt: &impl Wait,
+        now: u64,
+        request: Request,
+    ) -> (Result<Put, NotPut>, Vec<Sender<()>>) {
+        let mut state = self.state.lock(rt);
+        let put = state.put(now, request);
+        (put, state.take_bells())
     }
 
     /// Takes the first request for whose answer someone waits.
@@ -175,7 +186,6 @@ impl Desk {
         }
         let now = self.now(rt);
         self.state.lock(rt).ended(number, now);
-        self.wake(rt);
     }
 
     /// Gives up what waits if no handler has come back in time. It is called every second while a connection is open.
@@ -193,7 +203,13 @@ impl Desk {
 
     /// Notes that the service is over: what waits has failed, and handlers that wait for a request get none.
     pub fn close(&self, rt: &impl Wait) {
-        self.state.lock(rt).end();
-        self.wake(rt);
+        ring(self.end(rt));
+    }
+
+    /// Notes that the service is over, and takes the bells of the handlers that wait for a request.
+    fn end(&self, rt: &impl Wait) -> Vec<Sender<()>> {
+        let mut state = self.state.lock(rt);
+        state.end();
+        state.take_bells()
     }
 }

@@ -1,15 +1,21 @@
 //! The requests that wait for a handler, those that handlers have taken, and whether a handler is here.
 
-ghost use Rattle.std.specs.Prelude.{◌≡◌, true, false, IfOk, OnOk, IfErr, OnErr, MatchResult, None, Some};
-ghost use Rattle.handover.specs.Counters.{opened, first_of, with_request, taken_by, answered, without_handler};
+ghost use Rattle.std.specs.Prelude.{◌≡◌, ◌&&◌, not, true, false, IfOk, OnOk, IfErr, OnErr, MatchResult, None, Some};
+ghost use Rattle.std.specs.Prelude.{[], option_map, IsSomeAnd};
+ghost use Rattle.std.specs.BTreeMap.{is_at};
+ghost use Rattle.std.specs.Map.{lookup};
+ghost use Rattle.std.specs.Ordering.{nat_cmp};
+ghost use Rattle.futures.specs.Channel.{canceled_source, completed_source};
+ghost use Rattle.handover.specs.Counters.{bytes_of, opened, refusal, first_of, with_request, taken_by, given_up, answered};
+ghost use Rattle.handover.specs.Counters.{withdrawn, without_handler};
 ghost use Rattle.handover.specs.Stages.{stage, denial};
 ghost use Rattle.handover.specs.Presence.{with_handler, ended_at, is_attended};
-ghost use Rattle.handler_desk.specs.States.{limits, grace};
+ghost use Rattle.handler_desk.specs.States.{limits, grace, IsRefused};
 ghost use Rattle.handler_desk.specs.declared.state.NotPut.TheVariants.{OutOfMemory};
 
 use crate::posted::Given;
 use futures::channel::oneshot::{Receiver, Sender, channel};
-use handover::{Attendance, Limits, NotTaken, PutFault, Request, Requests};
+use handover::{Attendance, Limits, NotTaken, Request, Requests};
 use std::alloc::{AllocError, Global};
 use std::collections::BTreeMap;
 use std::mem;
@@ -72,18 +78,12 @@ pub(crate) struct State {
     is_over: bool,
 }
 
-/// Returns why a request does not wait, by the fault of the counter.
-fn not_put(fault: PutFault) -> NotPut {
-    match fault {
-        PutFault::TooMany | PutFault::TooManyBytes | PutFault::NoIdentifier => NotPut::TooMany,
-        PutFault::OutOfMemory => NotPut::OutOfMemory,
-    }
-}
-
 impl State {
     /// Returns the state in which no request has come, and no handler has asked. It allocates nothing.
     pub(crate) fn new(alloc: Global) -> State
-        ensures { result.requests ≡ opened limits }
+        ensures requests { result.requests ≡ opened limits }
+        ensures attendance { result.attendance ≡ record { handlers = []; left_at = None; grace = grace } }
+        ensures is_over { result.is_over ≡ false }
     {
         State {
             alloc,
@@ -97,7 +97,7 @@ impl State {
 
     /// Returns whether requests are handed over at this moment.
     pub(crate) fn is_attended(&self, now: u64) -> bool
-        ensures { result ≡ true → is_attended now self.now.attendance ≡ true }
+        ensures { result ≡ (not self.now.is_over && is_attended now self.now.attendance) }
     {
         !self.is_over && self.attendance.is_attended(now)
     }
@@ -112,28 +112,36 @@ impl State {
     /// Lets a request wait at this moment, if a handler is here.
     ///
     /// # Errors
-    /// If none is, if too many wait, or if memory is refused. No further request waits then.
+    /// If none is, if too many wait, or if memory is refused, in this order. What waits, and what handlers have taken, is
+    /// then as it was.
     pub(crate) fn put(&mut self, now: u64, request: Request) -> Result<Put, NotPut>
-        ensures attended { OnOk result (is_attended now self.old.attendance ≡ true) }
+        ensures attended { OnOk result ((not self.old.is_over && is_attended now self.old.attendance) ≡ true) }
         ensures id { IfOk result (λ put. put.id ≡ self.old.requests.next_id) }
         ensures waits { OnOk result (self.new.requests ≡ with_request request self.old.requests) }
+        ensures refused { IfErr result (IsRefused (not self.old.is_over && is_attended now self.old.attendance)
+            (refusal (bytes_of request) self.old.requests)) }
+        ensures same { OnErr result (self.new.requests ≡ self.old.requests) }
+        ensures presence { (self.new.attendance ≡ self.old.attendance) × (self.new.is_over ≡ self.old.is_over) }
     {
         if !self.is_attended(now) {
             return Err(NotPut::NoHandler);
         }
+        if self.requests.refusal(request.bytes()).is_some() {
+            return Err(NotPut::TooMany);
+        }
         let (sender, given) = channel(self.alloc)?;
+        let id = self.requests.next_id();
         let seat = Seat {
             sender,
             handler: None,
         };
-        let id = match self.requests.put(request) {
-            Ok(id) => id,
-            Err(fault) => return Err(not_put(fault)),
-        };
-        match self.seats.insert(id, seat) {
-            Ok(_) => Ok(Put { id, given }),
+        if let Err(_refused) = self.seats.insert(id, seat) {
+            return Err(NotPut::OutOfMemory);
+        }
+        match self.requests.put(request) {
+            Ok(id) => Ok(Put { id, given }),
             Err(_refused) => {
-                let _ = self.requests.requester_ended(id);
+                let _ = self.seats.remove(&id);
                 Err(NotPut::OutOfMemory)
             }
         }
@@ -178,7 +186,9 @@ impl State {
     }
 
     /// Removes a request for whose answer no one waits.
-    pub(crate) fn withdraw(&mut self, id: u64) {
+    pub(crate) fn withdraw(&mut self, id: u64)
+        ensures { self.new.requests ≡ withdrawn id self.old.requests }
+    {
         let _ = self.requests.requester_ended(id);
         let _ = self.seats.remove(&id);
     }
@@ -196,6 +206,8 @@ impl State {
             (λ e. denial handler (stage id self.old.requests) ≡ Some e) }
         ensures state { OnOk result (self.new.requests ≡ answered id self.old.requests) }
         ensures same { OnErr result (self.new.requests ≡ self.old.requests) }
+        ensures sender { IfOk result (λ sender.
+            sender ≡ option_map (λ seat. seat.sender) (lookup (is_at (nat_cmp id)) self.old.seats.entries)) }
     {
         if let Err(fault) = self.requests.answer(id, handler) {
             return Err(fault);
@@ -208,11 +220,12 @@ impl State {
 
     /// Notes that a handler has ended at this moment: the requests that it had taken have failed.
     pub(crate) fn ended(&mut self, handler: u64, now: u64)
-        ensures { self.new.attendance ≡ ended_at handler now self.old.attendance }
+        ensures attendance { self.new.attendance ≡ ended_at handler now self.old.attendance }
+        ensures failed { self.new.requests ≡ without_handler handler self.old.requests }
     {
         self.attendance.ended(handler, now);
         self.seats.retain(|_, seat| seat.handler != Some(handler));
-        let _ = self.requests.handler_ended(self.alloc, handler);
+        self.requests.end_handler(handler);
     }
 
     /// Gives up all requests that wait.

@@ -31,7 +31,8 @@ pub struct Limits {
 /// Contracts see a record of the lists of both. A request that waits holds its bytes here, within the limits; one
 /// that was taken holds its identifier alone, until it is answered, its handler ends or its requester goes away.
 ///
-/// No call visits the requests that wait; `handler_ended` alone visits those that were taken.
+/// No call visits the requests that wait; `handler_ended` and `end_handler` alone visit those
+/// that were taken.
 #[derive(Drop)]
 pub struct Requests {
     waiting: BTreeMap<u64, Request>,
@@ -85,6 +86,13 @@ impl Requests {
         ensures { result ≡ length self.now.taken }
     {
         self.taken.len() as u64
+    }
+
+    /// Returns the identifier of the request that comes next.
+    pub fn next_id(&self) -> u64
+        ensures { result ≡ self.now.next_id }
+    {
+        self.next_id
     }
 
     /// Returns how many bytes the requests that wait have.
@@ -227,8 +235,16 @@ impl Requests {
         ensures same { OnErr result (self.new ≡ self.old) }
     {
         let failed = self.taken_of(alloc, handler)?;
-        self.taken.retain(|_, other| *other != handler);
+        self.end_handler(handler);
         Ok(failed)
+    }
+
+    /// Ends a handler, as [`Requests::handler_ended`] does, without saying which requests have failed. It takes no
+    /// memory, so it never fails.
+    pub fn end_handler(&mut self, handler: u64)
+        ensures { self.new ≡ without_handler handler self.old }
+    {
+        self.taken.retain(|_, other| *other != handler);
     }
 
     /// Removes a request whose requester has gone away: it is over. Returns where it was.

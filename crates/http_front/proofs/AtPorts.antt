@@ -21,8 +21,9 @@ use Rattle.http.specs.declared.response.Response.{Response}
 use Rattle.http_body.specs.declared.frame.Frame.{Frame}
 use Rattle.http_body_util.specs.declared.either.Either.{Either}
 use Rattle.http_body_util.specs.declared.full.Full.{Full}
-use Rattle.http_front.specs.Answered.{IsReplyTo, IsOutcomeOf, IsDecided, IsAnswerAt, IsTicked}
-use Rattle.http_front.specs.Exchanged.{ComesTo, IsAnswer}
+use Rattle.http_front.specs.Answered.{IsReplyTo, IsOutcomeOf, IsDecided, IsItsOwn, IsAnswerAt, IsTicked}
+use Rattle.http_front.specs.Exchanged.{ComesTo, IsAnswer, IsOwnAnswer}
+use Rattle.http_front.specs.Handing.{IsGivenAtDesk}
 use Rattle.http_front.specs.Responses.{IsAnswerTo, IsRefusal}
 use Rattle.http_front.specs.declared.front.Front.{Front}
 use Rattle.http_routes.specs.Decisions.{Served, decision}
@@ -34,19 +35,19 @@ use Rattle.long_poll.specs.Outcomes.{IsStreamOf}
 use Rattle.long_poll.specs.Reads.{Counts, Lists, Reserves}
 use Rattle.long_poll.specs.Replies.{IsReplyAt, IsRefusalOf}
 use Rattle.long_poll.specs.Views.{clock_reply, stats_reply, environments_reply, reservation_reply}
-use Rattle.long_poll.specs.declared.clock.Clock as Clock
-use Rattle.long_poll.specs.declared.connection.Connection.{Connection}
-use Rattle.long_poll.specs.declared.fault.ExchangeFault.{ExchangeFault}
-use Rattle.long_poll.specs.declared.fault.ExchangeFault.TheVariants.{BodyFailed, OutOfMemory, BellLost}
+use Rattle.long_poll.specs.declared.service.clock.Clock as Clock
+use Rattle.long_poll.specs.declared.exchange.connection.Connection.{Connection}
+use Rattle.long_poll.specs.declared.exchange.fault.ExchangeFault.{ExchangeFault}
+use Rattle.long_poll.specs.declared.exchange.fault.ExchangeFault.TheVariants.{BodyFailed, OutOfMemory, BellLost}
 use Rattle.long_poll.specs.declared.streamed_body.StreamedBody.{StreamedBody}
-use Rattle.long_poll.specs.declared.outcome.Outcome.{Outcome}
-use Rattle.long_poll.specs.declared.outcome.Outcome.TheVariants as outcome
+use Rattle.long_poll.specs.declared.exchange.outcome.Outcome.{Outcome}
+use Rattle.long_poll.specs.declared.exchange.outcome.Outcome.TheVariants as outcome
 use Rattle.long_poll.specs.declared.service.Service as Service
 use Rattle.request_guard.specs.Guarding.{refusal_of}
 use Rattle.service_port.specs.declared.port.Port.{Port}
 use Rattle.request_guard.specs.declared.refusal.Refusal.{Refusal}
 use Rattle.request_guard.specs.declared.refusal.Refusal.TheVariants as refused
-use Rattle.long_poll.specs.declared.bell.OneShotBell.{OneShotBell}
+use Rattle.long_poll.specs.declared.service.bell.OneShotBell.{OneShotBell}
 use Rattle.usage_ledger.specs.Tallies.{Held}
 use Rattle.usage_ledger.specs.declared.keep.Keep as Keep
 
@@ -212,11 +213,11 @@ module _ {R S D N K L B P E T : Type 0} {service : Service.Ghosts S K L T} {deci
     guarded None (inl x) = inr (inl x)
     guarded None (inr x) = exchanged x.0 x.1 x.2
 
-    pub at_port : (account : S) → service_of connection ≡ account
+    own_at_port : (account : S) → service_of connection ≡ account
         → (it : N) → clock_of connection ≡ it → front.port ≡ served.port
-        → arc_value front.hosts ≡ hosts → IsAnswer clock yields has front head response
-        → IsAnswerAt L (IsStreamOf service account) (clock.reads it) served most yields has hosts head response
-    at_port account same it is at listed x =
+        → arc_value front.hosts ≡ hosts → IsOwnAnswer clock yields has front head response
+        → IsItsOwn L (IsStreamOf service account) (clock.reads it) served most yields has hosts head response
+    own_at_port account same it is at listed x =
         let of_hosts : MatchOption (refusal_of hosts head) (IsRefusal front.port (declares_too_long head) refused.OutOfMemory response ⊎ Exchanged front.port)
         (λ refusal. IsRefusal front.port (declares_too_long head) refusal response)
         = subst (λ h. MatchOption (refusal_of h head)
@@ -228,6 +229,18 @@ module _ {R S D N K L B P E T : Type 0} {service : Service.Ghosts S K L T} {deci
         = subst (λ a. MatchOption (refusal_of hosts head)
         (IsRefusal a (declares_too_long head) refused.OutOfMemory response ⊎ Exchanged a) (λ refusal. IsRefusal a (declares_too_long head) refusal response))
         at of_hosts in
-        subst (λ a. IsAnswerAt L (IsStreamOf service a) (clock.reads it) served most yields has hosts head response) same
-        (subst (λ c. IsAnswerAt L shows (clock.reads c) served most yields has hosts head response) is
+        subst (λ a. IsItsOwn L (IsStreamOf service a) (clock.reads it) served most yields has hosts head response) same
+        (subst (λ c. IsItsOwn L shows (clock.reads c) served most yields has hosts head response) is
         (guarded (refusal_of hosts head) of_api))
+
+    pub at_port : (account : S) → service_of connection ≡ account
+        → (it : N) → clock_of connection ≡ it → front.port ≡ served.port
+        → arc_value front.hosts ≡ hosts → arc_value (arc_value front.at_desk).side ≡ served
+        → IsAnswer clock yields has front head response
+        → IsAnswerAt L (IsStreamOf service account) (clock.reads it) served most yields has hosts head response
+    at_port account same it is at listed sided (inl x) = inl (own_at_port account same it is at listed x)
+    at_port account same it is at listed sided (inr x) =
+        inr (
+          subst (λ h. refusal_of h head ≡ None) listed x.0,
+          subst (λ s. IsGivenAtDesk s head response) sided x.1,
+        )

@@ -1,5 +1,5 @@
 -- What a front gives answers the request that it was asked.
-use Rattle.std.proofs.Common.{◌≡◌, ◌⊎◌, ℕ, Bool, Box, List, Option, Some, None, Result, IfOk, MatchOption, IsSomeAnd, subst, inl, inr}
+use Rattle.std.proofs.Common.{◌≡◌, ◌⊎◌, ℕ, Bool, Box, List, Option, Some, None, Result, Ok, IfOk, MatchOption, IsSomeAnd, subst, inl, inr}
 use Rattle.std.specs.Arc.{arc_value}
 use Rattle.std.specs.declared.alloc.Global.{Global}
 use Rattle.decisions.specs.declared.decide.Decide as Decide
@@ -12,9 +12,12 @@ use Rattle.http_body.specs.declared.frame.Frame.{Frame}
 use Rattle.http_body_util.specs.declared.either.Either.{Either}
 use Rattle.http_body_util.specs.declared.full.Full.{Full}
 use Rattle.http_connection.specs.Written.{Gave}
-use Rattle.http_front.specs.Courses.{IsExchangeOf, Takes}
-use Rattle.http_front.specs.Exchanged.{ComesTo, IsAnswer}
+use Rattle.http_front.specs.Courses.{IsExchangeOf, Takes, TakesItself}
+use Rattle.http_front.specs.Exchanged.{ComesTo, IsAnswer, IsOwnAnswer}
+use Rattle.http_front.specs.Handing.{IsHandedAnswer, IsHandlerAnswer}
 use Rattle.http_front.specs.Responses.{IsAnswerTo, IsRefusal}
+use Rattle.http_front.specs.declared.course.Course.{Course}
+use Rattle.http_front.specs.declared.course.Course.TheVariants.{Own, Handed, OfHandler}
 use Rattle.http_front.specs.declared.front.Front.{Front}
 use Rattle.http_front.specs.declared.responding.Responding.{Responding}
 use Rattle.long_poll.specs.Exchanges.{service_of}
@@ -22,13 +25,13 @@ use Rattle.long_poll.specs.Lengths.{declares_too_long}
 use Rattle.long_poll.specs.Outcomes.{IsStreamOf}
 use Rattle.long_poll.specs.Stages.{GivesFrom}
 use Rattle.long_poll.specs.Standing.{Gives}
-use Rattle.long_poll.specs.declared.clock.Clock as Clock
-use Rattle.long_poll.specs.declared.connection.Connection.{Connection}
+use Rattle.long_poll.specs.declared.service.clock.Clock as Clock
+use Rattle.long_poll.specs.declared.exchange.connection.Connection.{Connection}
 use Rattle.long_poll.specs.declared.exchange.Exchange.{Exchange}
 use Rattle.long_poll.specs.declared.exchange.Stage.{Stage}
-use Rattle.long_poll.specs.declared.fault.ExchangeFault.{ExchangeFault}
+use Rattle.long_poll.specs.declared.exchange.fault.ExchangeFault.{ExchangeFault}
 use Rattle.long_poll.specs.declared.streamed_body.StreamedBody.{StreamedBody}
-use Rattle.long_poll.specs.declared.outcome.Outcome.{Outcome}
+use Rattle.long_poll.specs.declared.exchange.outcome.Outcome.{Outcome}
 use Rattle.long_poll.specs.declared.service.Service as Service
 use Rattle.request_guard.specs.Guarding.{refusal_of}
 use Rattle.service_port.specs.declared.port.Port.{Port}
@@ -100,20 +103,42 @@ module _ {R S D N K L B P E T : Type 0} {service : Service.Ghosts S K L T} {deci
 module _ {R S D N K L B P E T : Type 0} {service : Service.Ghosts S K L T} {decider : Decide.Ghosts D}
     {keep : Keep.Ghosts K} (clock : Clock.Ghosts N) (yields : B → Runs (Result (Frame P) E)) (has : P → List ℕ → Type 0)
     (X : Type 0) (front : Front R S D N K L T service decider keep) where
-  abbrev Given : Responding R S D N B K L T service decider keep
-      → Result (Response (Either (Full (List ℕ)) (StreamedBody R S T K L))) X → Type 0
-  Given future answer = IfOk answer (λ response. MatchOption future.refusal
+  abbrev Answer : Type 0
+  Answer = Response (Either (Full (List ℕ)) (StreamedBody R S T K L))
+
+  abbrev GivenItself : Responding R S D N B K L T service decider keep → Result Answer X → Type 0
+  GivenItself future answer = IfOk answer (λ response. MatchOption future.refusal
       (IsSomeAnd future.exchange (λ exchange. (made : Result (Outcome (StreamedBody R S T K L) L) ExchangeFault)
       × Gives clock yields has exchange.value made × IsAnswerTo future.port future.is_unread made response))
       (λ refusal. IsRefusal future.port future.is_unread refusal response))
 
-  pub answers : (head : Parts) (response : Response (Either (Full (List ℕ)) (StreamedBody R S T K L)))
-      → Gave (λ (front : Front R S D N K L T service decider keep) (request : Request B) (future : Responding R S D N B K L T service decider keep).
+  abbrev Given : Course R S D N B K L T service decider keep → Result Answer X → Type 0
+  Given (Own future) answer = GivenItself future answer
+  Given (Handed future) answer = IfOk answer (IsHandedAnswer future.value.is_unread)
+  Given (OfHandler future) answer = IfOk answer (IsHandlerAnswer future.value.is_unread)
+
+  -- of one that the service itself answers
+  of_own : (head : Parts) (body : B) (response : Answer) (future : Responding R S D N B K L T service decider keep)
+      → TakesItself front head body future → GivenItself future (Ok response)
+      → IsOwnAnswer clock yields has front head response
+  of_own head body response future took gave =
+      answer_of clock yields has front head body response (refusal_of (arc_value front.hosts) head)
+      (front.port, declares_too_long head) (future.port, future.is_unread) future.refusal
+      future.exchange (λ i. (took.0 i, took.1 i)) took.2 gave
+
+  -- of any
+  of_any : (head : Parts) (body : B) (response : Answer) (future : Course R S D N B K L T service decider keep)
+      → Takes front head body future → Given future (Ok response) → IsAnswer clock yields has front head response
+  of_any head body response (Own future) took gave = inl (of_own head body response future took gave)
+  of_any head body response (Handed future) took gave =
+      inr (took.0, inl (took.1, subst (λ (unread : Bool). IsHandedAnswer unread response) took.2 gave))
+  of_any head body response (OfHandler future) took gave =
+      inr (took.0, inr (took.1, took.2, subst (λ (unread : Bool). IsHandlerAnswer unread response) took.3 gave))
+
+  pub answers : (head : Parts) (response : Answer)
+      → Gave (λ (front : Front R S D N K L T service decider keep) (request : Request B) (future : Course R S D N B K L T service decider keep).
       Takes front (head_of request) (body_of request) future) Given front head response
       → IsAnswer clock yields has front head response
   answers head response x =
       subst (λ (h : Parts). IsAnswer clock yields has front h response) x.head_is
-      (answer_of clock yields has front (head_of x.request) (body_of x.request) response
-      (refusal_of (arc_value front.hosts) (head_of x.request))
-      (front.port, declares_too_long (head_of x.request)) (x.future.port, x.future.is_unread) x.future.refusal
-      x.future.exchange (λ i. (x.called.0 i, x.called.1 i)) x.called.2 x.given)
+      (of_any (head_of x.request) (body_of x.request) response x.future x.called x.given)

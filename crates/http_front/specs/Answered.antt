@@ -1,6 +1,6 @@
 -- The answer to a request at a port of the service: at a port, in a configuration, with the salt of its identifiers.
 -- `most` is the limit of the account, the greatest number of entries of its history.
-use Rattle.std.specs.Prelude.{◌≡◌, ◌⊎◌, ℕ, true, List, [], Option, Result, MatchOption}
+use Rattle.std.specs.Prelude.{◌≡◌, ◌⊎◌, ℕ, true, List, [], Option, None, Result, MatchOption}
 use Rattle.account_book.specs.Reached.{IsReached}
 use Rattle.account_lock.specs.Shown.{IsTaken}
 use Rattle.arn_ids.specs.declared.config.Config.{Config}
@@ -19,6 +19,7 @@ use Rattle.http.specs.declared.response.Response.{Response}
 use Rattle.http_body.specs.declared.frame.Frame.{Frame}
 use Rattle.http_body_util.specs.declared.either.Either.{Either}
 use Rattle.http_body_util.specs.declared.full.Full.{Full}
+use Rattle.http_front.specs.Handing.{IsGivenAtDesk}
 use Rattle.http_front.specs.Responses.{IsResponseTo, IsRefusal}
 use Rattle.http_routes.specs.Decisions.{Served, decision}
 use Rattle.lambda_wire.specs.declared.reply.Reply.{Reply}
@@ -27,8 +28,8 @@ use Rattle.long_poll.specs.Exchanges.{IsOfBody}
 use Rattle.long_poll.specs.Lengths.{declares_too_long}
 use Rattle.long_poll.specs.Replies.{IsReplyAt, IsRefusalOf}
 use Rattle.long_poll.specs.Views.{stats_reply, environments_reply, followers_reply, reservation_reply, version_reply}
-use Rattle.long_poll.specs.declared.outcome.Outcome.{Outcome}
-use Rattle.long_poll.specs.declared.outcome.Outcome.TheVariants as outcome
+use Rattle.long_poll.specs.declared.exchange.outcome.Outcome.{Outcome}
+use Rattle.long_poll.specs.declared.exchange.outcome.Outcome.TheVariants as outcome
 use Rattle.request_guard.specs.Guarding.{refusal_of}
 use Rattle.request_guard.specs.declared.refusal.Refusal.TheVariants.{BrokenBody, OutOfMemory}
 use Rattle.trace.specs.EnvironmentObject.{environments_text}
@@ -80,10 +81,16 @@ module _ {H : Type 0} (L : Type 0) (shows : Shown → H → Type 0) (reads : ℕ
         × IsOfBody has (yields came) head [] (λ body. IsOutcomeOf (decision served head body) given)
         × IsResponseTo (declares_too_long head) given response
 
-    -- The response to a request with this head at the port. If the head is refused, it is that of the refusal.
-    -- Otherwise it is that of a body that failed, of an allocation that failed, or of the decision.
-    abbrev pub IsAnswerAt : Response (Either (Full (List ℕ)) H) → Type 0
-    IsAnswerAt response = MatchOption (refusal_of hosts head)
+    -- The response that the service itself gives to a request with this head at the port. If the head is refused, it is
+    -- that of the refusal. Otherwise it is that of a body that failed, of an allocation that failed, or of the decision.
+    abbrev pub IsItsOwn : Response (Either (Full (List ℕ)) H) → Type 0
+    IsItsOwn response = MatchOption (refusal_of hosts head)
         (IsRefusal served.port (declares_too_long head) BrokenBody response
         ⊎ (IsRefusal served.port (declares_too_long head) OutOfMemory response ⊎ IsDecided response))
         (λ refusal. IsRefusal served.port (declares_too_long head) refusal response)
+
+    -- The response to a request with this head at the port. The service itself gives it; or the head is not refused, and
+    -- it is given at the desk: the request is one that may be handed over, or a handler's own.
+    abbrev pub IsAnswerAt : Response (Either (Full (List ℕ)) H) → Type 0
+    IsAnswerAt response =
+        IsItsOwn response ⊎ ((refusal_of hosts head ≡ None) × IsGivenAtDesk served head response)

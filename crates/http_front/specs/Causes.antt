@@ -2,8 +2,8 @@
 use Rattle.std.specs.Prelude.{Option, Some, None}
 use Rattle.request_guard.specs.declared.refusal.Refusal.{Refusal}
 use Rattle.request_guard.specs.declared.refusal.Refusal.TheVariants as refusal
-use Rattle.long_poll.specs.declared.rejection.Cause.{Cause}
-use Rattle.long_poll.specs.declared.rejection.Cause.TheVariants as cause
+use Rattle.long_poll.specs.declared.rejections.rejection.Cause.{Cause}
+use Rattle.long_poll.specs.declared.rejections.rejection.Cause.TheVariants as cause
 
 -- A request that only lacked memory is not at fault.
 abbrev pub cause_of : Refusal → Option Cause

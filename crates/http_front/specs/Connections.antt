@@ -14,8 +14,8 @@ use Rattle.http_front.specs.Answered.{IsAnswerAt}
 use Rattle.http_front.specs.declared.common.Common.{Common}
 use Rattle.http_routes.specs.Decisions.{Served}
 use Rattle.long_poll.specs.Outcomes.{IsStreamOf}
-use Rattle.long_poll.specs.declared.bell.OneShotBell.{OneShotBell}
-use Rattle.long_poll.specs.declared.clock.Clock as Clock
+use Rattle.long_poll.specs.declared.service.bell.OneShotBell.{OneShotBell}
+use Rattle.long_poll.specs.declared.service.clock.Clock as Clock
 use Rattle.long_poll.specs.declared.service.Service as Service
 use Rattle.long_poll.specs.declared.streamed_body.StreamedBody.{StreamedBody}
 use Rattle.socket_loop.specs.Halves.{name_of_unused}

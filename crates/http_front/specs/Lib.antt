@@ -8,6 +8,9 @@ pub mod Causes
 pub mod Exchanged
 pub mod Answered
 pub mod Connections
+pub mod DeskFaults
+pub mod Handing
+pub mod HandedStages
 pub mod Readings
 pub mod Withdrawn
 pub mod Beats

@@ -12,10 +12,10 @@ use Rattle.http_header.specs.HeaderMap.{Entries, append}
 use Rattle.lambda_wire.specs.HeaderFields.{fields}
 use Rattle.lambda_wire.specs.declared.reply.Reply.{Reply as Replied}
 use Rattle.long_poll.specs.Views.{history_headers, trace_headers}
-use Rattle.long_poll.specs.declared.fault.ExchangeFault.{ExchangeFault}
-use Rattle.long_poll.specs.declared.fault.ExchangeFault.TheVariants as fault
-use Rattle.long_poll.specs.declared.outcome.Outcome.{Outcome}
-use Rattle.long_poll.specs.declared.outcome.Outcome.TheVariants.{Reply, History, Trace}
+use Rattle.long_poll.specs.declared.exchange.fault.ExchangeFault.{ExchangeFault}
+use Rattle.long_poll.specs.declared.exchange.fault.ExchangeFault.TheVariants as fault
+use Rattle.long_poll.specs.declared.exchange.outcome.Outcome.{Outcome}
+use Rattle.long_poll.specs.declared.exchange.outcome.Outcome.TheVariants.{Reply, History, Trace}
 use Rattle.request_guard.specs.Refusals.{closes, refusal_reply}
 use Rattle.service_port.specs.declared.port.Port.{Port}
 use Rattle.request_guard.specs.declared.refusal.Refusal.{Refusal}

@@ -12,6 +12,7 @@ use crate::worker::{Job, Worker};
 use crate::{HostFault, Hosted, Notices, Port};
 use account_lock::{Account, Identity};
 use connection_places::Slots;
+use handler_desk::Desk;
 use http_connection::Machine;
 use long_poll::{Clock, OneShotBell, Rejections};
 use mio::{Poll, Waker};
@@ -81,7 +82,8 @@ impl<R: Machine, S: Identity + Drop, N: Drop, K: Keep> Acceptor<R, S, N, K> {
         ensures { IfOk result (λ acceptor. acceptor.root ≡ opened.1) }
     {
         let (account, root) = opened;
-        match Common::new(rt.alloc(), account, clock, hosts, patience_ms) {
+        let desk = Desk::new(&rt, rt.alloc());
+        match Common::new(rt.alloc(), account, clock, desk, hosts, patience_ms) {
             Ok(common) => Acceptor::new(rt, common, root, most),
             Err(refused) => Err(refused),
         }
@@ -233,8 +235,8 @@ impl<R: Wait + Threads + time::Clock + Copy + Drop, S: Identity + Drop, N: Drop,
         }
     }
 
-    /// Once a second, ends the connections that have reached a time limit, and joins the threads
-    /// that have ended because no connection came.
+    /// Once a second, ends the connections that have reached a time limit, joins the threads
+    /// that have ended because no connection came, and gives up requests for which no handler has come back.
     fn look_round(&mut self) {
         if let Ok(now) = self.rt.monotonic()
             && now.saturating_sub(self.looked) >= Duration::from_secs(BETWEEN_ROUNDS_S)
@@ -242,6 +244,7 @@ impl<R: Wait + Threads + time::Clock + Copy + Drop, S: Identity + Drop, N: Drop,
             self.looked = now;
             self.slots.end_the_idle();
             self.slots.join_the_ended(&self.rt);
+            self.common.desk.look(&self.rt);
         }
     }
 
@@ -314,6 +317,7 @@ impl<R: Wait + Threads + time::Clock + Copy + Drop, S: Identity + Drop, N: Drop,
     /// Notes that the service is over, ends every connection, and joins all threads.
     pub(crate) fn finish(&mut self) {
         self.common.shared.beat.end(&self.rt);
+        self.common.desk.close(&self.rt);
         self.slots.dismiss(&self.rt);
         self.end_connections();
         self.slots.join_all(&self.rt);

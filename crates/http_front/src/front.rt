@@ -1,14 +1,21 @@
 //! The service that answers the requests of a port.
 
 ghost use Rattle.std.specs.Prelude.{◌≡◌, IfSome};
-ghost use Rattle.http_front.specs.Courses.{IsExchangeOf, Takes};
+ghost use Rattle.std.specs.Arc.{arc_value};
+ghost use Rattle.http_front.specs.Courses.{IsAnswering, IsExchangeOf, Takes};
 ghost use Rattle.http_front.specs.Causes.{cause_of};
+ghost use Rattle.http_front.specs.HandedStages.{CanGoOn, CanServe};
 ghost use Rattle.long_poll.specs.Lengths as lengths;
 
+use crate::at_desk::{AtDesk, Way};
+use crate::course::Course;
+use crate::handed::Handed;
+use crate::of_handler::OfHandler;
 use crate::responding::Responding;
 use crate::{Port, ResponseFault};
 use bytes::Bytes;
 use decisions::Decide;
+use futures::Future;
 use http::request::Parts;
 use http::{Request, Response};
 use http_body::Body;
@@ -41,13 +48,14 @@ fn cause_of(refusal: Refusal) -> Option<Cause>
 /// A port, for one connection: each request is an exchange. The decider of its exchanges knows
 /// whose port it is: an environment's (Runtime API 2018-06-01, Extensions API 2020-01-01), or the
 /// account's (Lambda API: Invoke, PutFunctionConcurrency, GetFunctionConcurrency; and this
-/// service's own routes).
+/// service's own routes). At the account's port, some requests are handed over to handlers, if there is one.
 #[derive(Drop)]
 pub struct Front<R, A: Service<K, L>, D: Decide, N, K: Keep, L: Ledgers> {
     alloc: Global,
     port: Port,
     hosts: Arc<KnownHosts>,
     pub(crate) connection: Arc<Connection<R, A, D, N, K, L>>,
+    at_desk: Arc<AtDesk<R>>,
 }
 
 impl<
@@ -58,15 +66,17 @@ impl<
     K: Keep,
     L: Ledgers,
 > Front<R, A, D, N, K, L> {
-    /// Makes the port for a connection, which speaks this API and answers for these hosts in
-    /// addition to the local ones. It allocates nothing.
+    /// Makes the port for a connection, which speaks this API, answers for these hosts in
+    /// addition to the local ones, and hands requests over at this desk. It allocates nothing.
     pub fn new(
         alloc: Global,
         port: Port,
         hosts: Arc<KnownHosts>,
         connection: Arc<Connection<R, A, D, N, K, L>>,
+        at_desk: Arc<AtDesk<R>>,
     ) -> Front<R, A, D, N, K, L>
         ensures connection { result.connection ≡ connection }
+        ensures at_desk { result.at_desk ≡ at_desk }
         ensures guarded { (result.port ≡ port) × (result.hosts ≡ hosts) }
     {
         Front {
@@ -74,6 +84,7 @@ impl<
             port,
             hosts,
             connection,
+            at_desk,
         }
     }
 
@@ -109,26 +120,97 @@ impl<
         }
     }
 
-    /// Returns the response to a request with this head and body. If the head is refused, there is
-    /// no exchange, so the request never becomes a call. If the head declares a body that is too
-    /// long, the body is left unread.
-    fn respond<B: Body>(&self, parts: Parts, body: B) -> Responding<R, A, D, N, B, K, L>
+    /// Returns the response to a request that the service itself answers, by an exchange.
+    fn own<B: Body>(
+        &self,
+        parts: Parts,
+        body: B,
+        is_unread: bool,
+    ) -> Responding<R, A, D, N, B, K, L>
     where
         B::Data: Into<Bytes>,
         B::Error: BodyFault,
-        ensures takes { Takes self.now parts body result }
-        ensures begins { IfSome result.exchange (λ exchange. IsExchangeOf self.now parts body exchange.value) }
+        requires declared { is_unread ≡ lengths.declares_too_long parts }
+        requires body { B.can_poll body }
+        ensures answers { IsAnswering self.now parts body result }
+        ensures can_poll { ⟦<Responding<R, A, D, N, B, K, L> as Future>⟧.can_poll result }
     {
-        let is_unread = declares_too_long(&parts);
-        if let Some(refusal) = self.hosts.refusal(&parts) {
-            self.note(&parts, refusal);
-            return Responding::refused(self.alloc, self.port, is_unread, refusal);
-        }
         self.connection.await_time_of_day();
         match self.exchange(parts, body, is_unread) {
             Some(exchange) => Responding::exchanging(self.alloc, self.port, is_unread, exchange),
             None => Responding::refused(self.alloc, self.port, is_unread, Refusal::OutOfMemory),
         }
+    }
+
+    /// Returns what this connection needs to hand a request over. Returns `None` if an allocation fails.
+    fn desk(&self) -> Option<Arc<AtDesk<R>>>
+        ensures { IfSome result (λ desk. arc_value desk ≡ arc_value self.now.at_desk) }
+    {
+        Arc::try_clone(&self.at_desk).ok()
+    }
+
+    /// Returns the response to a request that is handed over. Returns `None` if an allocation fails.
+    fn handed<B: Body, H>(
+        &self,
+        parts: Parts,
+        body: B,
+        is_unread: bool,
+    ) -> Option<Box<Handed<R, B, H>>>
+        requires { B.can_poll body }
+        ensures unread { IfSome result (λ handed. handed.value.is_unread ≡ is_unread) }
+        ensures can_poll { IfSome result (λ handed. CanGoOn B.can_poll handed.value.stage) }
+    {
+        let handed = Handed::new(self.desk()?, parts, body, is_unread);
+        Box::new(self.alloc, handed).ok()
+    }
+
+    /// Returns the response to a handler's own request. Returns `None` if an allocation fails.
+    fn of_handler<B: Body, H>(
+        &self,
+        parts: Parts,
+        body: B,
+        is_unread: bool,
+    ) -> Option<Box<OfHandler<R, B, H>>>
+        requires { B.can_poll body }
+        ensures unread { IfSome result (λ own. own.value.is_unread ≡ is_unread) }
+        ensures can_poll { IfSome result (λ own. CanServe B.can_poll own.value.stage) }
+    {
+        let own = OfHandler::new(self.desk()?, parts, body, is_unread);
+        Box::new(self.alloc, own).ok()
+    }
+
+    /// Returns the response to a request with this head and body. If the head is refused, there is
+    /// no exchange, so the request never becomes a call. If the head declares a body that is too
+    /// long, the body is left unread.
+    fn respond<B: Body>(&self, parts: Parts, body: B) -> Course<R, A, D, N, B, K, L>
+    where
+        B::Data: Into<Bytes>,
+        B::Error: BodyFault,
+        requires { B.can_poll body }
+        ensures takes { Takes self.now parts body result }
+        ensures can_poll { ⟦<Course<R, A, D, N, B, K, L> as Future>⟧.can_poll result }
+    {
+        let is_unread = declares_too_long(&parts);
+        if let Some(refusal) = self.hosts.refusal(&parts) {
+            self.note(&parts, refusal);
+            return Course::Own(Responding::refused(self.alloc, self.port, is_unread, refusal));
+        }
+        match self.at_desk.way_of(&parts) {
+            Ok(Way::Own) => return Course::Own(self.own(parts, body, is_unread)),
+            Ok(Way::Handed) => {
+                if let Some(handed) = self.handed(parts, body, is_unread) {
+                    return Course::Handed(handed);
+                }
+            }
+            Ok(Way::OfHandler) => {
+                if let Some(own) = self.of_handler(parts, body, is_unread) {
+                    return Course::OfHandler(own);
+                }
+            }
+            Err(_refused) => {}
+        }
+        let refusal = Refusal::OutOfMemory;
+        Course::Own(Responding::refused(self.alloc, self.port, is_unread, refusal))
     }
 }
 
@@ -145,14 +227,14 @@ impl<
 
     type Error = ResponseFault;
 
-    type Future = Responding<R, A, D, N, Incoming<I>, K, L>;
+    type Future = Course<R, A, D, N, Incoming<I>, K, L>;
 
     ghost use Rattle.http.specs.Request.{head_of, body_of};
     ghost use Rattle.http_front.specs.Courses.{Takes};
 
     ghost calls = { λ port request future. Takes port (head_of request) (body_of request) future };
 
-    fn call(&self, request: Request<Incoming<I>>) -> Responding<R, A, D, N, Incoming<I>, K, L> {
+    fn call(&self, request: Request<Incoming<I>>) -> Course<R, A, D, N, Incoming<I>, K, L> {
         let (parts, body) = request.into_parts();
         self.respond(parts, body)
     }

@@ -59,7 +59,7 @@ fn trace_map(alloc: Global) -> Result<HeaderMap, AllocError>
 }
 
 /// Returns the response with this status, these header fields, in a map, and this body.
-fn with_map<B: Drop>(
+pub(crate) fn with_map<B: Drop>(
     is_last: bool,
     status: u16,
     map: HeaderMap,

@@ -12,6 +12,7 @@ ghost use Rattle.http_front.specs.Readings.{IsRead};
 ghost use Rattle.http_front.specs.Withdrawn.{IsWithdrawn};
 ghost use Rattle.socket_loop.specs.Halves.{name_of_accepted, name_of_unused};
 
+use crate::at_desk::AtDesk;
 use crate::common::Common;
 use crate::deciders::Deciders;
 use crate::front::Front;
@@ -200,7 +201,7 @@ impl<R: Machine, S: Identity + Drop, N: Clock + Drop, K: Keep> Worker<R, S, N, K
     }
 
     /// Serves a connection, withdraws its open Next (Runtime API, Next invocation), and notes that the
-    /// last step of a connection was made.
+    /// last step of a connection was made, and at the desk that it has ended.
     /// Returns its socket, and how it ended, if it ended by itself: each response that the socket took
     /// answers its request at the connection's own port.
     ///
@@ -216,7 +217,9 @@ impl<R: Machine, S: Identity + Drop, N: Clock + Drop, K: Keep> Worker<R, S, N, K
             return Err(job.close());
         };
         let (port, number) = (job.served.port(), job.served.number());
-        let ended = self.serve_socket(tools, job, &open);
+        let at_desk = self.common.desk.number();
+        let ended = self.serve_socket(tools, job, at_desk, &open);
+        self.common.desk.note_end(&self.rt, at_desk);
         if let Ok(
             Ended {
                 outcome: Ok(Some(Err(fault))),
@@ -244,7 +247,8 @@ impl<R: Machine, S: Identity + Drop, N: Clock + Drop, K: Keep> Worker<R, S, N, K
         rejections.note(&self.rt, kind, number, None, None);
     }
 
-    /// Serves a connection. Returns its socket, and how it ended, if it ended by itself.
+    /// Serves a connection, which has this number at the desk. Returns its socket, and how it ended, if it ended by
+    /// itself.
     ///
     /// # Errors
     /// If the connection cannot be served. Its socket is then closed, and nothing was written to it.
@@ -252,6 +256,7 @@ impl<R: Machine, S: Identity + Drop, N: Clock + Drop, K: Keep> Worker<R, S, N, K
         &self,
         tools: &mut Tools<S>,
         job: Job<S>,
+        at_desk: u64,
         open: &Arc<OpenPoll>,
     ) -> Result<Ended<Wire>, Unused>
         ensures { IsServed ⟦<Account<S, OneShotBell> as Service<K, S>>⟧ N.Clock
@@ -270,7 +275,7 @@ impl<R: Machine, S: Identity + Drop, N: Clock + Drop, K: Keep> Worker<R, S, N, K
             return Err(socket.close(AllocError.into()));
         };
         let token = self.common.shared.service.again(&mut tools.token);
-        let front = match self.front(&mut tools.deciders, token, served, open) {
+        let front = match self.front(&mut tools.deciders, token, served, at_desk, open) {
             Ok(front) => front,
             Err(refused) => return Err(socket.close(refused.into())),
         };
@@ -305,6 +310,7 @@ impl<
         deciders: &mut Deciders<S>,
         token: Token<S>,
         served: ServedPort<S>,
+        at_desk: u64,
         open: &Arc<OpenPoll>,
     ) -> Result<Front<R, Account<S, OneShotBell>, Side, N, K, S>, AllocError>
         ensures guarded { IfOk result (λ front. (front.port ≡ served.port)
@@ -312,6 +318,7 @@ impl<
         ensures shared { IfOk result (λ front.
             arc_value (arc_value front.connection).shared ≡ arc_value self.now.common.shared) }
         ensures decided { IfOk result (λ front. arc_value (arc_value front.connection).decider ≡ served) }
+        ensures handed { IfOk result (λ front. arc_value (arc_value front.at_desk).side ≡ served) }
         ensures named { IfOk result (λ front. (served.config ≡ S.config) × (served.salt ≡ S.salt)) }
     {
         let alloc = self.rt.alloc();
@@ -322,10 +329,40 @@ impl<
         let Ok(decider) = deciders.of(alloc, served) else {
             return Err(AllocError);
         };
+        let at_desk = match self.at_desk(&decider, number, at_desk, open) {
+            Ok(at_desk) => at_desk,
+            Err(refused) => return Err(refused),
+        };
         match self.connection(decider, token, number, function, open) {
-            Ok(connection) => Ok(Front::new(alloc, port, hosts, connection)),
+            Ok(connection) => Ok(Front::new(alloc, port, hosts, connection, at_desk)),
             Err(refused) => Err(refused),
         }
+    }
+
+    /// Returns what a connection needs to hand requests over. The number is that of the port at which it came, the other
+    /// one its own at the desk.
+    fn at_desk(
+        &self,
+        decider: &Arc<Side>,
+        number: u16,
+        connection: u64,
+        open: &Arc<OpenPoll>,
+    ) -> Result<Arc<AtDesk<R>>, AllocError>
+        ensures { IfOk result (λ at_desk. arc_value (arc_value at_desk).side ≡ arc_value decider.now) }
+    {
+        let desk = Arc::try_clone(&self.common.desk)?;
+        let open = Arc::try_clone(open)?;
+        let side = Arc::try_clone(decider)?;
+        let at_desk = AtDesk {
+            rt: self.rt,
+            alloc: self.rt.alloc(),
+            desk,
+            open,
+            side,
+            number,
+            connection,
+        };
+        Arc::new(self.rt.alloc(), at_desk).map_err(AllocError::from)
     }
 
     /// Returns the note of a connection's open Next.

@@ -1,5 +1,6 @@
 -- Of a text that is too long, one byte too many says as much as all of them.
-use Rattle.std.proofs.Common.{◌≡◌, ℕ, ◌<◌, ◌≤◌, true, nat_lt, List, [], ◌++◌, length, take, ◌⊎◌, inl, inr, Option, Some, None, option_map, IfSome, Result, Ok, Err, refl, sym, ap, ◌∙◌, arith}
+use Rattle.std.proofs.Common.{◌≡◌, ℕ, ◌<◌, ◌≤◌, true, nat_lt, List, [], ◌++◌, length, take, ◌⊎◌, inl, inr, Option, Some}
+use Rattle.std.proofs.Common.{None, option_map, IfSome, Result, Ok, Err, refl, sym, ap, ◌∙◌, arith}
 use Rattle.std.proofs.lemmas.Bool.{cases_lt}
 use Rattle.std.proofs.lemmas.Bool.Decides.{nat_tests}
 use Rattle.std.proofs.lemmas.List.{length-take-le, take_all}
@@ -8,7 +9,9 @@ use Rattle.lambda_wire.specs.declared.fault.WireFault.TheVariants.{TooLong}
 use Rattle.lambda_wire.specs.declared.setup.Setup.{Setup}
 use Rattle.lambda_local.specs.Explaining.{IsSetupOf}
 use Rattle.lambda_local.specs.declared.serve_fault.ServeFault.{ServeFault}
-use Rattle.lambda_local.specs.declared.serve_fault.ServeFault.TheVariants.{Config, Wire, Settlement, Read, Write, Network, TooFewDescriptors, TooFewThreads, OutOfMemory}
+use Rattle.lambda_local.specs.declared.serve_fault.ServeFault.TheVariants.{Config, Wire, Settlement, Read, Write}
+use Rattle.lambda_local.specs.declared.serve_fault.ServeFault.TheVariants.{Network, TooFewDescriptors, TooFewThreads}
+use Rattle.lambda_local.specs.declared.serve_fault.ServeFault.TheVariants.{OutOfMemory}
 
 too_long : (text : List ℕ) → 20000000 < length text → read_setup text ≡ Err TooLong
 unfolding read_setup
@@ -36,11 +39,13 @@ same_setup text input (Err TooFewThreads) same is = is
 same_setup text input (Err OutOfMemory) same is = is
 
 -- what the text says, the input says
-pub as_input : (known : Option (List ℕ)) (text : List ℕ) (r : Result Setup ServeFault) → IfSome known (λ input. text ≡ take 20000001 input) → IsSetupOf text r → IfSome known (λ input. IsSetupOf input r)
+pub as_input : (known : Option (List ℕ)) (text : List ℕ) (r : Result Setup ServeFault)
+    → IfSome known (λ input. text ≡ take 20000001 input) → IsSetupOf text r → IfSome known (λ input. IsSetupOf input r)
 as_input None text r is told = is
 as_input (Some input) text r is told = same_setup text input r (ap read_setup is ∙ enough input) told
 
 -- what was read of a reader that was cut off
-pub cut_off : (known : Option (List ℕ)) (n : ℕ) (old new : List ℕ) → old ≡ [] → IfSome (option_map (take n) known) (λ xs. new ≡ old ++ xs) → IfSome known (λ input. new ≡ take n input)
+pub cut_off : (known : Option (List ℕ)) (n : ℕ) (old new : List ℕ) → old ≡ []
+    → IfSome (option_map (take n) known) (λ xs. new ≡ old ++ xs) → IfSome known (λ input. new ≡ take n input)
 cut_off None n old new empty is = is
 cut_off (Some input) n old new empty is = is ∙ ap (λ o. o ++ take n input) empty

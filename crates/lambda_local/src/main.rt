@@ -4,18 +4,25 @@
 //! with `--bodies none`, without payloads, outputs and reports. `lambda_local explain` reads a
 //! configuration from standard input, and says which fault it has and where. `lambda_local serve PATH`
 //! serves the configuration in a file over HTTP until it is stopped, and then writes the account's counts.
+//!
+//! The groups of modules stand in the order in which to read them.
 #![tactic(auto)]
 
+// What `serve` runs: a clock that may be paused and set, the log on a thread of its own, and the line at the end.
 mod clock;
 mod closing;
-mod configuration;
 mod course;
-mod explain;
-mod hosts;
 mod log_writer;
-mod patience;
 mod rejected;
 mod serve;
+
+// The configuration, what is wrong with it and where, and the environment variables that set the rest.
+mod configuration;
+mod explain;
+mod hosts;
+mod patience;
+
+// Why the program ends with a fault.
 mod serve_fault;
 mod setting_fault;
 

@@ -16,7 +16,8 @@ returns g c =
     let served = c.args.job.served in
     let configured : g.S.Identity.config ≡ served.config = search rules in
     let salted : g.S.Identity.salt ≡ served.salt = search rules in
-    let decider : arc_value (arc_value front.connection).decider ≡ served = search rules in (
+    let decider : arc_value (arc_value front.connection).decider ≡ served = search rules in
+    let sided : arc_value (arc_value front.at_desk).side ≡ served = search rules in (
       c.serve_by.ensures.same ∙ c.in-Ok-watch.ensures.name,
       weakened _ _ _ _
           (λ head response x. at_port _ _ _ front served g.S.Identity.most
@@ -32,6 +33,6 @@ returns g c =
           (λ head body made d. subst (λ side. made ≡ decision side head body) decider d)
           (arc_value c.args.self.now.common.hosts) head response
           (arc_value (arc_value c.args.self.now.common.shared).service) (search rules)
-          (arc_value c.args.self.now.common.shared).clock (search rules) (search rules) (search rules) x)
+          (arc_value c.args.self.now.common.shared).clock (search rules) (search rules) (search rules) sided x)
           c.serve_by.result.io _ c.serve_by.ensures.written,
     )

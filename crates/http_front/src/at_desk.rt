@@ -1,0 +1,121 @@
+//! What a connection needs to hand its requests over to handlers, and to serve one.
+
+ghost use Rattle.std.specs.Prelude.{◌≡◌, IfOk};
+ghost use Rattle.std.specs.Arc.{arc_value};
+ghost use Rattle.http_header.specs.HeaderMap.{pairs};
+ghost use Rattle.json.specs.Print.{print};
+ghost use Rattle.handover.specs.Heads.{head_tokens};
+ghost use Rattle.http_front.specs.Handing as spec;
+
+use crate::Side;
+use crate::desk_fault::HandedFault;
+use arn_ids::LONGEST_BODY;
+use bytes::Bytes;
+use handler_desk::{Asked, Desk, Put, Request, read_asked};
+use handover::write_head;
+use http::request::Parts;
+use long_poll::OpenPoll;
+use std::alloc::{AllocError, Global};
+use std::sync::{Arc, Wait};
+use std::time;
+
+/// Who answers a request.
+#[derive(Clone, Copy, Debug, PartialEq, Eq)]
+pub(crate) enum Way {
+    /// The service itself.
+    Own,
+    /// A handler.
+    Handed,
+    /// The desk: it is a handler's own request.
+    OfHandler,
+}
+
+/// What a connection needs to hand its requests over to handlers, and to serve one: the desk, and its number there; the
+/// port at which it came; and where it is noted that a handler is awaited.
+#[derive(Drop)]
+pub struct AtDesk<R> {
+    pub(crate) rt: R,
+    pub(crate) alloc: Global,
+    pub(crate) desk: Arc<Desk>,
+    pub(crate) open: Arc<OpenPoll>,
+    pub(crate) side: Arc<Side>,
+    // The number of the port, as handlers get it.
+    pub(crate) number: u16,
+    // The number of the connection, by which it is known if it is a handler's.
+    pub(crate) connection: u64,
+}
+
+/// Returns the target of a request: its path and its query.
+fn target_of(parts: &Parts) -> &str
+    ensures { result.now ≡ spec.target_of parts.now }
+{
+    match parts.uri.path_and_query() {
+        Some(target) => target.as_str(),
+        None => "",
+    }
+}
+
+/// Makes what a handler gets of a request with this head and this body, which came to the port of this number.
+///
+/// # Errors
+/// If memory is refused.
+fn request_of(alloc: Global, number: u16, parts: &Parts, body: Bytes) -> Result<Request, AllocError>
+    ensures head { IfOk result (λ request. request.head.items
+        ≡ print (head_tokens number parts.now.method (spec.target_of parts.now) (pairs parts.now.headers))) }
+    ensures body { IfOk result (λ request. request.body ≡ body) }
+{
+    let method = parts.method.as_str();
+    let head = write_head(alloc, number, method, target_of(parts), &parts.headers)?;
+    Ok(Request { head, body })
+}
+
+/// Returns whether a handler asks for something with a request of this head.
+fn asks(parts: &Parts) -> bool
+    ensures { result ≡ spec.asks parts.now }
+{
+    match read_asked(parts) {
+        Asked::Next | Asked::Response(_) | Asked::Failure(_) => true,
+        Asked::Nothing => false,
+    }
+}
+
+impl<R: Wait + time::Clock + Drop> AtDesk<R> {
+    /// Returns who answers a request with this head. While no handler may be here, that takes no lock.
+    ///
+    /// # Errors
+    /// If memory is refused. That is never so while no handler may be here.
+    pub(crate) fn way_of(&self, parts: &Parts) -> Result<Way, AllocError>
+        ensures { IfOk result (spec.IsWayOf (arc_value self.now.side) parts.now) }
+    {
+        if self.side.is_own(parts) {
+            if asks(parts) {
+                return Ok(Way::OfHandler);
+            }
+            return Ok(Way::Own);
+        }
+        if self.desk.may_be_attended()
+            && self.side.hands_over(self.alloc, parts)?
+            && self.desk.is_attended(&self.rt)
+        {
+            return Ok(Way::Handed);
+        }
+        Ok(Way::Own)
+    }
+
+    /// Lets a request with this head and this body wait for a handler.
+    ///
+    /// # Errors
+    /// If its body is too long, or as `Desk::put`.
+    pub(crate) fn hand_over(&self, parts: &Parts, body: Bytes) -> Result<Put, HandedFault> {
+        if body.len() > LONGEST_BODY {
+            return Err(HandedFault::TooLong);
+        }
+        let Ok(request) = request_of(self.alloc, self.number, parts, body) else {
+            return Err(HandedFault::OutOfMemory);
+        };
+        match self.desk.put(&self.rt, request) {
+            Ok(put) => Ok(put),
+            Err(fault) => Err(HandedFault::of_put(fault)),
+        }
+    }
+}

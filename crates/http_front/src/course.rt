@@ -1,0 +1,76 @@
+//! The responses to requests, as futures, by who answers.
+
+use crate::ResponseFault;
+use crate::handed::Handed;
+use crate::of_handler::OfHandler;
+use crate::responding::Responding;
+use bytes::Bytes;
+use decisions::Decide;
+use futures::Future;
+use futures::task::{Context, Poll};
+use http::Response;
+use http_body::Body;
+use http_body_util::{Either, Full};
+use long_poll::{BodyFault, Clock, Service, StreamedBody};
+use std::sync::Wait;
+use std::time;
+use usage_ledger::{Keep, Ledgers};
+
+/// The response to one request, by who answers it. (Those of handlers are on the heap: each response has the size of the
+/// largest.)
+#[derive(Drop)]
+pub enum Course<R, A: Service<K, L>, D: Decide, N, B, K: Keep, L: Ledgers> {
+    /// The service itself, or its refusal.
+    Own(Responding<R, A, D, N, B, K, L>),
+    /// A handler, to which the request is handed over.
+    Handed(Box<Handed<R, B, StreamedBody<R, A, A::Trail, K, L>>>),
+    /// The desk: it is a handler's own request.
+    OfHandler(Box<OfHandler<R, B, StreamedBody<R, A, A::Trail, K, L>>>),
+}
+
+impl<
+    R: Wait + time::Clock + Copy + Drop,
+    A: Service<K, L>,
+    D: Decide + Drop,
+    N: Clock + Drop,
+    B: Body,
+    K: Keep,
+    L: Ledgers,
+> Future for Course<R, A, D, N, B, K, L>
+where
+    B::Data: Into<Bytes>,
+    B::Error: BodyFault,
+{
+    ghost use Rattle.http_front.specs.declared.course.Course.TheVariants.{Own, Handed, OfHandler};
+
+    type Output = Result<
+        Response<Either<Full<Bytes>, StreamedBody<R, A, A::Trail, K, L>>>,
+        ResponseFault,
+    >;
+
+    ghost can_poll = { elim [
+      | Own responding ↦ ⟦<Responding<R, A, D, N, B, K, L> as Future>⟧.can_poll responding
+      | Handed handed ↦ ⟦<Handed<R, B, StreamedBody<R, A, A::Trail, K, L>> as Future>⟧.can_poll handed.value
+      | OfHandler own ↦ ⟦<OfHandler<R, B, StreamedBody<R, A, A::Trail, K, L>> as Future>⟧.can_poll own.value
+    ] };
+
+    ghost needs = { elim [
+      | Own responding ↦ ⟦<Responding<R, A, D, N, B, K, L> as Future>⟧.needs responding
+      | Handed handed ↦ ⟦<Handed<R, B, StreamedBody<R, A, A::Trail, K, L>> as Future>⟧.needs handed.value
+      | OfHandler own ↦ ⟦<OfHandler<R, B, StreamedBody<R, A, A::Trail, K, L>> as Future>⟧.needs own.value
+    ] };
+
+    ghost gives = { elim [
+      | Own responding ↦ ⟦<Responding<R, A, D, N, B, K, L> as Future>⟧.gives responding
+      | Handed handed ↦ ⟦<Handed<R, B, StreamedBody<R, A, A::Trail, K, L>> as Future>⟧.gives handed.value
+      | OfHandler own ↦ ⟦<OfHandler<R, B, StreamedBody<R, A, A::Trail, K, L>> as Future>⟧.gives own.value
+    ] };
+
+    fn poll(&mut self, cx: &mut Context<'_>) -> Poll<Self::Output> {
+        match self {
+            Course::Own(responding) => responding.poll(cx),
+            Course::Handed(handed) => handed.poll(cx),
+            Course::OfHandler(own) => own.poll(cx),
+        }
+    }
+}

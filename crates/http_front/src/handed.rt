@@ -1,0 +1,174 @@
+//! The response to a request that is handed over, as a future.
+
+ghost use Rattle.std.specs.Prelude.{◌≡◌, IfOk};
+ghost use Rattle.futures.specs.Poll.{IfReady, OnPending};
+ghost use Rattle.futures.specs.Task.{Covers, Keeps};
+ghost use Rattle.http_front.specs.HandedStages.{CanGoOn};
+
+use crate::ResponseFault;
+use crate::at_desk::AtDesk;
+use crate::desk_fault::HandedFault;
+use crate::desk_response::handed_response;
+use bytes::Bytes;
+use futures::channel::oneshot::Canceled;
+use futures::future::Future;
+use futures::ready;
+use futures::task::{Context, Poll};
+use handler_desk::{Given, Posted, Put};
+use http::Response;
+use http::request::Parts;
+use http_body::Body;
+use http_body_util::{Either, Full};
+use long_poll::{BodyFault, Collecting};
+use std::marker::PhantomData;
+use std::sync::{Arc, Wait};
+use std::time;
+
+/// How far a request that is handed over has come.
+#[derive(Drop)]
+pub(crate) enum HandedStage<B> {
+    /// Its body is being collected.
+    Collecting { parts: Parts, body: Collecting<B> },
+    /// It waits for a handler, or one has taken it.
+    Waiting(Put),
+}
+
+/// The response to a request that is handed over: its body is collected, and then it waits for what a handler gives. If
+/// its head declares that the body is too long, none of it is read.
+#[derive(Drop)]
+pub struct Handed<R, B, H> {
+    at_desk: Arc<AtDesk<R>>,
+    // Whether the body is left unread, so that the connection ends.
+    is_unread: bool,
+    stage: HandedStage<B>,
+    of: PhantomData<H>,
+}
+
+/// Returns what a handler posted for the request with this identifier.
+fn posted_for(id: u64, given: Result<Given, Canceled>) -> Result<Posted, HandedFault>
+    ensures { IfOk result (λ posted. posted.id ≡ id) }
+{
+    match given {
+        Ok(Given::Posted(posted)) => {
+            if posted.id == id {
+                return Ok(posted);
+            }
+            Err(HandedFault::Failed)
+        }
+        Ok(Given::Failed) | Err(Canceled) => Err(HandedFault::Failed),
+    }
+}
+
+impl<R: Wait + time::Clock + Drop, B: Body, H> Handed<R, B, H> {
+    /// Returns the response to a request with this head and this body, of which the head declares that it is too long, or
+    /// not. It takes no memory.
+    pub(crate) fn new(
+        at_desk: Arc<AtDesk<R>>,
+        parts: Parts,
+        body: B,
+        is_unread: bool,
+    ) -> Handed<R, B, H>
+        requires { B.can_poll body }
+        ensures unread { result.is_unread ≡ is_unread }
+        ensures can_poll { CanGoOn B.can_poll result.stage }
+    {
+        let body = Collecting::new(at_desk.alloc, body);
+        Handed {
+            at_desk,
+            is_unread,
+            stage: HandedStage::Collecting { parts, body },
+            of: PhantomData,
+        }
+    }
+}
+
+impl<R: Wait + time::Clock + Drop, B: Body, H: Drop> Handed<R, B, H>
+where
+    B::Data: Into<Bytes>,
+    B::Error: BodyFault,
+{
+    ghost use Rattle.http_front.specs.HandedStages.{IsAwaiting, WaitsFor};
+
+    /// Lets the request wait for a handler, once its body is collected.
+    fn poll_put(&mut self, cx: &mut Context<'_>) -> Poll<Result<Put, HandedFault>>
+        requires { CanGoOn B.can_poll self.old.stage }
+        ensures again { OnPending result (CanGoOn B.can_poll self.new.stage) }
+        ensures registered { OnPending result (Covers cx.new (WaitsFor B.needs self.new.stage)) }
+        ensures kept { Keeps cx.old cx.new }
+        ensures unread { self.new.is_unread ≡ self.old.is_unread }
+    {
+        if self.is_unread {
+            return Poll::Ready(Err(HandedFault::TooLong));
+        }
+        match &mut self.stage {
+            HandedStage::Waiting(_) => Poll::Ready(Err(HandedFault::Failed)),
+            HandedStage::Collecting { parts, body } => match body.poll(cx) {
+                Poll::Pending => Poll::Pending,
+                Poll::Ready(Err(fault)) => Poll::Ready(Err(HandedFault::of_body(fault))),
+                Poll::Ready(Ok(bytes)) => Poll::Ready(self.at_desk.hand_over(parts, bytes)),
+            },
+        }
+    }
+
+    /// Waits for what a handler gives.
+    fn poll_given(&mut self, cx: &mut Context<'_>) -> Poll<Result<Posted, HandedFault>>
+        requires { IsAwaiting self.old.stage }
+        ensures again { OnPending result (IsAwaiting self.new.stage) }
+        ensures registered { OnPending result (Covers cx.new (WaitsFor B.needs self.new.stage)) }
+        ensures kept { Keeps cx.old cx.new }
+        ensures unread { self.new.is_unread ≡ self.old.is_unread }
+    {
+        match &mut self.stage {
+            HandedStage::Collecting { .. } => unreachable!(),
+            HandedStage::Waiting(put) => match put.given.poll(cx) {
+                Poll::Pending => Poll::Pending,
+                Poll::Ready(given) => Poll::Ready(posted_for(put.id, given)),
+            },
+        }
+    }
+
+    /// Lets the request wait, and then waits for what a handler gives.
+    fn poll_outcome(&mut self, cx: &mut Context<'_>) -> Poll<Result<Posted, HandedFault>>
+        requires { CanGoOn B.can_poll self.old.stage }
+        ensures again { OnPending result (CanGoOn B.can_poll self.new.stage) }
+        ensures registered { OnPending result (Covers cx.new (WaitsFor B.needs self.new.stage)) }
+        ensures kept { Keeps cx.old cx.new }
+        ensures unread { self.new.is_unread ≡ self.old.is_unread }
+    {
+        if let HandedStage::Waiting(_) = &self.stage {
+            return self.poll_given(cx);
+        }
+        match ready!(self.poll_put(cx)) {
+            Ok(put) => {
+                self.stage = HandedStage::Waiting(put);
+                self.at_desk.open.note_awaited(true);
+                self.poll_given(cx)
+            }
+            Err(fault) => Poll::Ready(Err(fault)),
+        }
+    }
+}
+
+impl<R: Wait + time::Clock + Drop, B: Body, H: Drop> Future for Handed<R, B, H>
+where
+    B::Data: Into<Bytes>,
+    B::Error: BodyFault,
+{
+    ghost use Rattle.std.specs.Prelude.{IfOk};
+    ghost use Rattle.http_front.specs.Handing.{IsHandedAnswer};
+    ghost use Rattle.http_front.specs.HandedStages.{WaitsFor};
+
+    type Output = Result<Response<Either<Full<Bytes>, H>>, ResponseFault>;
+
+    ghost can_poll = { λ handed. CanGoOn B.can_poll handed.stage };
+
+    ghost needs = { λ handed. WaitsFor B.needs handed.stage };
+
+    ghost gives = { λ handed answer. IfOk answer (IsHandedAnswer handed.is_unread) };
+
+    fn poll(&mut self, cx: &mut Context<'_>) -> Poll<Self::Output> {
+        let outcome = ready!(self.poll_outcome(cx));
+        self.at_desk.open.note_awaited(false);
+        Poll::Ready(handed_response(self.at_desk.alloc, self.is_unread, outcome))
+    }
+}
