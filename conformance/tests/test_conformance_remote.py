@@ -8,6 +8,7 @@ import subprocess
 import sys
 import tempfile
 import zipfile
+from typing import Any, Dict
 from unittest import mock
 
 from lambda_conformance.service import probe, remote, tested
@@ -71,7 +72,7 @@ class Remote(Case):
             self.check("the same bytes each time", contents[0], contents[1])
             with zipfile.ZipFile(paths[0]) as archive:
                 source = archive.read("probe.py").decode()
-            scope = {}
+            scope: Dict[str, Any] = {}
             exec(compile(source, "probe.py", "exec"), scope)  # pylint: disable=exec-used
             self.check("it is a handler that says who it is", scope["handler"]({"do": "who"}, None),
                        {"probe": probe.VERSION})
@@ -108,6 +109,7 @@ class Remote(Case):
             self.check("what is as here is told so, and what is not", {line.split()[0] for line in lines},
                        {"same", "other"})
         finally:
+            process: Any
             for process in (runtime, emulator):
                 process.kill()
                 process.wait()

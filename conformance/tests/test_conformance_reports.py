@@ -9,7 +9,7 @@ import tempfile
 import time
 import xml.etree.ElementTree as xml
 from types import SimpleNamespace
-from typing import cast
+from typing import Any, cast
 
 from lambda_conformance import causes, documents, pages, report, sometimes
 from lambda_conformance.exchanges import Exchange as Refused
@@ -118,7 +118,7 @@ class OneCause(Case):
         for status, is_wrong in ((400, True), (404, True), (403, False), (500, False), (202, False)):
             one = SimpleNamespace(status=status)
             self.check(f"a request that is answered {status} is {'' if is_wrong else 'not '}wrong in itself",
-                       Refused.is_wrong.fget(one), is_wrong)
+                       Refused.is_wrong.fget(one), is_wrong)  # type: ignore[attr-defined]
 
     def test_many_lines(self):
         self.check("lines that are the same are one line", report.shortened(["a", "b", "b", "b", "a"]),
@@ -151,7 +151,7 @@ class Witness:
         return self.acted > moment
 
     def seen(self, begin: float, end: float):
-        return NOTHING_SEEN._replace(wire=(begin, end))
+        return NOTHING_SEEN._replace(wire=(begin, end))  # type: ignore[arg-type]  # (the moments alone are looked at)
 
 
 class Parts(Case):
@@ -211,6 +211,7 @@ class Pages(Case):
 
     def test_badges(self):
         passed, failed, should = verdict(PASS, ""), verdict(FAIL, "x"), verdict(SHOULD, "x")
+        verdicts: Any
         for verdicts, wanted in (([passed] * 3, "Lambda runtime: 3 of 3 passed"),
                                  ([passed, should], "Lambda runtime: 1 of 2 passed, 1 should"),
                                  ([passed, failed, failed], "Lambda runtime: 2 failed"),

@@ -90,8 +90,8 @@ def tried(root: str, names: List[str], built: str, seconds: float) -> Iterator[T
     open_ones = [it for it in names if it not in good]
     halves = [open_ones] if good else [names[:len(names) // 2], names[len(names) // 2:]]
     for half in halves:
-        for name, it in tried(root, half, built, seconds) if half else ():
-            yield name, it._replace(seconds=it.seconds + share)
+        for name, one in tried(root, half, built, seconds) if half else ():
+            yield name, one._replace(seconds=one.seconds + share)
 
 
 def refused(crate: str, members: List[Member], status: Optional[int], lines: List[str]) -> "set[str]":
@@ -117,7 +117,7 @@ def owner_of(line: str, crate: str, members: List[Member]) -> Optional[Member]:
     else:
         told = place[2] if place else ""
     of = [it for it in members if told.startswith(f"{it.module}/") or place and told == it.path.removeprefix("src/")]
-    return max(of, key=lambda it: len(it.module), default=None)
+    return max(of, key=lambda it: len(it.module)) if of else None
 
 
 def is_told_against(line: str) -> bool:

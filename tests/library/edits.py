@@ -73,8 +73,7 @@ def bodies_of(edit: str, crate: str) -> Dict[str, str]:
 def _around(text, place):
     """The function around a place of a source, as the prover is told of it, and its text; nothing if there is none."""
     head = next((it for it in reversed([*HEAD.finditer(text, 0, text.find("\n", place))])), None)
-    end = text.find(f"\n{head[1]}}}\n", head.end()) if head else -1
-    if end < place:
+    if head is None or (end := text.find(f"\n{head[1]}}}\n", head.end())) < place:
         return "", ""
     block = next((it for it in reversed([*BLOCK.finditer(text, 0, head.start())])), None) if head[1] else None
     is_of_trait = block and " for " in text[block.start():text.find("{", block.start())]

@@ -232,6 +232,17 @@ def of_checks(root, page, text):
             yield f"no table has the case {block.splitlines()[0]}"
 
 
+def first_sentence(root, crate):
+    """The first sentence of the comment with which a crate's root file begins."""
+    files = [f"{root}/crates/{crate}/src/{name}.rt" for name in ("lib", "main")]
+    words = []
+    for line in next((text_of(it) for it in files if os.path.isfile(it)), "").splitlines():
+        if not line.startswith("//! "):
+            break
+        words.append(line[4:].strip())
+    return re.split(r"(?<=\.) ", " ".join(words))[0]
+
+
 def of_architecture(root, page, text):
     crates, listed = uses(root), set()
     unproved = outside(root)
@@ -243,9 +254,12 @@ def of_architecture(root, page, text):
     for it in [*crates, *unproved]:
         if f"**`{it}`**" not in text and not re.search(rf"\*\*.*`{it}`.*\*\*", text):
             yield f"has no paragraph on {it}"
-    for it in re.findall(r"^- \*\*`(\w+)`\*\*", text, re.M):
+    for it, said in re.findall(r"^- \*\*`(\w+)`\*\*(?:: )?(.*)$", text, re.M):
         if it not in crates and it not in unproved:
             yield f"tells of the crate {it}, which is not in crates.txt"
+        sentence = first_sentence(root, it)
+        if it in crates and sentence and not said[1:].startswith(sentence[1:]):
+            yield f"{it}: its paragraph does not begin with the first sentence of its root file"
 
 
 def of_variables(root, page, text):

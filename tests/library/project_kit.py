@@ -4,14 +4,15 @@ import io
 import json
 import os
 import tempfile
+from typing import Any, Dict
 
 from lambda_local.from_template.find import Source
 from lambda_local.from_template.given import given_by
 from lambda_local.from_template.messages import Fault
 from lambda_local.from_template.project import up_of_source
 
-SAM = {"Type": "AWS::Serverless::Function", "Properties": {"Handler": "app.run", "Runtime": "provided.al2023",
-                                                            "CodeUri": "src"}}
+SAM: Dict[str, Any] = {"Type": "AWS::Serverless::Function", "Properties": {
+    "Handler": "app.run", "Runtime": "provided.al2023", "CodeUri": "src"}}
 
 
 def sam(**properties):

@@ -15,7 +15,7 @@ CLAUSE = re.compile(r"^\s*(ensures|requires|ghost|×)")
 ROUTE = re.compile(r"^(?!\s*(?://|ensures|requires|ghost)).*\"/_local/", re.M)
 ROUTES = "crates/http_routes/src/routes.rt"
 OF_HANDLERS = "crates/handler_desk/src/asked.rt"  # the paths of handlers' own requests, which no route has
-VIEWS = "crates/long_poll/src/views.rt"
+VIEWS = "crates/long_poll/src/exchange/views.rt"
 SAID_VERSION = re.compile(r'^pub const VERSION: &str = "([^"]*)";$', re.M)
 NO_CLAUSE = os.path.join("tests", "library", "no_clause.noted")
 DEAD = os.path.join("tests", "library", "dead_lemmas.noted")

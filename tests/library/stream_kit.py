@@ -6,7 +6,7 @@ from typing import Any, Dict, List, Optional
 from lambda_local.event_sources import members
 from lambda_local.event_sources.batches import Batch
 from lambda_local.event_sources.checkpoints import Checkpoints, Position
-from lambda_local.event_sources.servers import Read, Record, Seen, SeenShard
+from lambda_local.event_sources.servers import Read, Record, Seen, SeenShard, lost_at
 from lambda_local.event_sources.streams import Reader
 
 URL = "http://127.0.0.1:5000"
@@ -81,9 +81,12 @@ class FakeServer:
     def record_of(self, given: object, shard: str) -> Optional[Record]:
         return record(given) if isinstance(given, int) else None
 
+    def lost(self, given: object) -> Optional[Record]:
+        return lost_at(given, 5.0) if isinstance(given, str) else None
+
 
 class Service:
-    configuration = {"account": "123456789012", "region": "eu-west-1", "functions": []}
+    configuration: Dict[str, Any] = {"account": "123456789012", "region": "eu-west-1", "functions": []}
 
 
 class Driven(Reader):
@@ -108,8 +111,8 @@ class Driven(Reader):
 
     def drive(self, steps: int = 60) -> "Driven":
         for _ in range(steps):
-            for task in self.tasks():
-                task.due -= 3600.0
+            for each in self.tasks():
+                each.due -= 3600.0
             task = self.take()
             if task is not None:
                 self.step(task)

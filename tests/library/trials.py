@@ -97,8 +97,8 @@ def trial(root: str, name: str, built: str, seconds: float = SECONDS) -> Trial:
     crate, is_twin = name.split("/")[0], name.endswith(edits.TWIN)
     try:
         texts = edits.edited(edits.path_of(root, name), f"{root}/crates/{crate}", "same" if is_twin else "new")
-    except ValueError as fault:
-        return Trial(f"it does not fit: {fault}", 0)
+    except ValueError as why:
+        return Trial(f"it does not fit: {why}", 0)
     made = check(root, crate, functions_of(root, name), texts, built, seconds)
     if made.status is None:
         is_costly = made.seconds > CPU_SECONDS - 2

@@ -5,6 +5,7 @@ import contextlib
 import json
 import re
 import urllib.parse
+from typing import Any
 
 from lambda_local.front import settings
 from tests.library.cases import Case
@@ -96,6 +97,7 @@ class AlbEvents(Case):
     def test_mistakes_of_load_balancers_are_told(self):
         def said(**api):
             return next(settings.mistakes({"functions": [{"name": "f"}], "routes": {"GET /": "f"}, "api": api}), None)
+        api: Any
         for api, wanted in (
                 ({"payload": "alb", "stage": "x"}, 'stage is of an API, and not of "payload": "alb": leave it out'),
                 ({"payload": "alb", "authorizer": {"claims": {}}},

@@ -8,7 +8,9 @@ import json
 import re
 import time
 from types import SimpleNamespace
+from typing import Any, List
 
+from lambda_local.configuration import Members
 from lambda_local.front import authorize as deciders
 from lambda_local.front import settings
 from lambda_local.front.authorizers import Authorizer
@@ -45,12 +47,13 @@ def auth(event, context):
     return {"principalId": "ada", "context": context, "policyDocument": {"Version": "2012-10-17", "Statement": [
         {"Action": "execute-api:Invoke", "Effect": effect, "Resource": resource}]}}
 '''
-PYTHON = {"runtime": "python", "timeout": 20, "environments": 1}
+PYTHON: Members = {"runtime": "python", "timeout": 20, "environments": 1}
 FUNCTIONS = [{"name": "f", "handler": "app.run", **PYTHON}, {"name": "auth", "handler": "app.auth", **PYTHON}]
-REST, HTTP1 = {"payload": "1.0"}, {"payload": "1.0", "type": "HTTP"}
+REST: Members = {"payload": "1.0"}
+HTTP1: Members = {"payload": "1.0", "type": "HTTP"}
 HEADER = ["$request.header.Token"]
-BY_FUNCTION = {"function": "auth", "identity": HEADER}
-API = {  # further APIs by their names, each with one route or more
+BY_FUNCTION: Members = {"function": "auth", "identity": HEADER}
+API: Members = {  # further APIs by their names, each with one route or more
     "fixed_rest": {**REST, "authorizer": {"claims": {"sub": "ada"}}, "routes": {
         "GET /in": "f", "GET /out": {"function": "f", "authorizer": None},
         "GET /lambda": {"function": "f", "authorizer": {"lambda": {"principalId": "ada", "tier": 3}}}}},
@@ -192,7 +195,7 @@ class Authorizers(Case):
             "/in/{id}", {"id": "7"}, {"a": "b"}, "yes", {"q": "1"}, "/Prod/in/7"))
 
     def of_http_apis(self, up, ask, asked):
-        context = {"number": 7, "yes": True, "text": "t"}
+        context: Members = {"number": 7, "yes": True, "text": "t"}
         self.check("a simple response", ask("http", "/in/7?a=1", Token="yes", Simple="1"),
                    (200, {"lambda": {**context, "deep": {"list": [1]}}}))
         event = asked()[1]
@@ -273,7 +276,8 @@ class Authorizers(Case):
 
     def test_what_is_kept_of_answers_is_bounded(self):
         """What is kept of answers."""
-        kept = deciders.Authorizers(None, SimpleNamespace(now=lambda: 0))
+        clock: Any = SimpleNamespace(now=lambda: 0)
+        kept = deciders.Authorizers(None, clock)  # type: ignore[arg-type]
         for number in range(deciders.MOST_KEPT + 2):
             kept.keep(("x", (str(number),)), Authorizer("function", ttl=60), {"n": number})
         self.check("so many, without the oldest", (len(kept.kept), [("x", (text,)) in kept.kept for text in "12"]),
@@ -306,8 +310,8 @@ class Authorizers(Case):
             self.check(f"a token: {name}", said(token), wanted)
         self.check("a client's identifier is an audience", said(token_of({"client_id": "a"}), {"audience": ["a"]}),
                    {"client_id": "a"})
-        self.check("scopes", [scopes_of(claims) for claims in ({}, {"scope": "a b"}, {"scp": ["a"]}, {"scope": 1})],
-                   [[], ["a", "b"], ["a"], []])
+        several: List[Members] = [{}, {"scope": "a b"}, {"scp": ["a"]}, {"scope": 1}]
+        self.check("scopes", [scopes_of(claims) for claims in several], [[], ["a", "b"], ["a"], []])
         self.check("texts", as_texts({"a": [1, "b"], "b": True, "c": {"d": 1}, "e": None}),
                    {"a": "[1 b]", "b": "true", "c": '{"d": 1}', "e": "null"})
 
@@ -333,6 +337,7 @@ class Authorizers(Case):
             whole = {"functions": [{"name": "f"}, {"name": "auth"}], "routes": {"GET /": "f"},
                      "api": {"authorizer": authorizer, **api}}
             return next(settings.mistakes(whole), None)
+        api: Any
         for name, authorizer, api, wanted in (
                 ("nothing", {}, {}, 'it has none of them: write one of "claims", "lambda", "jwt" and "function"'),
                 ("two", {"claims": {}, "jwt": {}}, {},

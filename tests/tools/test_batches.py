@@ -3,7 +3,7 @@ small repositories, and with a function in place of the prover."""
 import os
 import tempfile
 import unittest
-from typing import Dict, List, Sequence
+from typing import Dict, List, Sequence, Tuple
 from unittest import mock
 
 from tests.library import batches, edits, trials
@@ -58,7 +58,8 @@ class Batches(Case):
 
     def tried(self, names: Sequence[str], *answers: List[str]) -> Dict[str, str]:
         """The fault of each trial; for each check in turn the prover's answer."""
-        given, self.checked = iter(answers), []
+        given = iter(answers)
+        self.checked: List[Tuple[List[str], List[str]]] = []
 
         def check(root: str, crate: str, functions: Sequence[str], texts: Dict[str, str], *bounds: object
                   ) -> trials.Check:

@@ -11,6 +11,7 @@ import threading
 import time
 import urllib.error
 import urllib.request
+from typing import Any, List
 
 from lambda_local.clock.durations import NotDuration, milliseconds_in
 from lambda_local.clock.followed import Clock as Followed
@@ -42,6 +43,8 @@ def read(*words, endpoint):
 
 class Answers(http.server.BaseHTTPRequestHandler):
     """Answers what its server says."""
+
+    server: Any
 
     def do_GET(self):
         status, body = self.server.answer
@@ -102,7 +105,7 @@ class Clock(Case):
             "clock: http://127.0.0.1:1: Connection refused: start the service")), (4, "", True), shown=said)
 
     def test_a_service_that_answers_otherwise_is_told(self):
-        server = http.server.HTTPServer(("127.0.0.1", 0), Answers)
+        server: Any = http.server.HTTPServer(("127.0.0.1", 0), Answers)
         thread = threading.Thread(target=server.serve_forever)
         thread.start()
         try:
@@ -151,7 +154,8 @@ class Scripted:
 
     def __init__(self, now=None):
         self.begun, self.at, self.is_running = time.monotonic(), now or int(1000 * time.time()), True
-        self.asked, self.entries = [], 0
+        self.asked: List[Any] = []
+        self.entries = 0
         owner = self
 
         class Service(http.server.BaseHTTPRequestHandler):
@@ -184,7 +188,8 @@ class Scripted:
 class FollowedClock(Case):
     def setUp(self):
         self.service = Scripted()
-        self.told, self.came = [], []
+        self.told: List[str] = []
+        self.came: List[str] = []
         self.clock = Followed(self.service.port, self.told.append)
         self.addCleanup(self.service.close)
         self.addCleanup(self.clock.close)
@@ -208,7 +213,8 @@ class FollowedClock(Case):
         self.later("none", 200).cancel()
         self.check("what is due comes in its order", (until(lambda: len(self.came) == 3, 10), self.came),
                    (True, ["first", "second", "third"]))
-        self.check("what fails is told, and stops nothing", self.clock.at(0, lambda: 1 // 0) is not None)
+        fails: Any = lambda: 1 // 0
+        self.check("what fails is told, and stops nothing", self.clock.at(0, fails) is not None)
         self.later("after it", 1)
         self.check("the next one comes", until(lambda: "after it" in self.came, 10))
         self.check("a line", (len(self.told), "ZeroDivisionError" in self.told[0]), (1, True))
@@ -254,7 +260,7 @@ class FollowedClock(Case):
     def test_nothing_waits_for_ever_without_a_clock(self):
         """What a service without a clock, or one that has ended, is asked: nothing waits for ever."""
         for answer in (404, None):
-            server = http.server.ThreadingHTTPServer(("127.0.0.1", 0), Answers)
+            server: Any = http.server.ThreadingHTTPServer(("127.0.0.1", 0), Answers)
             server.answer = (404, b"{}")
             threading.Thread(target=server.serve_forever, daemon=True).start()
             if answer is None:

@@ -17,7 +17,7 @@ import time
 import unittest
 
 from lambda_local.service import free_ports
-from tests import TOOLS
+from tests import with_tools
 from tests.library.cases import Case
 from tests.library.clock_kit import CLOCK, INVOKE, posted
 from tests.library.debugger_kit import Adapter, Inspector
@@ -78,8 +78,7 @@ WITH_DEBUGPY = unittest.skipUnless(importlib.util.find_spec("debugpy"), "debugpy
 def run(words, text, **given):
     """What a program prints that is given this text."""
     done = subprocess.run(words, input=text, stdout=subprocess.PIPE, stderr=subprocess.STDOUT, text=True, timeout=240,
-                          env={**os.environ, "PYTHONPATH": os.pathsep.join([TOOLS, os.environ.get("PYTHONPATH", "")])},
-                          **given)
+                          env={**os.environ, **with_tools()}, **given)
     return done.returncode, done.stdout
 
 

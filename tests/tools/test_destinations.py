@@ -6,7 +6,9 @@ import json
 import os
 import socket
 import threading
+from typing import Any
 
+from lambda_local.configuration import Members
 from lambda_local.front import outbox
 from lambda_local.front.asynchronous import asynchronous_of, mistakes, refused
 from lambda_local.front.events import message_in
@@ -188,7 +190,8 @@ class Destinations(Case):
         class NoServer:
             def send(self, text, attributes):
                 raise NoClient
-        sender = outbox.Sender(asynchronous_of({"deadLetter": f"{SQS}dead"}).dead_letter, False)
+        made: Any = asynchronous_of({"deadLetter": f"{SQS}dead"})
+        sender: Any = outbox.Sender(made.dead_letter, False)
         sender.destination = NoServer()
         said = sender.sent(outbox.Text("{}", {}, lambda why: None))
         self.check("it is told what to install", said.endswith(" has no boto3: pip install boto3"), shown=said)
@@ -202,7 +205,8 @@ class Destinations(Case):
             "A": ("String", "a\ufffdb\ufffd"), "C": ("Number", "200")})
 
     def test_mistakes_of_destinations_are_told(self):
-        url = {"arn": f"{SQS}q", "url": "http://127.0.0.1:1"}
+        url: Members = {"arn": f"{SQS}q", "url": "http://127.0.0.1:1"}
+        given: Any
         for given, wanted in (
                 ({"onSuccess": "g"}, 'onSuccess: there is no function "g"'),
                 ({"onFailure": 1}, 'onFailure must be the name of a function, the ARN of an SQS queue or an SNS topic, '
@@ -225,8 +229,8 @@ class Destinations(Case):
 
     def test_nothing_is_sent_to_AWS_itself(self):
         """Nothing is sent to AWS unless the user's credentials are kept."""
-        of_aws = asynchronous_of({"deadLetter": {"arn": f"{SQS}q", "url": "https://sqs.us-east-1.amazonaws.com"}})
-        here = asynchronous_of({"deadLetter": {"arn": f"{SQS}q", "url": "http://127.0.0.1:1"}})
+        of_aws: Any = asynchronous_of({"deadLetter": {"arn": f"{SQS}q", "url": "https://sqs.us-east-1.amazonaws.com"}})
+        here: Any = asynchronous_of({"deadLetter": {"arn": f"{SQS}q", "url": "http://127.0.0.1:1"}})
         self.check("an address of AWS", len(list(refused(of_aws, {}, False))), 1)
         self.check("with the user's credentials", list(refused(of_aws, {"f": of_aws}, True)), [])
         self.check("a server here", list(refused(here, {"f": here}, False)), [])

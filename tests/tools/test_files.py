@@ -9,7 +9,7 @@ import subprocess
 import sys
 import tempfile
 import threading
-from typing import Iterator
+from typing import Any, Iterator
 
 from lambda_local import junit
 from lambda_local.clock.followed import Shared
@@ -179,6 +179,7 @@ class Files(Case):
             mask = os.umask(0o022)
             try:
                 modes = {}
+                members: Any
                 for name, before, members in (("payloads", None, {}), ("none", None, {"has_payloads": False}),
                                               ("kept", 0o640, {}), ("open", 0o666, {"has_payloads": False})):
                     path = os.path.join(folder, name)

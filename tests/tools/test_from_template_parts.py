@@ -7,6 +7,7 @@ import os
 import subprocess
 import tempfile
 import time
+from typing import Any, Dict
 
 from lambda_local.configuration import OF_SERVICE, mistakes
 from lambda_local.configuration import Members
@@ -284,7 +285,7 @@ class FromTemplateParts(TemplateCase):
 
     def test_what_is_the_same_of_several_functions_is_said_once(self):
         """What is the same of several functions is said once."""
-        of = {"Type": "AWS::Serverless::Function", "Properties": {
+        of: Dict[str, Any] = {"Type": "AWS::Serverless::Function", "Properties": {
             "Runtime": "python3.12", "Handler": "app.run", "CodeUri": "src",
             "Environment": {"Variables": {"TABLE": {"Ref": "Table"}}}}}
         _, said = made_of({"Resources": {"F": of, "G": of, "H": of, "Table": {"Type": "AWS::DynamoDB::Table"}}})

@@ -7,7 +7,7 @@ import io
 import itertools
 import json
 import time
-from typing import Any, AsyncIterator, List
+from typing import Any, AsyncIterator, Dict, List, Tuple
 
 from lambda_local.front import sending, tail
 from lambda_local.front.budget import Unread
@@ -106,7 +106,7 @@ class FrontAnswers(Case):
     def test_each_answer_ends_where_the_next_begins(self) -> None:
         """Each answer has its body, and what follows it on the connection is the next."""
         wrong, count = [], 0
-        contents = ([b"some", b"", b"thing"], [FORGED.encode()], [])
+        contents: Tuple[List[bytes], ...] = ([b"some", b"", b"thing"], [FORGED.encode()], [])
         versions = ("HTTP/1.1", "HTTP/1.0")
         for method, status, version, content in itertools.product(METHODS, STATUSES, versions, contents):
             whole = b"".join(content)
@@ -155,15 +155,15 @@ class FrontAnswers(Case):
             def is_prepared(self, function: str) -> bool:
                 return False
 
-            def prepare(self, function: str) -> None:
+            async def prepare(self, function: str) -> None:
                 raise OSError("gone")
 
-            def result_of(self, function: str, identifier: str) -> str:
+            async def result_of(self, function: str, identifier: str) -> str:
                 raise ValueError(identifier)
 
         class Slow(Tails):
-            def result_of(self, function: str, identifier: str) -> str:
-                time.sleep(0.5)
+            async def result_of(self, function: str, identifier: str) -> str:
+                await asyncio.sleep(0.5)
                 return ""
         lines: List[str] = []
         pieces = Pieces([b"x"])
@@ -193,8 +193,11 @@ class FrontAnswers(Case):
         ports = {"a streaming URL": (up.told(r"s: its URL is http://([0-9.:]+)/"), True),
                  "a URL": (up.told(r"b: its URL is http://([0-9.:]+)/"), False),
                  "a route": (up.told(r"routes: http://([0-9.:]+)"), False)}
-        preludes = [{"statusCode": status, "headers": headers} for status in (200, 204, 304, 404)
-                    for headers in ({}, {"content-length": "3", "transfer-encoding": "chunked", "connection": "x"})]
+        event: Dict[str, Any]
+        wrong: List[Any]
+        preludes: List[Dict[str, Any]] = [
+            {"statusCode": status, "headers": headers} for status in (200, 204, 304, 404)
+            for headers in ({}, {"content-length": "3", "transfer-encoding": "chunked", "connection": "x"})]
         for name, (address, streams) in ports.items():
             kept = Kept(address)
             wrong = []
@@ -203,7 +206,7 @@ class FrontAnswers(Case):
                          if streams else {"buffered": {**prelude, "body": FORGED}})
                 status = prelude["statusCode"]
                 body = b"" if method == "HEAD" or status in (204, 304) else FORGED.encode()
-                known = {"parts": ["next"]} if streams else {"buffered": "next"}
+                known: Dict[str, Any] = {"parts": ["next"]} if streams else {"buffered": "next"}
                 seen = kept.ask(method, event), kept.ask("GET", known)
                 if seen != ((status, body), (200, b"next" if streams else b'"next"')):
                     wrong.append((prelude, method, seen))

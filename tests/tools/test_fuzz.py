@@ -39,7 +39,7 @@ try:
     from hypothesis import strategies as some
     HAS_HYPOTHESIS = True
 except ImportError:
-    some = strategies  # type: ignore[assignment]  # (a module of our own)
+    some = strategies  # type: ignore  # (a module of our own)
     HAS_HYPOTHESIS = False
 HOURS = float(os.environ.get("FUZZ_HOURS", "0")) or 1 / 60
 FIRST_SEED = int(os.environ.get("FUZZ_SEED") or time.time() // 86400)

@@ -1,6 +1,7 @@
 """Checks tools/lambda_local/history: recorded histories, the entries of a text, and those of a service as they come,
 also of one that breaks off, is silent or answers otherwise. The program is LAMBDA_LOCAL_PROGRAM, else
 ./lambda_local."""
+import asyncio
 import contextlib
 import itertools
 import json
@@ -14,6 +15,7 @@ from lambda_local.history.shapes import NotTrace
 from lambda_local.history.words import Word
 from lambda_local.rerun.record import parsed
 from lambda_local.service import Fault, Service, ask
+from lambda_local.up.following import Following
 from tests.library.cases import Case
 from tests.library.fake_trace import HEAD, LAST, Fake, chunks, failed, line
 from tests.library.timelines import PROGRAM
@@ -65,6 +67,27 @@ def entry(ticket):
     return Entry(ticket, ticket, Call("next", environment=1))
 
 
+def entries_of(following):
+    """The entries that come to a task, and how it ends."""
+    async def take():
+        entries = []
+        try:
+            while (one := await following.entry()) is not None:
+                entries.append(one)
+        except (Lost, NotTrace) as fault:
+            return entries, str(fault)
+        finally:
+            following.close()
+        return entries, ""
+    return asyncio.run(take())
+
+
+def taken_later(following):
+    """Their tickets, and how it ends."""
+    entries, end = entries_of(following)
+    return [one.ticket for one in entries], end
+
+
 def taken(running):
     """The tickets of the entries that come, and how it ends."""
     tickets = []
@@ -84,6 +107,17 @@ def following(*answers, pieces=1 << 20, silent=False, **more):
         yield running, server
     finally:
         running.close()
+        server.close()
+
+
+@contextlib.contextmanager
+def as_task(*answers, pieces=1 << 20, silent=False, **more):
+    """The same for a task, without bodies."""
+    server, loop = Fake(*answers, pieces=pieces, silent=silent), asyncio.new_event_loop()
+    try:
+        yield Following(server.port, 1, loop, **more), server
+    finally:
+        loop.close()
         server.close()
 
 
@@ -136,6 +170,8 @@ class History(Case):
             with following(HEAD + chunks(body, size) + LAST, pieces=pieces) as (running, _):
                 self.check(f"chunks of {size} bytes in pieces of {pieces}", list(running.entries()),
                            [entry(0), entry(1), entry(2)])
+            with as_task(HEAD + chunks(body, size) + LAST, pieces=pieces) as (running, _):
+                self.check("and to a task", entries_of(running), ([entry(0), entry(1), entry(2)], ""))
 
     def test_a_connection_that_breaks_goes_on_with_the_next_entry(self):
         with following(HEAD + chunks(line(0)), HEAD + chunks(line(1) + line(2)[:20]), HEAD + chunks(line(2)) + LAST
@@ -144,12 +180,17 @@ class History(Case):
             self.check("in a line", taken(running), ([1], "the connection ends within a message"))
             self.check("it goes on with the next entry", (taken(running), running.next), (([2], ""), 3))
             self.check("what was asked", server.asked, [f"{TARGET}{n}" for n in (0, 1, 2)])
+        with as_task(HEAD + chunks(line(0)), HEAD + chunks(line(1) + line(2)[:20]), HEAD + chunks(line(2)) + LAST
+                     ) as (running, server):
+            self.check("to a task", [taken_later(running) for _ in range(3)],
+                       [([0], "the connection ends within a message"), ([1], "the connection ends within a message"),
+                        ([2], "")])
 
     def test_only_entries_with_a_report_have_their_bodies(self):
         """Without bodies, but for those of entries with a report. What breaks off on the way to one is asked again."""
         told = HEAD + chunks(failed(1, "why") + line(2)) + LAST
-        with following(HEAD + chunks(line(0) + failed(1) + line(2)) + LAST, told, only_reports=True) as (running, fake):
-            entries = list(running.entries())
+        with as_task(HEAD + chunks(line(0) + failed(1) + line(2)) + LAST, told) as (running, fake):
+            entries, _ = entries_of(running)
             self.check("only the report is there", [(one.ticket, one.call.body, [answer.body for answer in one.answers])
                                                     for one in entries],
                        [(0, None, []), (1, b"why", [b"why", None]), (2, None, [])])
@@ -157,19 +198,19 @@ class History(Case):
 
     def test_a_report_that_breaks_off_is_asked_again(self):
         told = HEAD + chunks(failed(1, "why") + line(2)) + LAST
-        with following(HEAD + chunks(line(0) + failed(1)), b"", HEAD + chunks(failed(1)), told[:len(HEAD) + 30],
-                       HEAD + chunks(failed(1) + line(2)) + LAST, told, only_reports=True) as (running, fake):
-            self.check("a report that does not come", taken(running), ([0], "it has closed the connection"))
-            self.check("one that breaks off", taken(running), ([], "the connection ends within a message"))
+        with as_task(HEAD + chunks(line(0) + failed(1)), b"", HEAD + chunks(failed(1)), told[:len(HEAD) + 30],
+                     HEAD + chunks(failed(1) + line(2)) + LAST, told) as (running, fake):
+            self.check("a report that does not come", taken_later(running), ([0], "it has closed the connection"))
+            self.check("one that breaks off", taken_later(running), ([], "the connection ends within a message"))
             self.check("its entry was not counted", running.next, 1)
-            self.check("it comes the next time", [one.call.body for one in running.entries()], [b"why", None])
+            self.check("it comes the next time", [one.call.body for one in entries_of(running)[0]], [b"why", None])
 
     def test_a_service_that_has_no_report_to_give_gives_its_entry(self):
         others = [HEAD + chunks(failed(0)), HEAD + LAST] * 3
-        with following(*others, HEAD + chunks(failed(0) + line(1)) + LAST, only_reports=True) as (running, fake):
-            self.check("a service that has no report to give", [taken(running) for _ in range(3)],
+        with as_task(*others, HEAD + chunks(failed(0) + line(1)) + LAST) as (running, fake):
+            self.check("a service that has no report to give", [taken_later(running) for _ in range(3)],
                        [([], "it does not give entry 0 again")] * 3)
-            self.check("its entry comes without", taken(running), ([0, 1], ""))
+            self.check("its entry comes without", taken_later(running), ([0, 1], ""))
 
     def test_a_silent_service_is_asked_again(self):
         """A service that is silent is asked again, and one that does not answer is lost."""
@@ -177,10 +218,15 @@ class History(Case):
         with following(*answers, silent=True, silence=1.0) as (running, server):
             self.check("each entry once", taken(running), ([0, 1, 2], ""))
             self.check("what was asked", server.asked, [f"{TARGET}{n}" for n in (0, 1, 2, 2)])
+        with as_task(*answers, silent=True, silence=1.0) as (running, server):
+            self.check("each entry once to a task", taken_later(running), ([0, 1, 2], ""))
+            self.check("what it asked", server.asked, [f"{TARGET}{n}&bodies=none" for n in (0, 1, 2, 2)])
 
     def test_a_service_that_does_not_answer_is_lost(self):
         with following(b"", silent=True, silence=1.0) as (running, _):
             self.check("no answer", taken(running), ([], "no answer within 1 s"))
+        with as_task(b"", silent=True, silence=1.0) as (running, _):
+            self.check("no answer to a task", taken_later(running), ([], "no answer within 1 s"))
 
     def test_one_that_is_closed_ends_and_is_over(self):
         with following(HEAD, silent=True) as (running, server):

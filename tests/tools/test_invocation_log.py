@@ -1,6 +1,7 @@
 """Checks the log of an invocation: what Invoke answers with the log type Tail, and the lines of `lambda_local up
 --report`, by the forms that AWS's public pages show (Developer Guide, "Viewing CloudWatch logs for Lambda functions";
 API reference, "Invoke")."""
+import asyncio
 import base64
 import concurrent.futures
 import json
@@ -9,7 +10,6 @@ import re
 import subprocess
 import sys
 import time
-import unittest.mock
 import urllib.error
 import urllib.request
 from typing import List
@@ -17,9 +17,11 @@ from typing import List
 from lambda_local.history.words import Word
 from lambda_local.life import Ended, Invocation
 from lambda_local.up import processes
+from lambda_local.up.guarded import Guarded
 from lambda_local.up.invocation_lines import MOST_KEPT, Line, Printed
 from lambda_local.up.invocation_log import Figures, Invocations, encoded, report_line
 from lambda_local.up.output import MarkedSplitter
+from lambda_local.up.tasks import Tasks
 from tests import ROOT
 from tests.library.cases import Case
 from tests.library.up_kit import Up, until
@@ -134,10 +136,6 @@ class Part:
         if cuts and left:
             self.printed.take(self.name, left)
         return 0.0, self.left
-
-    @property
-    def is_settled(self):
-        return not self.left
 
 
 class InvocationLog(Case):
@@ -357,17 +355,14 @@ class InvocationLog(Case):
         printed.add(process)
         of = lambda identifier, until=None: [line.text for line in printed.of_invocation(identifier, until)]
         printed.take("f/1", "of the Init")
-        self.check("nothing is to be read", printed.deliver_at_once("a"), True)
+        printed.deliver("a")
         printed.take("f/1", "a 1")
         process.left = "a 2"
         until = printed.settle()
         self.check("what is not whole is told", of("a", until), ["a 1", "a 2"])
-        self.check("what is to be read is waited for", printed.deliver_at_once("b"), False)
         printed.deliver("b")
-        is_here_at_once = printed.deliver_at_once("b")
         printed.deliver("b")
-        self.check("a delivery to a second process is the same one", (is_here_at_once, len(printed.divisions)),
-                   (True, 2))
+        self.check("a delivery to a second process is the same one", len(printed.divisions), 2)
         printed.take("f/1", "b 1")
         self.check("each has its own", (of("a"), of("b"), of("c")), (["a 1", "a 2"], ["b 1"], []))
         self.check("as far as it was taken then", of("a", until), ["a 1", "a 2"])
@@ -380,14 +375,18 @@ class InvocationLog(Case):
         """A process may have answered its first invocation before the thread that starts it goes on."""
         printed, seen = Printed(), []
 
-        class Slow:
-            def start(self, words, directory, variables, output, forks):
+        class Slow(Guarded):
+            async def start(self, words, directory, variables, output, forks):
                 subprocess.run(words, stdout=output)
                 seen.append((printed.settle().place, [line.text for line in printed.lines]))
                 raise OSError("as if it could not be started")
 
-        with unittest.mock.patch.object(processes, "GUARD", Slow()):
-            self.assertRaises(OSError, processes.Process, "f/1", ["echo", "early"], "/", {}, printed)
+        async def start():
+            tasks = Tasks(asyncio.get_running_loop(), self.fail)
+            tasks.guarded = Slow()
+            await processes.Process("f/1", tasks, printed).start(["echo", "early"], "/", {})
+
+        self.assertRaises(OSError, asyncio.run, start())
         self.check("what it has printed is taken", seen, [(1, ["early"])])
         self.check("one that could not be started is not read", printed.processes, [])
 

@@ -5,7 +5,9 @@ import os
 import signal
 import sys
 import time
+from typing import Any, Dict, List
 
+from lambda_local.configuration import Members
 from lambda_local.up.limits import Limits
 from lambda_local.up.memory import is_above, peaks_of
 from lambda_local.up.patience import of_service, times_of, with_patience
@@ -61,10 +63,11 @@ def forked(count, size):
 
 class OfLimits(Case):
     def test_what_is_near_a_limit_is_told_once_for_each_function(self):
-        functions = [{"name": name, **PYTHON, **more} for name, more in {
+        members: Dict[str, Members] = {
             "memory": {"memory": 128}, "enough": {"memory": 1024}, "killed": {"memory": 128, "enforceMemory": True},
             "slow": {"timeout": 10}, "large": {}, "behind": {}, "quiet": {},
-            "init": {"init": 60, "variables": {"INIT": "10.5"}}}.items()]
+            "init": {"init": 60, "variables": {"INIT": "10.5"}}}
+        functions: List[Members] = [{"name": name, **PYTHON, **more} for name, more in members.items()]
         functions.append({"name": "late", "command": [sys.executable, "late.py"], "environments": 1, "timeout": 60})
         up = Up("--log", "json", functions=functions, app=APP, files={"late.py": LATE})
         self.check("all are ready", up.until('"text": "ready"', 90))
@@ -128,8 +131,9 @@ class OfLimits(Case):
         self.check("no limit of Lambda's is near", up.count("Lambda ends"), 0)
 
     def test_patience_multiplies_the_limits_of_time(self):
-        self.check("limits", [with_patience(member, 2.5) for member in (
-            {}, {"timeout": 700, "command": "x", "init": 5}, {"timeout": 1000, "runtime": "python", "init": 900})], [
+        several: List[Members] = [{}, {"timeout": 700, "command": "x", "init": 5},
+                                  {"timeout": 1000, "runtime": "python", "init": 900}]
+        self.check("limits", [with_patience(member, 2.5) for member in several], [
             {"timeout": 8}, {"timeout": 900, "command": "x", "init": 13},
             {"timeout": 1000, "runtime": "python", "init": 900}])
         self.check("as it is", with_patience({"timeout": 3}, 1), {"timeout": 3})
@@ -162,8 +166,12 @@ class OfLimits(Case):
         self.check("an exit", reason_of(3), "Runtime exited with error: exit status 3")
 
     def test_nine_tenths_of_an_answer_are_told(self):
-        told = []
-        limits = Limits([], {"streams"}, None, {}, lambda *given, **members: told.append(given))
+        told: List[Any] = []
+        nothing: Any = None
+
+        def log(*given: Any, **members: Any) -> None:
+            told.append(given)
+        limits: Any = Limits([], {"streams"}, nothing, {}, log)  # type: ignore[arg-type]
         limits.functions = {"f": None, "streams": None}
         for target, size in (("/2015-03-31/functions/f/invocations", 5_662_310), ("/_local/history", 1 << 30),
                              ("/2015-03-31/functions/g/invocations", 1 << 30),

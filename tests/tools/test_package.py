@@ -333,8 +333,8 @@ class Package(Case):
                        [it for it in listed if not re.search(rf'^\.BI? "?{it}\b', page, re.M)], [])
             self.try_plugin(os.path.join(folder, "usr", "lib", "lambda_local", "tools"))
             control = run(["dpkg-deb", "-f", self.made.deb, "Version", "Architecture", "Depends"])[1]
-            seen = (bool(VERSION.search(control)), "Architecture: amd64" in control, "libc6 (>= 2.34)" in control)
-            self.check("its control file", seen, (True, True, True))
+            self.check("its control file", (bool(VERSION.search(control)), "Architecture: amd64" in control,
+                                            "libc6 (>= 2.34)" in control), (True, True, True))
             subprocess.run(["dpkg-deb", "-e", self.made.deb, os.path.join(folder, "DEBIAN")], check=True)
             write(os.path.join(folder, "stub", "py3compile"), b"#!/bin/sh\necho \"$@\"\n")
             os.chmod(os.path.join(folder, "stub", "py3compile"), 0o755)

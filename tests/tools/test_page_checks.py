@@ -148,8 +148,8 @@ class PageChecks(Case):
         for made, wanted in (('echo \'[{"instructions": 7}]\'', 7), ("echo", None), ("exit 3", None)):
             write(f"{self.root}/bench/serve/instructions", f"#!/bin/sh\n{script.format(made)}\n".encode(), 0o755)
             with mock.patch.object(speeds, "NEEDS", ()):
-                counted, why = speeds.count(self.root, "/nowhere")
-            self.check(f"a count by {made}", (counted, bool(why)), (wanted, wanted is None))
+                count, why = speeds.count(self.root, "/nowhere")
+            self.check(f"a count by {made}", (count, bool(why)), (wanted, wanted is None))
 
     @contextlib.contextmanager
     def linter(self, name: str, script: str) -> Iterator[None]:

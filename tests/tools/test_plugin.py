@@ -12,7 +12,7 @@ import threading
 import time
 
 from pytest_lambda_local import FunctionError, LambdaLocal
-from tests import ROOT, TOOLS
+from tests import ROOT, with_tools
 from tests.library.cases import Case
 from tests.library.threads import together
 
@@ -136,8 +136,7 @@ def pytest_over(python, folder, tests=TESTS, lent=None, **environ):
         file.write(tests)
     done = subprocess.run([python, "-m", "pytest", "-p", "lambda_local.pytest_plugin", "-p", "pytest_lambda_local",
                            "-p", "no:cacheprovider", "-rs", "--basetemp", os.path.join(folder, "kept"), folder],
-                          cwd=folder, env={**os.environ, "PYTHONPATH": os.pathsep.join([TOOLS, *lent]), **environ},
-                          stdin=subprocess.DEVNULL,
+                          cwd=folder, env={**os.environ, **with_tools(*lent), **environ}, stdin=subprocess.DEVNULL,
                           stdout=subprocess.PIPE, stderr=subprocess.STDOUT, text=True, timeout=300)
     counts = {word: int(number)
               for number, word in re.findall(r"(\d+) (passed|failed|error|skipped)", done.stdout.splitlines()[-1])}

@@ -1,16 +1,23 @@
 """Checks what lambda_local up tells of requests that the service refuses, and of programs that cannot be started. The
 program is LAMBDA_LOCAL_PROGRAM, else ./lambda_local."""
 import errno
+import json
 import os
 import struct
 import sys
 import tempfile
+from typing import Any, List, NamedTuple
 
 from lambda_local.executables import why_not_found, why_not_started
+from lambda_local.history.entries import request_identifier
+from lambda_local.service import ask
 from lambda_local.telemetry.conversation import Conversation, Ears
 from lambda_local.telemetry.refusals import MOST_KINDS, Refusals
+from lambda_local.up.rejected import Rejected
 from tests.library.cases import Case
-from tests.library.up_kit import RUNTIME, Up
+from tests.library.clock_kit import posted
+from tests.library.events_kit import READY, READY_SECONDS
+from tests.library.up_kit import RUNTIME, Up, until
 
 API = "/2018-06-01/runtime/"
 HEAD = " HTTP/1.1\r\nHost: a\r\n"
@@ -68,9 +75,14 @@ os.execv({runtime[0]!r}, {runtime!r})
 
 class Heard(Ears):
     def __init__(self):
-        self.lines = []
+        self.lines: List[str] = []
         self.refusals = Refusals(self.lines.append)
-        self.refused, self.unreadable = self.refusals.refused, self.refusals.unreadable
+
+    def refused(self, *given):
+        self.refusals.refused(*given)
+
+    def unreadable(self, *given):
+        self.refusals.unreadable(*given)
 
 
 def answer(status, headers, body):
@@ -129,16 +141,86 @@ class RefusedRequests(Case):
         self.check("and to a line", len(long) < 250)
 
     def test_up_tells_refused_requests_by_a_line(self):
-        asking = {"name": "f", "command": ["./asks"], "handler": "app.run", "logs": "exact"}
-        up = Up("--ready", "30", functions=[asking],
+        # (an Init that is ended after 10 s, on a machine that does much else, would ask again)
+        asking = {"name": "f", "command": ["./asks"], "handler": "app.run", "logs": "exact", "init": 200}
+        up = Up(*READY, functions=[asking],
                 files={"asks": ASKS.format(python=sys.executable, runtime=RUNTIME)}, command=("--", "true"))
-        self.check("up ends", up.process.wait(60), 0)
+        self.check("up ends", up.process.wait(READY_SECONDS), 0)
         up.reader.join(10)
         for line in (f"[f/1] -- GET {API}next: 404, there is no such route: did you mean GET {API}invocation/next?",
                      f"[f/1] -- GET {API}next: 404, 10 times so far", f"[f/1] -- GET {API}next: 404, 12 times so far",
                      f"[f/1] -- POST {API}invocation/7/response: 4", "[f/1] -- what came is not an HTTP/1.1 request: ",
                      f"[f/1] -- POST {API}init/error: its body is cut short"):
-            self.check(f"a line has {line[10:70]} ..", up.count(line.replace("[", r"\[").replace("?", r"\?")), 1)
+            self.check(f"a line has {line[10:70]} ..", len([one for one in up.lines if line in one]), 1, shown=up.lines)
+
+    def test_up_tells_refused_requests_that_no_proxy_hears(self):
+        """Those of a command that has its environment's own port, and of a runtime that is started by hand."""
+        functions = [{"name": "f", "command": ["./asks"], "handler": "app.run"}, {"name": "by_hand", "ports": [0]}]
+        up = Up(*READY, "--allow-unready", functions=functions,
+                files={"asks": ASKS.format(python=sys.executable, runtime=RUNTIME)})
+        self.check("a runtime is asked for", up.until("by_hand/1: 127.0.0.1:", READY_SECONDS))
+        self.check("it answers after what was refused", until(lambda: '"idle"' in up.get("/_local/environments"),
+                                                              READY_SECONDS))
+        port = int(up.told(r"by_hand/1: 127\.0\.0\.1:(\d+)"))
+        ask(port, "GET", "/2018-06-01/runtime/invocation/next%0a?a=b", "x")
+        salt = json.loads(up.history().splitlines()[1])["salt"]
+        no_such = f"{API}invocation/{request_identifier(salt, 2, 7)}/response"
+        self.check("an answer before an invocation", ask(port, "POST", no_such, "x")[0], 403)
+        self.check("a request of a caller", outcome_of(up, "/2015-03-31/functions/g/invocations"), 404)
+        self.check("it ends", up.end()[0], 0)
+        for line, count in (
+                (f"[f/1] -- GET {API}next: 404, there is no such route: did you mean GET {API}invocation/next?", 1),
+                (f"[f/1] -- POST {API}invocation/7/response: 4", 1),
+                ("[f/1] -- what came is refused: 400, these bytes are not a request of HTTP/1.1; send HTTP, ", 1),
+                (f"[f/1] -- POST {API}init/error: 400, the body ended early, or is not chunked", 1),
+                (f"[by_hand/1] -- POST {no_such}: 403, its invocation is over, by an answer or by its timeout", 1),
+                ("[service] -- requests at environments' ports: 404, 12 more; no such route of the Runtime API", 1),
+                (" -- ", 6)):
+            self.check(f"a line has {line[:70]} ..", len([one for one in up.lines if line in one]), count,
+                       shown=up.lines)
+
+    def test_a_line_of_the_services_log_is_told_of_its_environment(self):
+        class Here(NamedTuple):
+            name: str
+            function: str
+
+        class Heard:
+            def is_heard(self, number):
+                return number == 2
+
+        class Started:
+            configuration = {"functions": [{"ports": [9001, 9002]}, {"ports": [9003]}]}
+            lines = ["[INFO  lambda_local] listening"]
+        told: List[Any] = []
+        started: Any = Started
+        heard: Any = Heard()
+        here = {1: Here("f/1", "f"), 2: Here("f/2", "f"), 3: Here("g/1", "g")}
+        rejected = Rejected(started, heard, here, lambda who, text, **more: told.append((who, text, more)))
+        begun = "[INFO  lambda_local::rejected] "
+        for line, wanted in (
+                ("404 GET /a at port 9003: no such route", ("g/1", "-- GET /a: 404, there is no such route")),
+                ("404 GET /a at port 9002: no such route", None), ("404 GET /a at port 9000: no such route", None),
+                ("404 at the invoke port: 5 more since; no such route", None), ("404", None),
+                ("405 POST /2018-06-01/runtime/invocation/next?a at port 9001: this route does not have this method",
+                 ("f/1", "-- POST /2018-06-01/runtime/invocation/next: 405, this route has the method GET")),
+                ('400 POST /2020-01-01/extension/register at port 9001, {"errorMessage":"a: b",'
+                 '"errorType":"MissingHeader"}: x', ("f/1", "-- POST /2020-01-01/extension/register: 400, it needs the "
+                                                     "header Lambda-Extension-Name")),
+                ("501 POST /a at port 9001: the coding; send it", ("f/1", "-- POST /a: 501, the coding; send it")),
+                ("400 port 9001: these bytes", ("f/1", "-- what came is refused: 400, these bytes")),
+                ("413 at an environment's port: 5000 more since; the body is too long",
+                 ("service", "-- requests at environments' ports: 413, 5,000 more; the body is too long"))):
+            Started.lines.append(begun + line)
+            rejected.look()
+            self.check(f"told of {line[:50]}", [one[:2] for one in told], [] if wanted is None else [wanted])
+            told.clear()
+        rejected.look()
+        self.check("each line is read once", told, [])
+
+
+def outcome_of(up, path):
+    """The status of an invocation."""
+    return posted(up.endpoint, path, b"{}")[0]
 
 
 def elf(machine, loader=b""):

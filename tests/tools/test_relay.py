@@ -6,13 +6,15 @@ import json
 import os
 import random
 import signal
+import socket
 import sys
 import threading
 import time
+from typing import Any, Dict, List
 from unittest import mock
 
 from lambda_local.front.front import listener_at
-from lambda_local.telemetry import relay
+from lambda_local.telemetry import relay, relay_process
 from lambda_local.telemetry.conversation import Conversation, Ears
 from lambda_local.telemetry.proxy import Proxy
 from lambda_local.telemetry.quick import Quick
@@ -21,6 +23,7 @@ from lambda_local.telemetry.relay_process import Marking, Pipe
 from lambda_local.up.passing import MOST_HELD, Passing
 from tests.library import http_mutants
 from tests.library.cases import Case
+from tests.library.events_kit import READY_SECONDS
 from tests.library.up_kit import RUNTIME, Up, children, command_of, lives, until
 from tests.tools.test_invocation_log import parts, tail_of
 
@@ -52,7 +55,7 @@ while True:
 '''
 
 
-class Telling:
+class Telling(relay_process.Relay):
     """What stands for the relay: its pipes have no processes."""
 
     def __init__(self):
@@ -167,6 +170,7 @@ class Relay(Case):
                 except BlockingIOError:
                     break
             waits, also = ears.given(IDENTIFIERS[1]), ears.given(IDENTIFIERS[1])
+            assert waits is not None and also is not None
             done, _ = await asyncio.wait([asyncio.ensure_future(waits)], timeout=0.1)
             loop.call_later(0.05, os.read, ends[0][0], 1 << 20)
             await asyncio.wait_for(also, 10)
@@ -183,7 +187,7 @@ class Relay(Case):
 
     def test_lines_of_several_processes_are_divided_as_one_by_passing_marks(self):
         """Lines of several processes are divided as one, however far each has been read."""
-        seen = []
+        seen: List[Any] = []
         passing = Passing(lambda name, text: seen.append(text), lambda identifier: seen.append((identifier, )))
 
         def come(name, *items):
@@ -240,7 +244,7 @@ class Relay(Case):
     def test_a_full_proxy_closes_a_newcomer_and_says_so_once(self):
         """A proxy whose connections all wait for answers closes a newcomer, and says so once."""
         async def come(count):
-            lines = []
+            lines: List[str] = []
             service = await asyncio.start_server(lambda *_: None, "127.0.0.1", 0)
             proxy = Proxy(listener_at(0, "a proxy", "up.json"), service.sockets[0].getsockname()[1], Ears(),
                           lines.append, most=2)
@@ -269,7 +273,7 @@ class Relay(Case):
     def test_one_that_hangs_is_waited_for_a_while_and_no_longer(self):
         """Whoever has a message for a relay that takes none waits for a while, and no longer."""
         with mock.patch.object(relay, "SEND_SECONDS", 1):
-            one = relay.Relay(lambda *_: None, lambda: None)
+            one = relay.Relay(lambda *_: None, lambda: None, lambda *_: None)
         os.kill(one.process.pid, signal.SIGSTOP)
         reading, writing = os.pipe()
         faults = []
@@ -291,7 +295,8 @@ class Relay(Case):
 
     def test_only_what_is_to_be_divided_or_told_has_a_relay(self):
         """Only what is to be divided, or told, has something before it."""
-        command = {"name": "f", "command": RUNTIME}
+        command: Dict[str, Any] = {"name": "f", "command": RUNTIME}
+        function: Any
         for what, function, options, is_there in (
                 ("a command", {}, (), False), ("with exact logs", {"logs": "exact"}, (), True),
                 ("with --report", {}, ("--report", ), True)):
@@ -305,9 +310,11 @@ class Relay(Case):
         self.check("another value is refused", (up.process.wait(60), up.until(told)), (2, True))
 
     def test_what_is_refused_is_told_by_the_relay(self):
-        """The history has some of it; the relay tells all, and stands before a function that has failed."""
+        """The history and the service's log have some of it; the relay tells all, and stands before a function that has
+        failed."""
         files = {"twice": TWICE.format(python=sys.executable), "wrong": WRONG_ROUTE.format(python=sys.executable)}
         over = "its invocation is over, by an answer or by its timeout"
+        logs: Any
         for logs in ({}, {"logs": "exact"}):
             up = Up(functions=[{"name": "f", "command": ["./twice"], **logs}], files=files)
             up.until("[up] ready")
@@ -315,11 +322,35 @@ class Relay(Case):
             self.check("a second answer is told", up.until(f"/response: 403, {over}"))
             up.invoke()
             up.end()
-            self.check("a route that is not there is told with exact logs alone", up.has("/nothing: 404"), bool(logs))
+            self.check("a route that is not there is told, by the relay or the service's log", up.has(
+                "/nothing: 404, there is no such route"))
         up = Up(functions=[{"name": "f", "command": ["./wrong"]}], files=files)
-        self.check("after an early end it is told as well", up.until(
-            "GET /2018-06-01/runtime/next: 404, there is no such route: did you mean", 30))
+        self.check("after an early end the relay tells it too", until(lambda: up.count(
+            r"GET /2018-06-01/runtime/next: 404, there is no such route: did you mean") == 2, READY_SECONDS))
         self.check("nothing is left", up.end()[1], [])
+
+    def test_lines_of_the_relay_that_are_taken_late_all_come(self):
+        """More than a socket has room for (some hundreds), and a tool that reads them once it has said that it ends."""
+        tool, its = socket.socketpair(socket.AF_UNIX, socket.SOCK_SEQPACKET)
+
+        async def told():
+            relay = relay_process.Relay(its)
+            running = asyncio.get_running_loop().create_task(relay.run())
+            for number in range(900):
+                relay.tell(1, "refused", f"line {number}")
+                await asyncio.sleep(0)
+            tool.shutdown(socket.SHUT_WR)
+            await running
+        telling = threading.Thread(target=lambda: asyncio.run(told()))
+        telling.start()
+        time.sleep(0.3)
+        seen = []
+        while data := tool.recv(relay_process.LONGEST_MESSAGE):
+            seen.append(json.loads(data)["text"])
+        telling.join()
+        self.check("all lines, in their order", (len(seen), seen == [f"line {number}" for number in range(900)]),
+                   (900, True))
+        tool.close()
 
     def test_a_first_tail_restarts_idle_environments_once(self):
         """A caller who wants the log has idle environments started again, once; one that is busy is left."""

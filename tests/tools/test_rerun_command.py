@@ -17,7 +17,7 @@ from unittest import mock
 from lambda_local.configuration import Members
 from lambda_local.rerun import command
 from lambda_local.service import Service, ask
-from tests import ROOT
+from tests import ROOT, with_tools
 from tests.library.cases import Case
 from tests.library.rerun_kit import fault_of
 
@@ -255,8 +255,7 @@ class RerunCommand(Case):
                 file.write(TESTS)
             done = subprocess.run([sys.executable, "-m", "pytest", "-q", "--strict-markers", "-p", "no:cacheprovider",
                                    "-p", "pytest_lambda_local", "test_again.py"], cwd=folder,
-                                  env=dict(os.environ, PYTHONPATH=os.path.join(ROOT, "tools")),
-                                  capture_output=True, text=True, timeout=900)
+                                  env={**os.environ, **with_tools()}, capture_output=True, text=True, timeout=900)
             said = done.stdout
             for name, words in (("what differs", "failed now: call "),
                                 ("a test that has started nothing", "start the functions in the test"),

@@ -6,6 +6,7 @@ import re
 import subprocess
 import sys
 import tempfile
+from typing import Any, Dict
 
 from lambda_local.rerun.again import matched
 from lambda_local.rerun.inner import Made, Roots, own_root, root_of
@@ -45,8 +46,9 @@ REQUESTS = [f"01a227f0-4e4d-8000-8001-00000000000{number}" for number in range(1
 
 def write_up(folder, command=(), **variables):
     """Functions of the bundled runtime, or of these words and a handler."""
-    functions = [{"name": name, "timeout": 20, "variables": variables, **(
-        {"command": [*command, f"app.{name}"]} if command else {"runtime": "python", "handler": f"app.{name}"})}
+    def own(name: str) -> Dict[str, Any]:
+        return {"command": [*command, f"app.{name}"]} if command else {"runtime": "python", "handler": f"app.{name}"}
+    functions = [{"name": name, "timeout": 20, "variables": variables, **own(name)}
                  for name in ("orders", "pay", "mail")]
     with open(os.path.join(folder, "up.json"), "w") as file:
         json.dump({"asynchronous": True, "functions": functions}, file)

@@ -9,6 +9,7 @@ import os
 import random
 import re
 import unittest
+from typing import Any, Dict
 
 from lambda_local.event_sources import members
 from lambda_local.front import payload
@@ -66,9 +67,9 @@ class Samples(Case):
     def test_each_type_of_SAM_is_taken_or_has_a_sample(self):
         """Each type of events that SAM's translator knows is taken, or has a sample."""
         from samtranslator.model.eventsources import cloudwatchlogs, pull, push, scheduler  # type: ignore
-        found = {getattr(each, "resource_type") for module in (pull, push, scheduler, cloudwatchlogs)
-                 for each in vars(module).values() if isinstance(each, type) and isinstance(
-                     getattr(each, "resource_type", None), str) and not each.resource_type.startswith("AWS::")}
+        named = [getattr(each, "resource_type", None) for module in (pull, push, scheduler, cloudwatchlogs)
+                 for each in vars(module).values() if isinstance(each, type)]
+        found = {name for name in named if isinstance(name, str) and not name.startswith("AWS::")}
         known = {"SQS", "Kinesis", "DynamoDB", "S3", "SNS", "MSK", "MQ", "DocumentDB", "SelfManagedKafka", "Cognito",
                  "CloudWatchLogs", "EventBridgeRule", "CloudWatchEvent", "IoTRule", "AlexaSkill", "Schedule",
                  "ScheduleV2", *ROUTED}
@@ -110,6 +111,7 @@ class Samples(Case):
 
     def test_members_of_samples_are_those_that_the_sources_make(self):
         """What this tool makes of a message, of a record and of a notification has the members of the sample."""
+        made: Any
         message = {"MessageId": "m", "ReceiptHandle": "r", "Body": "b", "MD5OfBody": "x"}
         self.check("a message is one", is_message(message))
         self.check("sqs", set(record_of(message, "arn", "region")), set(event("sqs")["Records"][0]))
@@ -126,8 +128,8 @@ class Samples(Case):
         given = event("dynamodb")["Records"][1]
         self.check("dynamodb", (set(made.event), set(made.event["dynamodb"])), (set(given), set(given["dynamodb"])))
         made = notifications.read(json.dumps({"Type": "Notification", "MessageId": "m", "TopicArn": "t", "Message": "x",
-                                              "Timestamp": "y"}), "arn").event["Records"][0]
-        given = event("sns")["Records"][0]
+                                              "Timestamp": "y"}), "arn")
+        made, given = made.event["Records"][0], event("sns")["Records"][0]
         self.check("sns", (set(made), set(made["Sns"])), (set(given), set(given["Sns"])))
 
     def test_members_of_samples_are_those_that_the_front_makes(self):
@@ -135,9 +137,12 @@ class Samples(Case):
         reader = RequestReader()
         reader.receive(b"POST /orders/7?full=yes HTTP/1.1\r\nHost: a\r\nCookie: session=1\r\nUser-Agent: curl/8.0.0\r\n"
                        b"Content-Type: application/json\r\nContent-Length: 15\r\n\r\n")
-        request, body = Request(reader.next_event(), None), b'{"name": "Ada"}'
-        context = {"accountId": "1", "apiId": "a", "domainName": "a", "domainPrefix": "a", "requestId": "r",
-                   "routeKey": "POST /orders/{id}", "stage": "$default", "timeEpoch": 1}
+        head: Any = reader.next_event()
+        no_body: Any = None
+        request, body = Request(head, no_body), b'{"name": "Ada"}'
+        context: Dict[str, Any] = {
+            "accountId": "1", "apiId": "a", "domainName": "a", "domainPrefix": "a", "requestId": "r",
+            "routeKey": "POST /orders/{id}", "stage": "$default", "timeEpoch": 1}
         made = json.loads(payload.event_of(request, body, context, {"id": "7"}))
         given = event("apigateway_2.0")
         self.check("an HTTP API", (set(made), set(made["requestContext"]), set(made["requestContext"]["http"])),
@@ -146,7 +151,7 @@ class Samples(Case):
         self.check("a Function URL", (set(made), set(made["requestContext"]), made["body"]),
                    (set(given), set(given["requestContext"]), given["body"]))
         for kind, is_multiple in (("alb", False), ("alb_multi_value", True)):
-            form = OfBalancer(Integration("alb", is_multiple=is_multiple), "us-east-1")
+            form: Any = OfBalancer(Integration("alb", is_multiple=is_multiple), "us-east-1")
             made, given = json.loads(form.event(request, body, {"accountId": "1"}, None, print)), event(kind)
             self.check(kind, (set(made), made["path"], made["body"]), (set(given), given["path"], given["body"]))
         for kind, is_rest, version in (("authorizer_2.0", False, "2.0"), ("authorizer_request", True, "1.0")):

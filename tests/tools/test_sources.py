@@ -12,7 +12,7 @@ import socket
 import time
 import unittest
 from datetime import datetime, timedelta, timezone
-from typing import Tuple
+from typing import Any, List, Tuple
 
 from lambda_local.aws_hosts import is_of_aws
 from lambda_local.configuration import Members
@@ -263,8 +263,9 @@ class Sources(Case):
     def test_whatever_a_server_gives_is_no_message_or_makes_an_event(self):
         """Whatever a server gives is no message, or an event can be made of it."""
         chosen = random.Random(7)
-        values = (None, 5, 1.5, True, "", "text", "\ud800", b"\xff", [], ["x"], {}, {"StringValue": 5}, {"x": None},
-                  {"x": {"DataType": None, "BinaryValue": b"\xff"}}, {"x": {"StringValue": "\0"}}, {5: {}})
+        values: List[Any] = [
+            None, 5, 1.5, True, "", "text", "\ud800", b"\xff", [], ["x"], {}, {"StringValue": 5}, {"x": None},
+            {"x": {"DataType": None, "BinaryValue": b"\xff"}}, {"x": {"StringValue": "\0"}}, {5: {}}]
         names = ("MessageId", "ReceiptHandle", "Body", "Attributes", "MessageAttributes", "MD5OfBody")
         taken = 0
         for _ in range(20_000):

@@ -6,9 +6,11 @@ import io
 import re
 import subprocess
 import time
+from typing import Any, List
 
 from lambda_local.front.storm import root_of
 from lambda_local.in_process import FunctionError, LambdaLocal
+from lambda_local.in_storm import InMaker
 from lambda_local.storm import INIT, KINDS, SPARED, THROTTLE, Course, Storm, storm_of
 from tests.library.cases import Case
 from tests.library.clock_kit import EVENT, INVOKE, posted
@@ -78,7 +80,7 @@ class Choices(Case):
             again = [[course.next()[1] for _ in range(120)]
                      for course in (Course(Storm(seed, rate), "f", KINDS) for seed in range(200))]
             self.check(f"{rate}: the same seed draws the same", drawn == again)
-            self.check(f"{rate}: another seed, others", len(set(map(tuple, drawn))), 200)
+            self.check(f"{rate}: another seed, others", len({tuple(course) for course in drawn}), 200)
             apart = all(later - before > SPARED for one in drawn for before, later in zip(
                 [at for at, kind in enumerate(one) if kind], [at for at, kind in enumerate(one) if kind][1:]))
             self.check(f"{rate}: whoever tries again is spared", apart)
@@ -200,7 +202,8 @@ def storm_over(service, count):
                 try:
                     seen.append(service.invoke("f", number) == number)
                 except FunctionError as fault:
-                    seen.append(fault.report["errorType"])
+                    report: Any = fault.report
+                    seen.append(report["errorType"])
     return seen, lines.getvalue()
 
 
@@ -222,8 +225,36 @@ class OfTest(Case):
         wanted = {"throttle": "TooManyRequestsException", "timeout": "Function.Timeout", "cold": True, None: True,
                   "crash": "Runtime.ExitError", INIT: "Runtime.ExitError"}
         self.check("in the order of lambda_local up", seen, [wanted[drawn.next()[1]] for _ in range(COUNT)])
-        self.check("the end says how many", SUMMARY.search(lines)[2], str(COUNT))
-        self.check("and each has a line", len(re.findall(r"storm 4: f #", lines)), int(SUMMARY.search(lines)[1]))
+        made, count = SUMMARY.findall(lines)[0]
+        self.check("the end says how many", count, str(COUNT))
+        self.check("and each has a line", len(re.findall(r"storm 4: f #", lines)), int(made))
+
+    def test_in_a_test_what_has_just_answered_starts_anew_too(self):
+        """A runtime that has answered and has not asked again, as on a busy machine, does not take what is to find a
+        new one; one that works for another caller is left alone."""
+        for others, left, wanted in ((0, 3, [1]), (1, 3, []), (0, 0, [1])):
+            ended: List[int] = []
+
+            class Service:
+                def __init__(self):
+                    self.looks = 0
+
+                def numbers_of(self, name):
+                    return [1]
+
+                def phases(self):
+                    self.looks += 1
+                    return {1: {"phase": "starting" if ended else "idle" if self.looks > left else "busy"}}
+
+                def spin_down(self, number):
+                    ended.append(number)
+            service: Any = Service()
+            maker = InMaker(service, ["f"])
+            maker.sent = lambda: 1 + others
+            for kind in ("cold", INIT):
+                maker.arrange("f", kind, lambda outcome: None)
+                self.check(f"{kind}: {left} looks until it asks, {others} others", ended, wanted)
+                ended.clear()
 
     def test_in_a_test_what_is_no_storm_is_refused(self):
         for storm in ("x", -1, True, 7.5, "7:2"):

@@ -5,7 +5,7 @@ import importlib.util
 import json
 import random
 import unittest
-from typing import Any, Dict
+from typing import Any, Dict, List
 
 from lambda_local.event_sources import filters
 from lambda_local.event_sources.checkpoints import Position
@@ -39,6 +39,8 @@ RULES = (({"UserID": [None]}, {"Name": [None]}), ({"LastName": [""]}, {"Name": [
 
 class StreamFilters(Case):
     def test_a_pattern_takes_what_its_rules_say(self) -> None:
+        met: Any
+        unmet: Any
         for met, unmet in RULES:
             self.check(f"{met}", (list(filters.mistakes(met, "")), filters.takes(met, EVENT)), ([], True))
             self.check(f"{unmet}", (list(filters.mistakes(unmet, "")), filters.takes(unmet, EVENT)), ([], False))
@@ -73,7 +75,7 @@ class StreamFilters(Case):
         """Random patterns and events, as moto's EventBridge has them."""
         from moto.events.models import EventPattern  # type: ignore
         chosen, taken = random.Random(5), 0
-        values = ("x", "xy", "", 5, 7.5, None, True)
+        values: List[Any] = ["x", "xy", "", 5, 7.5, None, True]
         matchers = ("x", "", 5, None, {"prefix": "x"}, {"suffix": "y"}, {"exists": True}, {"exists": False},
                     {"numeric": [">", 4, "<", 6]}, {"anything-but": ["x"]}, {"anything-but": "xy"})
 
@@ -108,6 +110,7 @@ class StreamFilters(Case):
         def event(data: bytes) -> Dict[str, Any]:
             return {"eventSource": "aws:kinesis", "kinesis": {"data": base64.b64encode(data).decode(),
                                                               "partitionKey": "7"}}
+        pattern: Any
         for pattern, data, wanted in (
                 ({"data": {"kind": ["order"]}}, b'{"kind": "order"}', True),
                 ({"data": {"kind": ["order"]}}, b'{"kind": "other"}', False),

@@ -5,7 +5,7 @@ import json
 import random
 import unittest
 from datetime import datetime, timezone
-from typing import Any, Dict
+from typing import Any, Dict, List
 
 from lambda_local.configuration import Members
 from lambda_local.event_sources import batches, failures, members, notifications
@@ -43,6 +43,7 @@ class StreamParts(Case):
                 ({"topic": {"url": URL, "name": "a b"}}, 'topic: name: "a b" must be the name or the ARN of'),
                 ({"topic": {"url": URL, "name": "a.fifo"}}, "is a FIFO topic, to which no function can be"),
                 ({"topic": {"url": URL, "name": "a", "filterPolicyScope": "MessageBody"}}, "there is no filter")):
+            assert isinstance(given, dict)
             if wanted is None:
                 self.check("a stream of another type is none", sources.OF_FUNCTION["stream"].accepts(given["stream"]),
                            False)
@@ -77,6 +78,7 @@ class StreamParts(Case):
         def shown(then: batches.After) -> object:
             return (numbers(then.done), numbers(then.given_up), [(numbers(one.records), one.tries)
                                                                  for one in then.left], then.is_split)
+        rules: Any
         for name, given, failing, rules, wanted in (
                 ("all is done", batch(1, 2), None, {}, ([1, 2], [], [], False)),
                 ("all of it again", batch(1, 2), 0, {}, ([], [], [([1, 2], 1)], False)),
@@ -148,9 +150,10 @@ class StreamParts(Case):
     def test_records_of_Kinesis_are_as_the_guide_has_them(self) -> None:
         server = Kinesis(None, stream(), "us-east-2", "123456789012")
         server.arn = "arn:aws:kinesis:us-east-2:123456789012:stream/lambda-stream"
-        given = {"Data": b"Hello, this is a test.", "PartitionKey": "1",
-                 "SequenceNumber": "49590338271490256608559692538361571095921575989136588898",
-                 "ApproximateArrivalTimestamp": datetime.fromtimestamp(1545084650.987, timezone.utc)}
+        given: Dict[str, Any] = {
+            "Data": b"Hello, this is a test.", "PartitionKey": "1",
+            "SequenceNumber": "49590338271490256608559692538361571095921575989136588898",
+            "ApproximateArrivalTimestamp": datetime.fromtimestamp(1545084650.987, timezone.utc)}
         made = server.record_of(given, "shardId-000000000006")
         assert made is not None
         self.check("the Developer Guide's example", made.event, {
@@ -165,17 +168,18 @@ class StreamParts(Case):
                             ("SequenceNumber", "9" * 5000), ("SequenceNumber", 5), ("ApproximateArrivalTimestamp", "x"),
                             ("ApproximateArrivalTimestamp", None)):
             self.check(f"no record: {name} is {str(wrong)[:9]}", server.record_of({**given, name: wrong}, "s"), None)
-        self.check("nor is this", [server.record_of(one, "s") for one in (None, 5, [], "x", {})], [None] * 5)
+        others: List[object] = [None, 5, [], "x", {}]
+        self.check("nor is this", [server.record_of(one, "s") for one in others], [None] * 5)
 
     def test_records_of_tables_are_as_the_guide_has_them(self) -> None:
         server = DynamoDb(None, stream(), "us-east-1")
         server.arn = "arn:aws:dynamodb:us-east-1:123456789012:table/T/stream/2026-11-29T00:00:00.000"
-        given = {"eventID": "1", "eventName": "REMOVE", "eventVersion": "1.1", "eventSource": "aws:dynamodb",
-                 "awsRegion": "us-east-1", "userIdentity": {"PrincipalId": "dynamodb.amazonaws.com", "Type": "Service"},
-                 "dynamodb": {"Keys": {"Id": {"N": "101"}},
-                              "OldImage": {"b": {"B": b"\xff"}, "s": {"BS": [b"a", b"b"]}},
-                              "StreamViewType": "NEW_AND_OLD_IMAGES", "SequenceNumber": "111", "SizeBytes": 26,
-                              "ApproximateCreationDateTime": MOMENT}}
+        given: Dict[str, Any] = {
+            "eventID": "1", "eventName": "REMOVE", "eventVersion": "1.1", "eventSource": "aws:dynamodb",
+            "awsRegion": "us-east-1", "userIdentity": {"PrincipalId": "dynamodb.amazonaws.com", "Type": "Service"},
+            "dynamodb": {"Keys": {"Id": {"N": "101"}}, "OldImage": {"b": {"B": b"\xff"}, "s": {"BS": [b"a", b"b"]}},
+                         "StreamViewType": "NEW_AND_OLD_IMAGES", "SequenceNumber": "111", "SizeBytes": 26,
+                         "ApproximateCreationDateTime": MOMENT}}
         made = server.record_of(given, "s")
         assert made is not None
         self.check("what time to live has deleted", made.event, {
@@ -188,10 +192,11 @@ class StreamParts(Case):
         deep: Dict[str, Any] = {}
         for _ in range(200):
             deep = {"M": deep}
+        change: Any
         for change in ({"Keys": {"a": object()}}, {"Keys": 5}, {"SequenceNumber": ""}, {"OldImage": {"a": deep}},
                        {"ApproximateCreationDateTime": None}):
             self.check(f"no record: {list(change)}", server.record_of({**given, "dynamodb": {
-                **given["dynamodb"], **change}}, "s"), None)  # type: ignore[dict-item]
+                **given["dynamodb"], **change}}, "s"), None)
 
     @WITH_BOTOCORE
     def test_records_of_tables_have_all_that_the_model_has(self) -> None:
@@ -223,6 +228,7 @@ class StreamParts(Case):
                 "UnsubscribeUrl": "https://u", "TopicArn": "t", "Subject": "s"}}]})
         self.check("a confirmation", notifications.read('{"Type": "SubscriptionConfirmation", "Token": "k"}', "a"),
                    notifications.Confirmation("k"))
+        change: Any
         for change in ({"Type": "Other"}, {"MessageId": 5}, {"Message": None}, {"Subject": 5}, {"MessageAttributes": 5},
                        {"MessageAttributes": {"a": 5}}, {"MessageAttributes": {"a": {"Type": "String"}}}):
             self.check(f"no notification: {change}", notifications.read(json.dumps({**given, **change}), "a"), None)

@@ -9,12 +9,12 @@ import tempfile
 import threading
 import time
 import unittest
-from typing import Any, List, Optional
+from typing import Any, Dict, List, Optional
 
 from lambda_local.configuration import Members
 from lambda_local.event_sources import members, streams
 from lambda_local.event_sources.checkpoints import Checkpoints, Position
-from lambda_local.event_sources.servers import SeenShard
+from lambda_local.event_sources.servers import CannotParse, DynamoDb, Kinesis, Read, SeenShard
 from lambda_local.event_sources.shards import Shard
 from lambda_local.event_sources.sources import Sources
 from lambda_local.event_sources.streams import Reader
@@ -27,6 +27,26 @@ from tests.library.stream_kit import URL, AwsFault, Clock, Driven, FakeAws, Fake
 WITH_BOTOCORE = unittest.skipUnless(importlib.util.find_spec("botocore"), "botocore is not here")
 
 
+def of_kinesis(number: int, **wrong: object) -> Members:
+    return {"SequenceNumber": str(number), "PartitionKey": "k", "ApproximateArrivalTimestamp": 1.5e9 + number,
+            "Data": "b25l", **wrong}
+
+
+def of_table(number: int, **wrong: object) -> Members:
+    image = {"id": {"S": "a"}, "n": {"N": "5"}, "b": {"B": "/wA="}, "bs": {"BS": ["YQ=="]},
+             "l": {"L": [{"BOOL": True}, {"NULL": True}, {"M": {"b": {"B": "YQ=="}}}]}}
+    return {"eventID": str(number), "eventName": "INSERT", "eventVersion": "1.1", "dynamodb": {
+        "SequenceNumber": str(number), "ApproximateCreationDateTime": 1.5e9, "NewImage": image, **wrong}}
+
+
+SHARD = "shardId-00000000000000000001"
+# As a server may send them; of those with a member that is none, boto3 parses nothing of the answer.
+OF_KINESIS = [of_kinesis(1), of_kinesis(2, Data="x"), of_kinesis(3, ApproximateArrivalTimestamp="2026-01-01T00:00:00Z"),
+              of_kinesis(4, ApproximateArrivalTimestamp="yesterday"), of_kinesis(5, Data="y"), of_kinesis(6)]
+OF_TABLE = [of_table(1), of_table(2, NewImage={"l": {"L": [{"B": "x"}]}}),
+            of_table(3, ApproximateCreationDateTime="yesterday"), of_table(4)]
+
+
 class StreamReaders(Case):
     def test_parents_are_read_first(self) -> None:
         """A shard that is split, and two that are merged: what came of them is read after them."""
@@ -35,7 +55,7 @@ class StreamReaders(Case):
         order: List[str] = []
         reader = Driven(server, batchSize=2)
         handle = reader.handle
-        reader.handle = lambda shard: (order.append(shard.identifier), handle(shard))[1]  # type: ignore[method-assign]
+        reader.handle = lambda shard: (order.append(shard.identifier), handle(shard))[1]  # type: ignore
         reader.drive()
         self.check("all is handled", sorted(sum(reader.came, [])), [1, 1, 2, 2, 3, 4, 4, 5, 6])
         for parent, child in (("a", "c"), ("a", "d"), ("b", "d"), ("c", "e"), ("d", "e")):
@@ -92,7 +112,7 @@ class StreamReaders(Case):
             if sequence is not None:
                 raise AwsFault("TrimmedDataAccessException")
             return ask(shard, kind, sequence)
-        trimmed.iterator = iterator  # type: ignore[method-assign]
+        trimmed.iterator = iterator  # type: ignore
         reader = Driven(trimmed, checkpoints=Kept(a=Position("2"))).drive(20)
         self.check("what is not kept any more is told, and the oldest is next", (reader.came, any(
             "are not kept any more" in line for line in reader.lines)), ([[5, 6]], True))
@@ -114,6 +134,93 @@ class StreamReaders(Case):
         reader.drive(20)
         self.check("a new stream of the same name is read from its beginning", reader.came[2:], [[1]])
         self.check("which is told", any("another stream of this name" in line for line in reader.lines))
+
+    def test_a_record_that_is_none_is_dropped_alone_and_in_its_order(self) -> None:
+        """It goes to onFailure, which hears where it is; two in a row are one message. What comes before it is handled
+        first, and a position is never beyond what is not handled."""
+        server = FakeServer(a=[1])
+        sent: List[Any] = []
+        server.odd = ["5", 6, "7", "8", 9, "no number"]
+
+        class Sent:
+            name = "failed"
+
+            def send(self, text: str) -> None:
+                batch = json.loads(text)["KinesisBatchInfo"]
+                sent.append((batch["startSequenceNumber"], batch["batchSize"], list(reader.came)))
+        reader = Driven(server, checkpoints=Kept(), onFailure="arn:aws:sqs:us-east-1:123456789012:failed")
+        reader.destination = Sent()  # type: ignore[assignment]
+        reader.drive(20)
+        self.check("the others are handled", reader.came, [[6], [9]])
+        self.check("where they are is sent, in their order", sent, [("5", 1, []), ("7", 2, [[6]])])
+        self.check("a line tells each", [line for line in reader.lines if "dropped" in line], [
+            "1 record of a, 5, is dropped: UnreadableRecord after 0 invocations; failed is sent where they are",
+            "2 records of a, 7 to 8, are dropped: UnreadableRecord after 0 invocations; failed is sent where they are"])
+        self.check("one without a number is left out", any("1 record of a is left out" in line
+                                                           for line in reader.lines))
+        self.check("its position is behind them", reader.shards["a"].handled, "9")
+
+    def test_what_a_client_cannot_parse_is_read_as_JSON_at_the_third_time(self) -> None:
+        server = FakeServer(a=[1, 2, 3, 4])
+        server.faults = [CannotParse("why", Read([1, "2", 3], "a 3", False)) for _ in range(3)]
+        reader = Driven(server).drive(20)
+        self.check("what can be read is", (reader.came, reader.given_up), ([[1], [3, 4]], 1))
+        self.check("the line of the first time", [line for line in reader.lines if "it is asked again" in line], [
+            "it cannot be read: boto3 cannot parse what its server answers: why: it is asked again after pauses of up "
+            "to 30 s"])
+        server.shards["a"] += [5]
+        server.faults = [CannotParse("why", Read([], None, False)) for _ in range(2)]
+        reader.drive(20)
+        self.check("an answer that is whole again loses nothing", reader.came[2:], [[5]])
+
+    @WITH_BOTOCORE
+    def test_a_record_that_boto3_cannot_parse_ends_only_itself(self) -> None:
+        """One with data, a time or an attribute that is none, of a server over HTTP."""
+        class Poisoned(http.server.BaseHTTPRequestHandler):
+            def do_POST(self) -> None:
+                asked = json.loads(self.rfile.read(int(self.headers.get("Content-Length", 0))))
+                kind, _, operation = self.headers["X-Amz-Target"].partition(".")
+                records = OF_KINESIS if kind.startswith("Kinesis") else OF_TABLE
+                seen = asked.get("ShardIterator", "")
+                answers: Dict[str, Dict[str, Any]] = {
+                    "DescribeStreamSummary": {"StreamDescriptionSummary": {"StreamARN": "arn", "StreamName": "s",
+                                                                           "StreamCreationTimestamp": 1.0}},
+                    "ListShards": {"Shards": [{"ShardId": SHARD, "SequenceNumberRange": {
+                        "StartingSequenceNumber": "0"}}]},
+                    "ListStreams": {"Streams": [{"StreamArn": "arn:" + 40 * "a", "TableName": "Orders",
+                                                 "StreamLabel": "1"}]},
+                    "DescribeStream": {"StreamDescription": {"Shards": [{"ShardId": SHARD}]}},
+                    "GetShardIterator": {"ShardIterator": f"after {asked.get('SequenceNumber') or '0'}"},
+                    "GetRecords": {"Records": {"end": [], "first": records[:1]}.get(seen, records),
+                                   "NextShardIterator": "end"},
+                }
+                body = json.dumps(answers[operation]).encode()
+                self.send_response(200)
+                self.send_header("Content-Length", str(len(body)))
+                self.end_headers()
+                self.wfile.write(body)
+
+            def log_message(self, *words: Any) -> None:
+                pass
+        with http.server.ThreadingHTTPServer(("127.0.0.1", 0), Poisoned) as serving:
+            threading.Thread(target=serving.serve_forever, daemon=True).start()
+            url = f"http://127.0.0.1:{serving.server_port}"
+            of_table = members.stream_of("f", {"url": url, "dynamodb": "Orders"})
+            kinesis = Kinesis(client_of("kinesis", url, "us-east-1", False), stream(url=url), "us-east-1", "1" * 12)
+            table = DynamoDb(client_of("dynamodbstreams", url, "us-east-1", False), of_table, "us-east-1")
+            server: Any
+            for name, server, wanted, lost in (("Kinesis", kinesis, [1, 3, 6], ["2", "4 to 5"]),
+                                               ("DynamoDB", table, [1, 4], ["2 to 3"])):
+                reader = Driven(server).drive(20)
+                self.check(f"{name}: all others are handled", sum(reader.came, []), wanted, shown=reader.lines)
+                self.check(f"{name}: those are told", [line.split(", ")[1] for line in reader.lines
+                                                       if "UnreadableRecord" in line], lost, shown=reader.lines)
+                with self.assertRaises(CannotParse) as raised:
+                    server.read("all", 10)
+                made = [server.record_of(read.records[0], "s") for read in (
+                    server.read("first", 10), raised.exception.read)]
+                self.check(f"{name}: the others are as the client has them", made[0] is not None and made[1], made[0])
+            serving.shutdown()
 
     def test_a_record_without_room_in_an_event_is_dropped_alone(self) -> None:
         large = FakeServer(a=[1, 2])
@@ -173,13 +280,15 @@ class StreamReaders(Case):
             silent.bind(("127.0.0.1", 0))
             silent.listen(64)
             url = f"http://127.0.0.1:{silent.getsockname()[1]}"
-            stopping, lines = threading.Event(), []
+            stopping = threading.Event()
+            lines: List[str] = []
             made: Members = {"name": "f", "stream": [{"url": url, "kinesis": "a"}, {"url": url, "dynamodb": "Table"}],
                              "topic": {"url": url, "name": "news"}}
 
             class OfOne(Service):
                 configuration = {**Service.configuration, "functions": [{"name": "f", "ports": [1, 2]}]}
-            all_sources = Sources([None, None], [made], OfOne(), Clock(), False, stopping,  # type: ignore[arg-type]
+            clock: Any = Clock()
+            all_sources = Sources([None, None], [made], OfOne(), clock, False, stopping,
                                   lambda who, text, *rest, **more: lines.append(text))
             for thread in all_sources.threads:
                 thread.start()
@@ -263,13 +372,16 @@ class StreamReaders(Case):
         def notification(text: str) -> str:
             return json.dumps({"Type": "Notification", "MessageId": text, "TopicArn": "t", "Message": text,
                                "Timestamp": "x"})
-        aws, lines, sent = FakeAws(), [], []
-        topic = Subscriber(members.topics_of([{"name": "f", "topic": {
-            "url": URL, "name": "news", "filterPolicy": {"a": ["b"]}}}])[0], Service(), Clock(), False,
-            threading.Event(), lambda who, text, *rest, **more: lines.append(text))  # type: ignore[arg-type]
+        aws = FakeAws()
+        lines: List[str] = []
+        sent: List[str] = []
+        clock: Any = Clock()
+        topic: Any = Subscriber(members.topics_of([{"name": "f", "topic": {
+            "url": URL, "name": "news", "filterPolicy": {"a": ["b"]}}}])[0], Service(), clock, False,
+            threading.Event(), lambda who, text, *rest, **more: lines.append(text))
         topic.sns = topic.sqs = aws
-        topic.send = lambda one: sent.append(one.message) or True  # type: ignore[func-returns-value, method-assign]
-        topic.stopping.wait = lambda seconds=None: False  # type: ignore[method-assign, assignment]
+        topic.send = lambda one: sent.append(one.message) or True  # type: ignore[func-returns-value]
+        topic.stopping.wait = lambda seconds=None: False
         topic.step()
         self.check("without a topic", (aws.subscribed, topic.pause), ([], 0.5))
         aws.topics = ["arn:aws:sns:eu-west-1:1:older:news", "arn:aws:sns:eu-west-1:000000000000:news"]

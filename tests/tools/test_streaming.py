@@ -321,7 +321,7 @@ class Streaming(Case):
             print("note this boto3 has no invoke_with_response_stream")
         else:
             stream = client.invoke_with_response_stream(FunctionName="f", Payload=json.dumps(
-                {"parts": ["one", "two"], "pause": 0.3}))["EventStream"]
+                {"parts": ["one", "two"], "pause": 2}))["EventStream"]
             found = list(stream)
             self.check("boto3 reads the stream", (b"".join(each["PayloadChunk"]["Payload"] for each in found[:-1]),
                                                   found[-1]),

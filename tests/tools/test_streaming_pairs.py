@@ -121,11 +121,11 @@ class StreamingPairs(Case):
         """A function that invokes another one before it answers, with the trace that it was given."""
         up = up_of()
         self.check("it is ready", up.until("[up] ready"), True)
-        inner = {"answer": ["SECRET OF b"]}
+        inner: Dict[str, object] = {"answer": ["SECRET OF b"]}
+        within: Dict[str, object] = {"steps": [["invoke", ["g", {"answer": ["g"]}]]], **inner}
         for name, steps in {"an inner invocation": [["invoke", ["b", inner]]],
                             "one that is streamed": [["invoke-streamed", ["b", inner]]],
-                            "one of one": [["invoke-streamed", ["b", {"steps": [["invoke", ["g", {"answer": ["g"]}]]],
-                                                                      **inner}]]]}.items():
+                            "one of one": [["invoke-streamed", ["b", within]]]}.items():
             self.check(f"{name}: the outer's caller", asked(up, "a", steps=steps, answer=["I am ", "a"]),
                        (200, b"I am a", True))
             self.check(f"{name}: by its operation", streamed(up, "a", steps=steps, answer=["I am ", "a"]),

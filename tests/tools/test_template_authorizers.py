@@ -8,6 +8,7 @@ import tempfile
 import unittest.mock
 import urllib.error
 import urllib.request
+from typing import Any, Dict
 
 from lambda_local.from_template.own_values import merge
 from lambda_local.front.authorizers import authorizer_of
@@ -57,11 +58,12 @@ class TemplateAuthorizers(Case):
                 "Headers": ["H"], "QueryStrings": ["q"], "StageVariables": ["v"], "Context": ["c"]}},
             "Pool": {"UserPoolArn": "arn:aws:cognito-idp:r:1:userpool/p", "AuthorizationScopes": ["all"]},
             "Strange": {"FunctionArn": {"Ref": "Nowhere"}}}
-        events = {"default": {}, "open": {"Auth": {"Authorizer": "NONE"}},
-                  "request": {"Auth": {"Authorizer": "Request"}},
-                  "pool": {"Auth": {"Authorizer": "Pool", "AuthorizationScopes": ["one"]}},
-                  "iam": {"Auth": {"Authorizer": "AWS_IAM"}}, "none": {"Auth": {"Authorizer": "x"}},
-                  "strange": {"Auth": {"Authorizer": "Strange", "ApiKeyRequired": True}}}
+        events: Dict[str, Dict[str, Any]] = {
+            "default": {}, "open": {"Auth": {"Authorizer": "NONE"}},
+            "request": {"Auth": {"Authorizer": "Request"}},
+            "pool": {"Auth": {"Authorizer": "Pool", "AuthorizationScopes": ["one"]}},
+            "iam": {"Auth": {"Authorizer": "AWS_IAM"}}, "none": {"Auth": {"Authorizer": "x"}},
+            "strange": {"Auth": {"Authorizer": "Strange", "ApiKeyRequired": True}}}
         made, said = up_and_said({"Resources": {
             "A": AUTH, "F": function(**{name: ("Api", {"RestApiId": {"Ref": "R"}, **more})
                                         for name, more in events.items()}),

@@ -10,6 +10,7 @@ import os
 import re
 import tempfile
 import unittest
+from typing import Any, Dict
 
 from lambda_local.from_template import cloudformation
 from lambda_local.from_template.find import Source
@@ -113,7 +114,7 @@ def routes_of(whole):
 
 def sources_of(whole, wanted):
     """How many queues, streams, topics and schedules invoke each function, those that are off left out."""
-    found = {}
+    found: Dict[Any, int] = {}
     aliases = {key: one["FunctionName"]["Ref"] for key, one in resources(whole, LAMBDA + "Alias").items()}
 
     def note(value, what):

@@ -36,7 +36,7 @@ class TemplateValues(Case):
                 made = made_by(path, **words)[0]
                 seen = tuple(variables_of(made).values()) if isinstance(made, dict) else made
                 self.check(f"parameters: {name}", seen, wanted)
-            for words, wanted in (
+            for words, told in (
                     ({"parameters": ["A=q"]}, "--parameter A: it must be one of x, y z, not q"),
                     ({"parameters": ["D=q"]}, f"--parameter D: {path} has no such parameter; there are A, B, C"),
                     ({"parameters": ["A"]}, "--parameter: A must be NAME=VALUE"),
@@ -47,7 +47,7 @@ class TemplateValues(Case):
                     seen = made_by(path, **words)[0]
                 except Fault as fault:
                     seen = str(fault)
-                self.check(f"parameters: {wanted}", wanted in str(seen), shown=seen)
+                self.check(f"parameters: {told}", told in str(seen), shown=seen)
 
     def test_variables_are_given_by_files(self):
         with folder_of(template_0_json={"Resources": {
@@ -102,7 +102,7 @@ class TemplateValues(Case):
                 ("all commands, and one", "[default.global.parameters]\nparameter_overrides = 'A=1 B=1'\n"
                  "[default.deploy.parameters]\nparameter_overrides = 'B=2'\n", {"A": "1", "B": "2"})):
             self.check(f"samconfig.toml: {name}", given.of_samconfig(text, "it"), wanted)
-        for text, wanted in (
+        for text, told in (
                 ("[default\n", "--parameters it: this is not TOML: line 1: the name of a table must end with ]"),
                 ("a = 1\na = 2\n", "line 2: 'a' is there twice"),
                 ("default.deploy.parameters.parameter_overrides = 5\n",
@@ -110,7 +110,7 @@ class TemplateValues(Case):
                 ("a = {b = [1, {c = \"x\n", "line 1: a string has no end")):
             with self.assertRaises(Fault) as caught:
                 given.of_samconfig(text, "it")
-            self.check(f"samconfig.toml: {wanted}", wanted in str(caught.exception), shown=str(caught.exception))
+            self.check(f"samconfig.toml: {told}", told in str(caught.exception), shown=str(caught.exception))
 
     def test_own_values_are_merged_over_a_template(self):
         """lambda_local.json is merged over a template, by the rules of UP.json."""

@@ -71,9 +71,9 @@ class Templates(Case):
                                    "python3", "ask.py"], cwd=folder, capture_output=True, text=True, timeout=120)
             self.check("a template is served as it is", (done.returncode, done.stdout),
                        (0, "prod0 prod1 prod2 prod3 prod4 prod5\n"), shown=done.stderr)
-            for words in ("[up] found template.json", "[up] serves template.json: 1 function",
-                          "GET http://127.0.0.1:"):
-                self.check(f"it says {words}", words in done.stderr, shown=done.stderr)
+            for line in ("[up] found template.json", "[up] serves template.json: 1 function",
+                         "GET http://127.0.0.1:"):
+                self.check(f"it says {line}", line in done.stderr, shown=done.stderr)
             for words, fault in ((["--parameter", "Stag=x"], "--parameter Stag: template.json has no such parameter, "
                                                              "did you mean Stage?"),
                                  (["--stage", "x"], "--stage: template.json is not a serverless.yml"),

@@ -7,6 +7,7 @@ import tempfile
 import threading
 import unittest.mock
 import xml.etree.ElementTree as ElementTree
+from typing import Any, List
 
 from lambda_local.service import Service, ask
 from lambda_local.timeline import command
@@ -321,9 +322,11 @@ class TimelineHistory(TimelineCase):
         begin, wrong, counted = moments[0], [], []
 
         def shown(words, quick):
-            written, said, closing = [], [], []
+            written: List[str] = []
+            said: List[str] = []
+            closing: List[Any] = []
             with unittest.mock.patch.object(Rest, "take_all", lambda *_: counted.append(1)) if quick is None else (
-                    unittest.mock.patch.object(Window, "is_over", quick and Window.is_over)):
+                    unittest.mock.patch.object(Window, "is_over", quick and Window.is_over)):  # type: ignore[arg-type]
                 command.run(command.arguments([*words, "--program", PROGRAM, path]), written.append, closing,
                             said.append)
             for close in closing:

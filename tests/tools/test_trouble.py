@@ -7,6 +7,7 @@ import subprocess
 import sys
 import threading
 import time
+from typing import Any
 from unittest import mock
 
 from lambda_local import endpoint
@@ -42,6 +43,8 @@ ODD = ("f: the service answers something else than lambda_local does: name the a
 
 class Answers(http.server.BaseHTTPRequestHandler):
     """Answers what its server says."""
+
+    server: Any
 
     def do_GET(self):
         self.rfile.read(int(self.headers.get("Content-Length") or 0))
@@ -97,8 +100,8 @@ class Trouble(Case):
         self.check("and new ones", rests(up, 4))
         second = up.invoke()[0]
         self.check("are other processes", isinstance(second, int) and second != first)
-        child = subprocess.Popen([*TROUBLE, "f", "throttle", "--endpoint", up.endpoint], stderr=subprocess.PIPE,
-                                 text=True, env=CLEAN)
+        child: Any = subprocess.Popen([*TROUBLE, "f", "throttle", "--endpoint", up.endpoint], stderr=subprocess.PIPE,
+                                      text=True, env=CLEAN)
         self.check("a throttle is said", child.stderr.readline(), "trouble: f is throttled until Ctrl-C\n")
         status, body = posted(up.endpoint, INVOKE.format("f"))
         self.check("its callers get 429", (status, json.loads(body)["Reason"]),
@@ -144,7 +147,7 @@ class Trouble(Case):
 
     def test_a_server_that_answers_otherwise_is_told_in_a_line(self):
         """A server that is none of lambda_local, or lies: one line."""
-        server = http.server.ThreadingHTTPServer(("127.0.0.1", 0), Answers)
+        server: Any = http.server.ThreadingHTTPServer(("127.0.0.1", 0), Answers)
         server.cut = 0
         thread = threading.Thread(target=server.serve_forever)
         thread.start()

@@ -5,6 +5,7 @@ import io
 import json
 import threading
 import time
+from typing import Any, List
 
 from lambda_local.history.words import Word
 from lambda_local.in_process import FunctionError, LambdaLocal
@@ -21,9 +22,10 @@ def fault_of(call):
     try:
         return "nothing", call()
     except FunctionError as fault:
-        return fault.report["errorType"], fault.report["errorMessage"]
-    except (ValueError, RuntimeError) as fault:
-        return type(fault).__name__, str(fault)
+        report: Any = fault.report
+        return report["errorType"], report["errorMessage"]
+    except (ValueError, RuntimeError) as why:
+        return type(why).__name__, str(why)
 
 
 class Clock(Case):
@@ -65,7 +67,9 @@ class Clock(Case):
             while not over:
                 time.sleep(0.01)
             return event
-        entered, over, got = [], [], []
+        entered: List[Any] = []
+        over: List[Any] = []
+        got: List[Any] = []
         with LambdaLocal({"waits": {"timeout": 1}}, waits=waits) as service, service.clock.paused():
             thread = threading.Thread(target=lambda: got.append(fault_of(lambda: service.invoke("waits", 1))))
             thread.start()
@@ -132,7 +136,7 @@ class Troubles(Case):
             self.check("nor has one that had none", service._reserved("g"), None)
 
     def test_a_timeout_is_reported_at_once_and_the_handler_not_called(self):
-        seen = []
+        seen: List[Any] = []
         with LambdaLocal({"f": {"timeout": 900}}, f=seen.append) as service:
             begun = time.monotonic()
             report = service.times_out("f", {"order": 7})
@@ -147,7 +151,7 @@ class Troubles(Case):
             self.check("its handler was not called", seen, ["after it"])
 
     def test_a_crash_is_reported_and_the_environment_starts_anew(self):
-        seen = []
+        seen: List[Any] = []
         with LambdaLocal(f=seen.append) as service:
             self.check("its caller gets Lambda's report", service.crashes("f", 1), {
                 "errorType": "Runtime.ExitError", "errorMessage": "Runtime exited with error: exit status 1"})
@@ -187,6 +191,7 @@ class Troubles(Case):
         self.check("an Init that is slow at once", seen, 5 * ["Init.Timeout"])
 
     def test_faults_are_told_and_leave_nothing(self):
+        one: Any = "1"
         with LambdaLocal(f=lambda event: event) as service:
             for call, wanted in (
                     (lambda: service.throttled("g").__enter__(), "there is no function 'g': there are f"),
@@ -194,7 +199,7 @@ class Troubles(Case):
                     (lambda: service.cold("g"), "there is no function 'g'"),
                     (lambda: service.slow_init("g", 1), "there is no function 'g'"),
                     (lambda: service.slow_init("f", 0), "slow_init: 0: give a number of seconds, up to 900"),
-                    (lambda: service.slow_init("f", "1"), "slow_init: '1': give"),
+                    (lambda: service.slow_init("f", one), "slow_init: '1': give"),
                     (lambda: service.trouble("f", "fire").__enter__(),
                      "trouble: 'fire' is none: give throttle, timeout or crash")):
                 kind, text = fault_of(call)

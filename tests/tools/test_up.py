@@ -26,6 +26,8 @@ def extension_that(seconds):
 class OneRuntime(Case):
     """The tests share one `up`, and each leaves a runtime that serves."""
 
+    up: Up
+
     @classmethod
     def setUpClass(cls):
         cls.up = Up()

@@ -8,6 +8,7 @@ import tempfile
 import urllib.error
 import urllib.request
 import zipfile
+from typing import Any
 
 from lambda_local.configuration import Members
 from lambda_local.front.aliases import Aliases
@@ -119,7 +120,8 @@ class UpDefaults(Case):
         self.check("GetFunction of an alias", got(f"{up.endpoint}/2015-03-31/functions/f:live")[
             "Configuration"]["FunctionName"], "f")
         up.end()
-        self.check("without aliases nothing is looked at", Aliases({}).without("anything"), "anything")
+        anything: Any = "anything"
+        self.check("without aliases nothing is looked at", Aliases({}).without(anything), anything)
 
     def test_two_APIs_with_the_same_route_have_ports_of_their_own(self):
         """Two APIs with the same route, each at its own port, whose addresses the command and functions have."""

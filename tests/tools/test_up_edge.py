@@ -1,11 +1,12 @@
 """Checks that lambda_local up leaves nothing behind when one of its processes is killed, and goes on without free
 ports, memory or descriptors. The program is LAMBDA_LOCAL_PROGRAM, else ./lambda_local."""
+import asyncio
 import http.client
 import json
 import os
 import resource
 import signal
-import socket
+import threading
 import time
 import urllib.request
 from typing import List, Union
@@ -73,6 +74,28 @@ def end_by(up, pid):
     until(lambda: up.process.poll() is not None, 30)
     until(lambda: not any(map(up.is_here, filter(str.isdigit, os.listdir("/proc")))), 10)
     return up.end(None)
+
+
+class Watching:
+    """A watch, in a loop of its own in a thread."""
+
+    def __init__(self, service, log):
+        self.loop = asyncio.new_event_loop()
+        self.thread = threading.Thread(target=self.loop.run_forever, daemon=True)
+        self.thread.start()
+        self.watch = Watch(service, log, self.loop)
+
+    def begin(self):
+        self.task = asyncio.run_coroutine_threadsafe(self.watch.follow(), self.loop)
+
+    def is_over(self):
+        return self.task.done()
+
+    def end(self):
+        self.task.result(60)
+        self.loop.call_soon_threadsafe(self.loop.stop)
+        self.thread.join(60)
+        self.loop.close()
 
 
 class UpEdge(Case):
@@ -192,7 +215,8 @@ class UpEdge(Case):
         up = Up("--drain", "0", functions=[{"name": "f", "command": ["./slow"], "timeout": 900}],
                 files={"slow": "#!/bin/sh\nulimit -v unlimited; exec " + " ".join(RUNTIME) + "\n"},
                 whole={"asynchronous": True}, app="import time\ndef run(event):\n    time.sleep(600)\n")
-        up.until("AWS_ENDPOINT_URL_LAMBDA")
+        # (before, its threads are started, which need address space too)
+        self.check("it is ready", up.until("[up] ready"))
         resource.prlimit(up.process.pid, resource.RLIMIT_AS, (address_space(up.process.pid) + (24 << 20), -1))
         payload = json.dumps("x" * 1_000_000).encode()
         for _ in range(60):
@@ -203,8 +227,7 @@ class UpEdge(Case):
             except (OSError, http.client.HTTPException):
                 pass
         self.check("nine tenths of the allowed memory are told",
-                   up.until("MB are used of its address space (ulimit -v)", 20),
-                   True)
+                   up.until("MB are used of its address space (ulimit -v)"), shown=up.lines)
         begun = time.monotonic()
         status, left = up.end()
         self.check("TERM ends it, and nothing is left", (status != "hangs", time.monotonic() - begun < 35, left),
@@ -229,13 +252,26 @@ class UpEdge(Case):
         self.check("its threads go on", up.has("cannot go on"), False)
         self.check("and it ends as always", up.end(), (0, []))
 
+    def test_there_are_three_threads_however_many_environments_there_are(self):
+        """Its threads are the main one, the loop's and the log's, however many environments there are."""
+        for count in (1, 32):
+            up = Up(functions=[{"name": "f", "runtime": "python", "handler": "app.run", "environments": count}])
+            self.check("it is ready", up.until("[up] ready"))
+            tasks = f"/proc/{up.process.pid}/task"
+            # (one looks for old clients on PATH, and ends)
+            self.check(f"threads with {count}", until(lambda: len(os.listdir(tasks)) == 3, 20),
+                       shown=len(os.listdir(tasks)))
+            self.check("it serves", type(up.invoke()[0]), int)
+            self.check("nothing is left of it", up.end(), (0, []))
+
     def test_without_descriptors_the_history_is_read_once_there_are_some(self):
-        """The thread that reads the history needs a descriptor if its connection has ended."""
+        """What reads the history needs a descriptor if its connection has ended."""
         service = Service({"account": "123456789012", "region": "us-east-1",
                            "functions": [{"name": "f", "ports": [0]}]})
         log, stream = pipe_log()
-        watch = Watch(service, log)
-        watch.start()
+        watching = Watching(service, log)
+        watch = watching.watch
+        watching.begin()
 
         def reserve(count):
             ask(service.port, "PUT", "/2017-10-31/functions/f/concurrency",
@@ -246,18 +282,19 @@ class UpEdge(Case):
         limits = resource.getrlimit(resource.RLIMIT_NOFILE)
         resource.setrlimit(resource.RLIMIT_NOFILE, (3, limits[1]))
         try:
-            for connection in list(watch.running._sockets):
-                connection.shutdown(socket.SHUT_RDWR)
+            trace = watch.following._trace
+            assert trace and trace.wire
+            watching.loop.call_soon_threadsafe(trace.wire.abort)
             self.check("without a descriptor it is lost", until(lambda: "descriptors" in watch.warnings, 60))
             time.sleep(1)
         finally:
             resource.setrlimit(resource.RLIMIT_NOFILE, limits)
         reserve(1)
-        self.check("with one it takes what has come", until(lambda: watch.running.next == 2, 60))
-        self.check("it goes on", watch.is_alive())
+        self.check("with one it takes what has come", until(lambda: watch.following.next == 2, 60))
+        self.check("it goes on", not watching.is_over())
         service.process.kill()
-        watch.join(60)
-        self.check("and ends with the service", not watch.is_alive())
+        self.check("and ends with the service", until(watching.is_over, 60))
+        watching.end()
         log.close()
         log.writer.join(10)
         log.stream.close()
@@ -271,13 +308,14 @@ class UpEdge(Case):
         service = Service({"account": "123456789012", "region": "us-east-1",
                            "functions": [{"name": "f", "ports": [0]}]})
         log, stream = pipe_log()
-        watch, seen = Watch(service, log), []
+        watching, seen = Watching(service, log), []
+        watch = watching.watch
 
         def follow(event):
             time.sleep(0.3)
             seen.append(type(event).__name__)
         watch.followers.append(follow)
-        watch.start()
+        watching.begin()
         ask(service.port, "PUT", "/2017-10-31/functions/f/concurrency", '{"ReservedConcurrentExecutions":0}')
         for count in (1, 2):
             self.check("it is throttled", ask(service.port, "POST", "/2015-03-31/functions/f/invocations", "{}")[0],
@@ -285,7 +323,7 @@ class UpEdge(Case):
             watch.refresh()
             self.check("its event was given", seen, ["Throttled"] * count)
         service.stop()
-        watch.join(60)
+        watching.end()
         log.close()
         log.writer.join(10)
         log.stream.close()
@@ -298,11 +336,12 @@ class UpEdge(Case):
                            "functions": [{"name": "f", "ports": [0]}]})
         other = Fake(*[HEAD + chunks(b"{}\n") + LAST] * 2, *[b""] * 7, HEAD + chunks(line(0)) + LAST)
         log, stream = pipe_log()
-        watch = Watch(service, log)
-        watch.running.port = other.port
-        watch.start()
-        watch.join(60)
-        self.check("it goes on until it has its entry", (watch.is_alive(), watch.running.next), (False, 1))
+        watching = Watching(service, log)
+        following = watching.watch.following
+        following.port = other.port
+        watching.begin()
+        self.check("it goes on until it has its entry", (until(watching.is_over, 60), following.next), (True, 1))
+        watching.end()
         log.close()
         log.writer.join(10)
         log.stream.close()

@@ -1,6 +1,7 @@
 """Checks that nothing that a function, a caller or a file gives silences lambda_local up, or speaks for it: reports of
 any bytes, a log that no one reads, lines without an end, control characters. The program is LAMBDA_LOCAL_PROGRAM, else
 ./lambda_local."""
+import asyncio
 import json
 import os
 import re
@@ -15,7 +16,7 @@ from typing import Dict, List, Union
 
 from lambda_local.json_reader import NotJson, is_deeper, read_json
 from lambda_local.outgoing import header_value, printable, printable_output
-from lambda_local.up.output import LONGEST_LINE, read_lines
+from lambda_local.up.output import LONGEST_LINE, Pace, Reader, Splitter, read_lines
 from lambda_local.reports import Report, kind_in
 from tests.library.cases import Case
 from tests.library.pipe_log import pipe_log
@@ -160,6 +161,21 @@ class UpOutput(Case):
         process.stderr.close()
         folder.cleanup()
 
+    def test_what_one_prints_without_end_holds_up_no_other(self):
+        app = ("import subprocess\ndef noisy(event, context):\n    subprocess.Popen(['yes'])\n"
+               "def run(event, context):\n    return 1\n")
+        up = Up(app=app, functions=[{"name": name, "runtime": "python", "handler": f"app.{handler}"}
+                                    for name, handler in (("f", "run"), ("n", "noisy"))])
+        self.check("it is ready", up.until("[up] ready"))
+        quiet = sorted(up.invoke()[1] for _ in range(20))[10]
+        up.invoke("n")
+        self.check("it prints", until(lambda: up.count(r"\[n/1\] y$") > 1000, 60))
+        beside = [up.invoke() for _ in range(20)]
+        self.check("others are served", [answer for answer, _ in beside], [1] * 20)
+        loud = sorted(took for _, took in beside)[10]
+        self.check("and do not wait for it", loud < 12 * quiet + 0.05, shown=(quiet, loud))
+        self.check("nothing is left of it", up.end(), (0, []))
+
     def test_each_line_is_written_or_counted(self):
         log, stream = pipe_log()
         begun = time.monotonic()
@@ -198,8 +214,20 @@ class UpOutput(Case):
                     time.sleep(0.01)
         reader = threading.Thread(target=read)
         reader.start()
-        for number in range(60_000):
-            log("f/1", f"line {number} " + "x" * 90, kind="output")
+        reading, writing = os.pipe()
+
+        def write():
+            with open(writing, "w") as pipe:
+                for number in range(60_000):
+                    pipe.write(f"line {number} {'x' * 90}\n")
+
+        async def take():
+            splitter = Splitter(lambda text: log("f/1", text, kind="output"))
+            await Reader(reading, splitter, log.is_short, Pace()).over
+        process = threading.Thread(target=write)
+        process.start()
+        asyncio.run(take())
+        process.join(20)
         log.close()
         log.writer.join(10)
         log.stream.close()

@@ -11,11 +11,13 @@ import atexit
 import contextlib
 import errno
 import os
+import queue
 import socket
 import subprocess
 import sys
 import threading
-from typing import Callable, Dict, List, Mapping, Optional, Tuple, Union
+from collections import deque
+from typing import Callable, Deque, Dict, List, Mapping, Optional, Tuple, Union
 
 from . import guard_process
 from .guard_process import frame, receive
@@ -33,6 +35,18 @@ class Mark(str):
 
 
 Target = Union[int, str]
+Answer = Dict[str, object]
+Take = Callable[[Optional[Answer]], None]
+
+
+class NoAnswer(TimeoutError):
+    def __init__(self) -> None:
+        super().__init__(errno.ETIMEDOUT, "the guard does not answer")
+
+
+def request(words: List[str], directory: str, variables: Mapping[str, str], forks: bool) -> Dict[str, object]:
+    """What the guard is asked for a start."""
+    return {"start": words, "cwd": directory, "env": dict(variables), "forks": forks}
 
 
 class Process:
@@ -42,6 +56,7 @@ class Process:
         self.guard, self.pid = guard, pid
         self.has_ended = threading.Event()
         self.returncode: Optional[int] = None  # below zero: the signal that ended it
+        self.when_ended: Callable[[], None] = lambda: None  # called once its end is known, by who reads of that
 
     def status(self) -> int:
         """Once it has ended; -9 if the guard has gone, which knows it."""
@@ -52,75 +67,113 @@ class Process:
         """Kills it, its group, and all below it."""
         self.guard.kill(self)
 
+    def note_end(self) -> None:
+        self.has_ended.set()
+        self.when_ended()
+
 
 class Channel:
     """Requests to the guard and their answers, in their order; and what it says of processes meanwhile."""
 
     def __init__(self, ours: socket.socket, when_lost: "Callable[[Channel], None]"):
         self.socket, self.when_lost = ours, when_lost
-        self.asking, self.changed = threading.Lock(), threading.Condition()
-        self.answer: Optional[Dict[str, object]] = None
+        self.sending, self.lock = threading.Lock(), threading.Lock()
+        self.awaited: Deque[Take] = deque()  # who gets the next answers
         self.is_lost = False
         self.started: Dict[int, Process] = {}
         self.early: Dict[int, int] = {}  # statuses of processes that ended before their start was answered
 
     def follow(self) -> None:
+        """By a thread."""
         threading.Thread(target=self.read, name="guard", daemon=True).start()
 
-    def ask(self, message: object, handles: Tuple[int, ...] = ()) -> Dict[str, object]:
+    def ask(self, message: object, handles: Tuple[int, ...] = ()) -> Answer:
         """The answer to a request. OSError if the guard has gone."""
-        with self.asking:
-            with self.changed:
-                self.answer = None
+        answers: "queue.SimpleQueue[Optional[Answer]]" = queue.SimpleQueue()
+        self.send(message, handles, answers.put)
+        try:
+            return self.given(answers.get(timeout=PATIENCE))
+        except queue.Empty:
+            raise NoAnswer() from None
+
+    @staticmethod
+    def given(answer: Optional[Answer]) -> Answer:
+        """OSError if there is none."""
+        if answer is None:
+            raise ConnectionResetError(errno.ECONNRESET, "the guard has gone")
+        return answer
+
+    def send(self, message: object, handles: Tuple[int, ...], take: Take) -> None:
+        """`take` is given the answer, or nothing once the guard has gone. OSError if it cannot be sent."""
+        with self.sending:
+            with self.lock:
+                if self.is_lost:
+                    return take(None)
+                self.awaited.append(take)
             data = frame(message)
-            sent = socket.send_fds(self.socket, [data], handles) if handles else 0
-            self.socket.sendall(data[sent:])
-            with self.changed:
-                if not self.changed.wait_for(lambda: self.answer is not None or self.is_lost, PATIENCE):
-                    raise TimeoutError(errno.ETIMEDOUT, "the guard does not answer")
-                if self.answer is None:
-                    raise ConnectionResetError(errno.ECONNRESET, "the guard has gone")
-                return self.answer
+            try:
+                sent = socket.send_fds(self.socket, [data], handles) if handles else 0
+                self.socket.sendall(data[sent:])
+            except OSError:
+                with self.lock, contextlib.suppress(ValueError):
+                    self.awaited.remove(take)
+                raise
 
     def read(self) -> None:
-        try:
-            while (message := receive(self.socket)[0]) is not None:
-                with self.changed:
-                    self.take(message)
-                    self.changed.notify_all()
-        except (OSError, ValueError):  # (it has gone, or says what it never says)
+        while self.come():
             pass
-        with self.changed:
+
+    def come(self) -> bool:
+        """Takes the next message, which is waited for; whether there can be another one."""
+        try:
+            message = receive(self.socket)[0]
+        except (OSError, ValueError):  # (it has gone, or says what it never says)
+            message = None
+        if message is None:
+            self.lose()
+            return False
+        self.take(message)
+        return True
+
+    def lose(self) -> None:
+        with self.lock:
             self.is_lost = True
-            self.changed.notify_all()
-            for started in self.started.values():
-                started.has_ended.set()
+            awaited, started = list(self.awaited), list(self.started.values())
+            self.awaited.clear()
+        for take in awaited:
+            take(None)
+        for process in started:
+            process.note_end()
         self.when_lost(self)
 
-    def take(self, message: Dict[str, object]) -> None:
+    def take(self, message: Answer) -> None:
         pid, status = message.get("ended"), message.get("status")
-        if not isinstance(pid, int) or not isinstance(status, int):
-            self.answer = message
-        elif pid in self.started:
-            self.note(self.started[pid], status)
-        else:
-            self.early[pid] = status
+        take: Optional[Take] = None
+        with self.lock:
+            if not isinstance(pid, int) or not isinstance(status, int):
+                take = self.awaited.popleft() if self.awaited else None
+            elif pid in self.started:
+                self.note(self.started[pid], status)
+            else:
+                self.early[pid] = status
+        if take:
+            take(message)
 
     @staticmethod
     def note(started: Process, status: int) -> None:
         started.returncode = status
-        started.has_ended.set()
+        started.note_end()
 
     def know(self, started: Process) -> None:
-        with self.changed:
+        with self.lock:
             self.started[started.pid] = started
             if started.pid in self.early:
                 self.note(started, self.early.pop(started.pid))
             if self.is_lost:
-                started.has_ended.set()
+                started.note_end()
 
     def forget(self, pid: int) -> None:
-        with self.changed:
+        with self.lock:
             self.started.pop(pid, None)
             self.early.pop(pid, None)
 
@@ -132,6 +185,7 @@ class Guard:
         self.pipe = -1
         self.channel: Optional[Channel] = None
         self.when_lost: Callable[[], None] = lambda: None
+        self.follow: Callable[[Channel], None] = Channel.follow  # has a channel's messages taken, as they come
         os.register_at_fork(after_in_child=self._forget)
 
     def hold(self, target: Target) -> None:
@@ -143,15 +197,18 @@ class Guard:
     def announcing(self, words: List[str]) -> Tuple[List[str], int]:
         """Returns these words after those of a shell that holds its own group before it becomes them, and the pipe that
         must be its standard input: so the guard knows the group from the moment that it exists."""
-        self._begin()
+        self.begin()
         return ["/bin/sh", "-c", '(echo "+ group $$" >&0) 2>/dev/null; exec "$@" </dev/null', "sh", *words], self.pipe
 
     def start(self, words: List[str], directory: str, variables: Mapping[str, str], output: int,
               forks: bool = False) -> Process:
         """Starts a process below the guard, whose standard output and error are this descriptor. One that `forks`, a
         Python program, may be forked by a process that has its imports (`forker`). OSError if it cannot be."""
-        channel = self._begin()
-        answer = channel.ask({"start": words, "cwd": directory, "env": dict(variables), "forks": forks}, (output,))
+        channel = self.begin()
+        return self.known(channel, words, channel.ask(request(words, directory, variables, forks), (output,)))
+
+    def known(self, channel: Channel, words: List[str], answer: Answer) -> Process:
+        """The process that an answer to a start has."""
         pid, number = answer.get("pid"), answer.get("errno")
         if not isinstance(pid, int):
             number = number if isinstance(number, int) else 0
@@ -191,13 +248,14 @@ class Guard:
             self.when_lost()
 
     def _say(self, sign: str, target: Target) -> None:
-        self._begin()
+        self.begin()
         kind = ("marked" if isinstance(target, Mark) else "folder" if isinstance(target, str)
                 else "process" if isinstance(target, Single) else "group")
         with contextlib.suppress(OSError):
             os.write(self.pipe, os.fsencode(f"{sign} {kind} {target}\n"))
 
-    def _begin(self) -> Channel:
+    def begin(self) -> Channel:
+        """The guard's channel, which is started if it is not there yet."""
         with self.lock:
             if self.channel:
                 return self.channel
@@ -214,7 +272,7 @@ class Guard:
                 os.close(ours)
                 its.close()
             self.channel = Channel(mine, self._on_lost)
-            self.channel.follow()
+            self.follow(self.channel)
             atexit.register(self.end)
             return self.channel
 

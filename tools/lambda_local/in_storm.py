@@ -52,10 +52,14 @@ class InMaker:
         end = time.monotonic() + ENDING_SECONDS
         while kind in (COLD, INIT):
             phases = self.service.phases()
-            idle = [number for number in self.service.numbers_of(function) if phases[number]["phase"] == IDLE]
-            if not idle:
+            found = {number: phases[number]["phase"] for number in self.service.numbers_of(function)}
+            idle = [number for number, phase in found.items() if phase == IDLE]
+            # (what works without a caller but this one's has answered, and is idle in a moment)
+            if not idle and not (BUSY in found.values() and self.sent() <= 1):
                 break
             if time.monotonic() > end:
+                if not idle:
+                    break
                 self.withdraw(order)
                 raise NotMade("its environments do not end")
             for number in idle:

@@ -14,7 +14,7 @@ from .configuration import Members
 from .history import generations
 from .history.entries import Answer, Entry
 from .history.generations import Extension as Extension, Generation as Generation, Generations, Turn
-from .history.words import ENDINGS, INVOKE, Word
+from .history.words import ENDINGS, FAILURES, INIT_FAILURE, INVOKE, Word
 
 
 class Invocation:
@@ -91,6 +91,7 @@ class Closes(NamedTuple):
     was_ready: bool
 
 
+Reporter = Union[int, str]  # an environment's runtime, by the environment's number, or an extension, by its identifier
 Event = Union[Begun, Ended, Throttled, Closes]
 
 
@@ -118,6 +119,13 @@ class Life:
             elif answer.word is Word.DELIVER:
                 yield from self._delivered(entry, answer)
         yield from self._closed(entry, turns, failed)
+
+    def reporter(self, entry: Entry) -> Optional[Reporter]:
+        """Who reports a failure by an entry that is taken next; none if none is reported."""
+        if entry.call.kind == INIT_FAILURE:
+            return entry.call.environment
+        extension = self._extension_of(entry) if entry.call.kind in FAILURES else None
+        return extension.identifier if extension else None
 
     def _invoked(self, entry: Entry) -> Iterator[Event]:
         function, own = str(entry.call.function), entry.own

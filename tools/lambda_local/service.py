@@ -140,7 +140,9 @@ class Service:
 
     def __init__(self, configuration: Members, program: Optional[str] = None,
                  say: Callable[[str], None] = lambda line: None, path: Optional[str] = None,
-                 variables: Mapping[str, str] = {}) -> None:
+                 variables: Mapping[str, str] = {}, follow: "Optional[Callable[[Service], None]]" = None) -> None:
+        """Once it listens, `follow` has what it says taken, by `come` and `close_said`; otherwise a thread does."""
+        self.follow = follow
         self.program, self.say, self.variables = program_path(program), say, variables
         self.lines: List[str] = []
         self.given, self.path = configuration, path
@@ -213,20 +215,23 @@ class Service:
                                             env={**os.environ, **self.variables})
             assert self.process.stdout and self.process.stderr
             self.output, self.said = self.process.stdout, self.process.stderr
-            self.listening = threading.Event()
-            self.reader = threading.Thread(target=self._read, daemon=True)
-            self.reader.start()
+            self.listening, self.has_said_all, self.rest = threading.Event(), threading.Event(), b""
+            reader = threading.Thread(target=self._read, daemon=True)
+            reader.start()
         begun = time.monotonic()
         while not self.listening.wait(5):
             self.say(f"waits for the service since {time.monotonic() - begun:.0f} s")
         if self.listening_line:
+            if self.follow:
+                reader.join()
+                self.follow(self)
             return True
         with contextlib.suppress(subprocess.TimeoutExpired):
             wait_for(self.process, 5)
         self._kill_group()  # (if it has closed its standard error, and not ended)
         GUARD.release(self.process.pid)
         self.output.close()
-        self.reader.join(5)
+        self.has_said_all.wait(5)
         return False
 
     listening_line = False
@@ -234,11 +239,27 @@ class Service:
     def _read(self) -> None:
         self.listening_line = False
         try:
-            with self.said as stream:
-                for line in stream:
-                    self._take(line.rstrip("\n"))
+            while self.come():
+                if self.listening_line and self.follow:
+                    return
+            self.close_said()
         finally:
             self.listening.set()
+
+    def come(self) -> bool:
+        """Takes what it says next on standard error, which is waited for; whether there can be more."""
+        data = os.read(self.said.fileno(), PIECE)
+        *lines, self.rest = (self.rest + data).split(b"\n")
+        if not data and self.rest:
+            lines, self.rest = [self.rest], b""
+        for line in lines:
+            self._take(line.decode(errors="replace"))
+        return bool(data)
+
+    def close_said(self) -> None:
+        """Once there is no more."""
+        self.said.close()
+        self.has_said_all.set()
 
     def _take(self, line: str) -> None:
         self.lines.append(line)
@@ -307,7 +328,7 @@ class Service:
             self._kill_group()
             GUARD.release(self.process.pid)
             self.output.close()
-            self.reader.join(5)
+            self.has_said_all.wait(5)
         shutil.rmtree(self.folder, ignore_errors=True)
         GUARD.release(self.folder)
 

@@ -8,6 +8,7 @@ import subprocess
 import tempfile
 import threading
 import time
+from typing import Any, List
 
 from lambda_local.service import ask
 from tests.library.clients.kit import INVOKE, PORT, PROGRAM, Service, later, raw, until
@@ -110,7 +111,8 @@ def places_of_those_that_linger():
     most = resource.getrlimit(resource.RLIMIT_NOFILE)[1]
     resource.setrlimit(resource.RLIMIT_NOFILE, (most, most))
     with Service([("f", 1, {})]) as service:
-        lingering, is_over = [], threading.Event()
+        lingering: List[Any] = []
+        is_over = threading.Event()
 
         def trickle():  # (each would be closed after two seconds of silence)
             while not is_over.is_set():
@@ -137,11 +139,15 @@ def too_few_threads():
     """A service that could serve no one for want of threads does not start, and says why."""
     other = 54_321  # a user whose processes are counted (the superuser's are not), and who has none
 
+    def as_other(threads):
+        if os.getuid() == 0:
+            os.setresuid(other, other, other)
+        resource.setrlimit(resource.RLIMIT_NPROC, (threads, threads))
+
     def started(threads, path, program):
         process = subprocess.Popen(
             [program, "serve", path], stderr=subprocess.PIPE, stdout=subprocess.PIPE, text=True,
-            preexec_fn=lambda: (os.getuid() or os.setresuid(other, other, other),
-                                resource.setrlimit(resource.RLIMIT_NPROC, (threads, threads))))
+            preexec_fn=lambda: as_other(threads))
         try:
             until(lambda: process.poll() is not None or is_stopped())
             _, told = process.communicate(timeout=20)

@@ -1,6 +1,7 @@
 """What a refused request costs: memory, and the CPU of the calls that come after it."""
 import os
 import socket
+from typing import Any
 
 from tests.library.clients.kit import INVOKE, PORT, Service, later
 from tests.library.counted import check
@@ -78,6 +79,7 @@ def refused(port, line, *fields):
 
 def later_calls():
     """A request that is refused changes nothing: each call after it takes what it took before."""
+    fields: Any
     for name, port, line, fields, status in (
             ("a stop that a page sends", 0, "POST /_local/stop", ["Origin: http://example.com"], "403"),
             ("a stop by another method", 0, "GET /_local/stop", [], "405"),

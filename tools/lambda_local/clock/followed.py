@@ -19,7 +19,7 @@ import http.client
 import itertools
 import threading
 import time
-from typing import Callable, Iterator, List, Optional, Tuple
+from typing import Awaitable, Callable, Iterator, List, Optional, Tuple
 
 from ..outgoing import renew
 from ..service import ask
@@ -31,12 +31,13 @@ STEP = 0.05  # seconds between two looks of one who waits for something else too
 ASK_SECONDS = 5.0  # for an answer
 SLACK = 20  # milliseconds by which what is shared may be off
 Tell = Callable[[str], None]
+Call = Callable[[], Optional[Awaitable[None]]]
 
 
 class Timer:
     """What is called once a moment is reached; `moment` is in milliseconds."""
 
-    def __init__(self, moment: int, number: int, call: Callable[[], None]) -> None:
+    def __init__(self, moment: int, number: int, call: Call) -> None:
         self.moment, self.number, self.call, self.is_cancelled = moment, number, call, False
 
     def __lt__(self, other: "Timer") -> bool:
@@ -78,7 +79,7 @@ class Clock:
         self._timers: List[Timer] = []
         self._numbers = itertools.count()
         self._calling: Optional[Timer] = None
-        self._thread: Optional[threading.Thread] = None
+        self._is_begun = False  # what calls the timers
         self._keeper: Optional[threading.Thread] = None  # that lets it go on
         self._is_closed, self._closing = False, threading.Event()
         self._shared: Optional[Shared] = None
@@ -110,7 +111,7 @@ class Clock:
                 if is_new:
                     self._count_from(moment)
                 if self._timers and (is_new or self._timers[0].moment <= moment):
-                    self._changed.notify_all()
+                    self._notify()
 
     def _count_from(self, moment: int) -> None:
         self._base, self._since = moment, time.monotonic()
@@ -128,7 +129,11 @@ class Clock:
             self._known = max(self._known, reading.now)
             self._is_running = reading.is_running
             self._count_from(max(self._known, reading.now))
-            self._changed.notify_all()
+            self._notify()
+
+    def _notify(self) -> None:
+        """Something has changed for those who wait; with the lock."""
+        self._changed.notify_all()
 
     def ask(self) -> bool:
         """Has the service say what it reads; whether it does. If not, as one that has ended, its clock is taken to
@@ -137,26 +142,36 @@ class Clock:
         try:
             if self._has_clock:
                 status, _, body = ask(self.port, *SHOW, timeout=ASK_SECONDS)
-                self._take(reading_of(status, body))
-                return True
-        except NotClock as fault:
-            self._has_clock = fault.status >= 500  # (one that has no memory just now may have one)
+                return self._answered(status, body)
         except (OSError, http.client.HTTPException):
             pass
+        return self._unanswered()
+
+    def _answered(self, status: int, body: bytes) -> bool:
+        try:
+            self._take(reading_of(status, body))
+            return True
+        except NotClock as fault:
+            self._has_clock = fault.status >= 500  # (one that has no memory just now may have one)
+            return self._unanswered()
+
+    def _unanswered(self) -> bool:
         with self._changed:
             self._take(Reading(self._now(), True))
         return False
 
     def reached(self, moment: int) -> bool:
         """Whether it has come to this moment: of that the service is asked."""
-        with self._changed:
-            if self._known >= moment:
-                return True
-            rested = time.monotonic() - self._asked
-            if self._setting or (self._now() < moment if self._is_running else rested < BETWEEN_ASKS):
-                return False
-        self.ask()
+        if self._may_be_reached(moment):
+            self.ask()
         return self._known >= moment
+
+    def _may_be_reached(self, moment: int) -> bool:
+        """Whether the service is to be asked for that."""
+        with self._changed:
+            rested = time.monotonic() - self._asked
+            return self._known < moment and not self._setting and (
+                self._now() >= moment if self._is_running else rested >= BETWEEN_ASKS)
 
     @contextlib.contextmanager
     def being_set(self) -> Iterator[None]:
@@ -169,7 +184,7 @@ class Clock:
         finally:
             with self._changed:
                 self._setting -= 1
-                self._changed.notify_all()
+                self._notify()
 
     def resume(self) -> None:
         """Lets it go on."""
@@ -201,20 +216,24 @@ class Clock:
 
     # ---- who waits ---------------------------------------------------------------------------------------------------
 
-    def at(self, moment: int, call: Callable[[], None]) -> Timer:
-        """Has this called once the moment is reached, by a thread of the clock's: what is due first is called first,
-        and what is due at the same moment in the order of these calls. It may not wait long."""
+    def at(self, moment: int, call: Call) -> Timer:
+        """Has this called once the moment is reached, by a thread of the clock's or in its loop: what is due first is
+        called first, and what is due at the same moment in the order of these calls. It may not wait long."""
         with self._changed:
             timer = Timer(moment, next(self._numbers), call)
             heapq.heappush(self._timers, timer)
-            if self._thread is None and not self._is_closed:
-                self._thread = threading.Thread(target=self._run, name="clock", daemon=True)
-                self._thread.start()
+            if not self._is_begun and not self._is_closed:
+                self._is_begun = True
+                self._begin()
             if self._timers[0] is timer:
-                self._changed.notify_all()
+                self._notify()
             return timer
 
-    def after(self, seconds: float, call: Callable[[], None]) -> Timer:
+    def _begin(self) -> None:
+        """Begins to call what is due."""
+        threading.Thread(target=self._run, name="clock", daemon=True).start()
+
+    def after(self, seconds: float, call: Call) -> Timer:
         return self.at(self.now() + round(1000 * seconds), call)
 
     def wait(self, event: threading.Event, seconds: float) -> bool:
@@ -241,17 +260,23 @@ class Clock:
         with self._changed:
             self._is_closed = True
             self._timers.clear()
-            self._changed.notify_all()
+            self._notify()
 
     def _run(self) -> None:
         while (timer := self._next()) is not None:
             try:
                 timer.call()
             except Exception as fault:
-                self.tell(f"what was due at {timer.moment} has failed: {type(fault).__name__}: {fault}")
-            with self._changed:
-                self._calling = None
-                self._changed.notify_all()
+                self._tell_failed(timer, fault)
+            self._called()
+
+    def _tell_failed(self, timer: Timer, fault: Exception) -> None:
+        self.tell(f"what was due at {timer.moment} has failed: {type(fault).__name__}: {fault}")
+
+    def _called(self) -> None:
+        with self._changed:
+            self._calling = None
+            self._notify()
 
     def _next(self) -> Optional[Timer]:
         """The next timer that is due; none once all ends."""

@@ -76,10 +76,10 @@ def without_old(batch: Batch, now: int, stream: Stream) -> Tuple[Tuple[Record, .
 
 def cut(records: List[Record], most: int) -> int:
     """How many of these are the next batch: no more than that many, and no more than an event has room for; 0 if the
-    first alone is too large."""
+    first alone is too large, or is to be given up."""
     size = 0
     for place, record in enumerate(records[:most]):
         size += record.size + 2
-        if size > MOST_BYTES:
+        if size > MOST_BYTES or record.fault:
             return place
     return min(len(records), most)

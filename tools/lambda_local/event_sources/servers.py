@@ -8,7 +8,9 @@ from datetime import datetime
 from typing import Any, Dict, Iterator, List, NamedTuple, Optional, Protocol, Tuple
 
 from .members import KINESIS, Stream
+from .unparsed import Bodies, Unparsed, of_dynamo_db, of_kinesis
 
+UNREADABLE = "UnreadableRecord"  # (AWS has none, and no word for it)
 MOST_SHARDS = 1000  # of a stream
 MOST_PAGES = 100  # of a list of shards
 SEQUENCE = re.compile(r"\d{1,129}")  # (Kinesis: 0, or up to 129 digits)
@@ -30,6 +32,14 @@ class SeenShard(NamedTuple):
     is_closed: bool
 
 
+class CannotParse(WrongAnswer):
+    """The client makes nothing of an answer, which says this as JSON."""
+
+    def __init__(self, why: str, read: "Read") -> None:
+        super().__init__(f"boto3 cannot parse what its server answers: {why}")
+        self.read = read
+
+
 class Seen(NamedTuple):
     """What a server says of a stream. No other stream has the identity, not one of the same name either."""
     identity: str
@@ -42,6 +52,7 @@ class Record(NamedTuple):
     arrived: float  # milliseconds, by the server
     event: Dict[str, Any]  # as the function gets it
     size: int  # of that as JSON
+    fault: str = ""  # why it is given up before its function is invoked with it
 
     @property
     def number(self) -> int:
@@ -66,6 +77,11 @@ class Server(Protocol):
         ...
 
     def read(self, iterator: str, limit: int) -> Read:
+        """Raises CannotParse if there is an answer of which the client makes nothing."""
+        ...
+
+    def lost(self, given: object) -> Optional[Record]:
+        """What is known of a record of which `record_of` makes none; None without a sequence number."""
         ...
 
     def record_of(self, given: object, shard: str) -> Optional[Record]:
@@ -104,6 +120,13 @@ def read_of(answer: object, says_how_far: bool) -> Read:
                 not records and says_how_far and behind == 0)
 
 
+def lost_at(sequence: object, moment: object) -> Optional[Record]:
+    """What is known of a record that is none, by its sequence number and its time."""
+    if not isinstance(sequence, str) or SEQUENCE.fullmatch(sequence) is None:
+        return None
+    return Record(sequence, 1000 * (seconds_of(moment) or 0.0), {}, 0, UNREADABLE)
+
+
 def seconds_of(moment: object) -> Optional[float]:
     """The time of a record since 1970, as a client has it."""
     if isinstance(moment, datetime):
@@ -132,6 +155,7 @@ class Kinesis:
         self.client, self.region, self.account = client, stream.region or region, account
         self.named = {"StreamARN" if stream.named.startswith("arn:") else "StreamName": stream.named}
         self.arn = ""
+        self.bodies = Bodies(client, "GetRecords")
 
     def look(self) -> Seen:
         found = self.client.describe_stream_summary(**self.named).get("StreamDescriptionSummary")
@@ -154,7 +178,16 @@ class Kinesis:
             **({} if sequence is None else {"StartingSequenceNumber": sequence})), "ShardIterator")
 
     def read(self, iterator: str, limit: int) -> Read:
-        return read_of(self.client.get_records(ShardIterator=iterator, Limit=limit), True)
+        try:
+            return read_of(self.bodies.asked(self.client.get_records, ShardIterator=iterator, Limit=limit), True)
+        except Unparsed as fault:
+            read = read_of(fault.answer, True)
+            raise CannotParse(str(fault), read._replace(records=list(map(of_kinesis, read.records)))) from fault
+
+    def lost(self, given: object) -> Optional[Record]:
+        if not isinstance(given, dict):
+            return None
+        return lost_at(given.get("SequenceNumber"), given.get("ApproximateArrivalTimestamp"))
 
     def record_of(self, given: object, shard: str) -> Optional[Record]:
         if not isinstance(given, dict):
@@ -195,6 +228,7 @@ class DynamoDb:
         self.client, self.region, self.table = client, stream.region or region, stream.name
         self.given = stream.named if "/stream/" in stream.named and stream.named.startswith("arn:") else None
         self.arn = ""
+        self.bodies = Bodies(client, "GetRecords")
 
     def look(self) -> Seen:
         self.arn = self.given or self._latest()
@@ -225,7 +259,18 @@ class DynamoDb:
             **({} if sequence is None else {"SequenceNumber": sequence})), "ShardIterator")
 
     def read(self, iterator: str, limit: int) -> Read:
-        return read_of(self.client.get_records(ShardIterator=iterator, Limit=limit), False)
+        try:
+            return read_of(self.bodies.asked(self.client.get_records, ShardIterator=iterator, Limit=limit), False)
+        except Unparsed as fault:
+            read = read_of(fault.answer, False)
+            records: List[object] = [of_dynamo_db(one, list(OF_RECORD)) for one in read.records]
+            raise CannotParse(str(fault), read._replace(records=records)) from fault
+
+    def lost(self, given: object) -> Optional[Record]:
+        change = given.get("dynamodb") if isinstance(given, dict) else None
+        if not isinstance(change, dict):
+            return None
+        return lost_at(change.get("SequenceNumber"), change.get("ApproximateCreationDateTime"))
 
     def record_of(self, given: object, shard: str) -> Optional[Record]:
         if not isinstance(given, dict) or not isinstance(change := given.get("dynamodb"), dict):

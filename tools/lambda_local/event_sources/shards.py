@@ -5,14 +5,15 @@ from typing import Callable, Deque, List, NamedTuple, Optional, Tuple
 
 from ..clock.followed import Clock
 from ..other_server import code_of
-from .batches import Batch, cut
+from .batches import TOO_LARGE, Batch, cut
 from .failures import Invoked
 from .filters import is_taken
 from .members import Stream
-from .servers import Record, SeenShard, Server
+from .servers import CannotParse, Record, SeenShard, Server
 
 EXPIRED, TRIMMED = "ExpiredIteratorException", "TrimmedDataAccessException"
 OLDEST, NEWEST, AFTER = "TRIM_HORIZON", "LATEST", "AFTER_SEQUENCE_NUMBER"
+READINGS = 3  # of an answer that the client cannot parse, before it is read as JSON
 Tell = Callable[[str, str], None]  # a text and its level
 
 
@@ -20,7 +21,7 @@ class Odd(NamedTuple):
     """What a reading has left out."""
     wrong: int = 0  # are no records
     repeated: int = 0  # have come before
-    large: Tuple[Record, ...] = ()  # have no room in an event
+    lost: Tuple[Record, ...] = ()  # the first that were collected, which are in no event, for the same reason
 
 
 class Task:
@@ -47,6 +48,7 @@ class Shard(Task):
         self.last: Optional[Invoked] = None  # invocation with the first of its batches
         self.is_read = False  # a closed shard, to its end
         self.empty = 0  # readings in a row without a record
+        self.unparsed = 0  # readings in a row that the client could not parse
         self.size = 0  # bytes of what it holds
 
     @property
@@ -91,15 +93,20 @@ class Shard(Task):
             odd, came = self._read(server, tell)
         if self.collected and self.window_end is None:
             self.window_end = clock.now() + 1000 * self.stream.window
-        too_large = self._batch(clock)
+        lost = self._batch(clock)
         self.empty = 0 if came else self.empty + 1
-        return odd._replace(large=too_large)
+        return odd._replace(lost=lost)
 
     def _read(self, server: Server, tell: Tell) -> Tuple[Odd, int]:
         iterator, self.iterator = self.iterator, None  # (after a fault a new one is asked for)
         assert iterator is not None
         try:
             read = server.read(iterator, min(server.most, self.stream.batch - len(self.collected)))
+        except CannotParse as fault:
+            self.unparsed += 1
+            if self.unparsed < READINGS:
+                raise
+            read = fault.read
         except Exception as fault:
             if code_of(fault) != EXPIRED:
                 raise
@@ -108,17 +115,17 @@ class Shard(Task):
                      "left out", "warning")
             self.due = 0.0
             return Odd(), 0
-        self.iterator = read.following
+        self.iterator, self.unparsed = read.following, 0
         wrong = repeated = 0
         for given in read.records:
-            record = server.record_of(given, self.identifier)
+            record = server.record_of(given, self.identifier) or server.lost(given)
             if record is None:
                 wrong += 1
             elif record.number <= self.number():
                 repeated += 1
             else:
                 self.read_to = record.sequence
-                if is_taken(self.stream.filters, record.event):
+                if record.fault or is_taken(self.stream.filters, record.event):
                     self.collected.append(record)
         if not self.collected and not self.batches:
             self.handled = self.read_to  # (what no filter takes is done)
@@ -126,14 +133,17 @@ class Shard(Task):
         return Odd(wrong, repeated), len(read.records) - wrong - repeated
 
     def _batch(self, clock: Clock) -> Tuple[Record, ...]:
-        """Makes a batch if one is full, or its window is over; what has no room in an event, which is in none."""
+        """Makes a batch if one is full, or its window is over; what comes before all others and is in none."""
         count, is_full = cut(self.collected, self.stream.batch), self.is_full
-        large: Tuple[Record, ...] = ()
         if self.collected and count == 0:
-            large, self.collected = tuple(self.collected[:1]), self.collected[1:]
-        elif self.collected and (is_full or self.is_read or self.stream.window == 0
-                                 or self.window_end is not None and clock.reached(self.window_end)):
+            fault = self.collected[0].fault
+            count = 1 if not fault else next((place for place, record in enumerate(self.collected)
+                                              if record.fault != fault), len(self.collected))
+            lost, self.collected = tuple(self.collected[:count]), self.collected[count:]
+            return tuple(record._replace(fault=record.fault or TOO_LARGE) for record in lost)
+        if self.collected and (is_full or self.is_read or self.stream.window == 0
+                               or self.window_end is not None and clock.reached(self.window_end)):
             self.batches.append(Batch(tuple(self.collected[:count])))
             self.collected = self.collected[count:]
             self.window_end = None
-        return large
+        return ()

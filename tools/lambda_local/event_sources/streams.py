@@ -11,7 +11,6 @@ from typing import Any, Dict, List, Optional
 from ..clock.followed import Clock
 from ..other_server import Asking, Destination, NoClient, client_of, code_of, one_line
 from ..outgoing import Log, several
-from .batches import TOO_LARGE
 from .checkpoints import Checkpoints, Position
 from .handling import Handling
 from .members import KINESIS, Stream
@@ -231,8 +230,8 @@ class Reader(Handling):
             odd = shard.fill(self.server, self.clock, self.say)
             shard.asks_since = None
             self.tell_odd(shard, odd.wrong, odd.repeated)
-            for record in odd.large:
-                self.give_up(shard, [record], TOO_LARGE, 0)
+            if odd.lost:
+                self.give_up(shard, odd.lost, odd.lost[0].fault, 0)
                 self.note(shard)
         is_idle = bool(shard.empty) and not shard.batches
         if shard.batches and not self.stopping.is_set():

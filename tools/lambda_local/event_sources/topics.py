@@ -10,7 +10,7 @@ import sys
 import threading
 import time
 import uuid
-from typing import Any, Dict, List, Optional
+from typing import Any, Dict, List
 
 from ..clock.followed import Clock
 from ..other_server import ANSWER_SECONDS, POLL_SECONDS, Asking, NoClient, client_of, code_of, is_refused, one_line

@@ -83,8 +83,8 @@ class Front(threading.Thread):
     """Its ports are open from the start; requests are answered once it has the service and is started."""
 
     def __init__(self, settings: Settings, path: str, drain_seconds: float, log: Log,
-                 outbox: Optional[Outbox] = None) -> None:
-        """Without an outbox nothing is sent to queues and topics."""
+                 outbox: Optional[Outbox] = None, loop: Optional[asyncio.AbstractEventLoop] = None) -> None:
+        """Without an outbox nothing is sent to queues and topics. Its thread runs this loop, or one of its own."""
         super().__init__(name="front", daemon=True)
         self.settings, self.drain_seconds, self.log, self.outbox = settings, drain_seconds, log, outbox
         self.queue: Optional[Queue] = None
@@ -94,7 +94,7 @@ class Front(threading.Thread):
                      for function, address in settings.urls.items()}
         self.api_listeners = {name: listener_at(api.address.port, f"apis {name}" if name else "api", path)
                               for name, api in settings.apis.items()}
-        self.loop = asyncio.new_event_loop()
+        self.loop = loop or asyncio.new_event_loop()
         self.last_told: Dict[str, float] = {}
 
     @property

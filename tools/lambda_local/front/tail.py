@@ -12,29 +12,28 @@ Tell = Callable[[str], None]
 
 
 class Tails(Protocol):
-    """Knows what invocations print. Its call may wait."""
+    """Knows what invocations print."""
 
-    def result_of(self, function: str, identifier: str) -> Optional[str]:
+    async def result_of(self, function: str, identifier: str) -> Optional[str]:
         """The log result of an invocation that was answered just now; none if nothing is known of it."""
 
     def is_prepared(self, function: str) -> bool:
         """Whether what an invocation of it prints will be known. Does not wait."""
 
-    def prepare(self, function: str) -> None:
+    async def prepare(self, function: str) -> None:
         """Sees to that, before it is invoked."""
 
 
 async def with_tail(tails: Tails, function: str, invoke: Callable[[], Awaitable[Reply]], tell: Tell) -> Reply:
     """The answer of `invoke` with the end of the log; without it if that is not known in time."""
     if not tails.is_prepared(function):
-        await result_in_time(lambda: tails.prepare(function), tell, PREPARE_SECONDS)
+        await in_time(tails.prepare(function), tell, PREPARE_SECONDS)
     reply = await invoke()
     identifier = first(reply.headers, "x-amzn-requestid")
     if reply.status != 200 or identifier is None:
         return reply
-    name = identifier
     try:
-        result = await result_in_time(lambda: tails.result_of(function, name), tell)
+        result = await in_time(tails.result_of(function, identifier), tell)
     except BaseException:  # (its caller has gone)
         if reply.pieces is not None:
             await reply.pieces.aclose()
@@ -42,11 +41,11 @@ async def with_tail(tails: Tails, function: str, invoke: Callable[[], Awaitable[
     return reply if result is None else reply._replace(headers=[*reply.headers, (LOG_RESULT, result)])
 
 
-async def result_in_time(look: Callable[[], T], tell: Tell, seconds: float = LONGEST_SECONDS) -> Optional[T]:
-    """Returns what a function that may wait gives; none if it takes long, or has a fault, which is told: the answer of
-    an invocation does not depend on its log."""
+async def in_time(work: Awaitable[T], tell: Tell, seconds: float = LONGEST_SECONDS) -> Optional[T]:
+    """Returns what this gives; none if it takes long, or has a fault, which is told: the answer of an invocation does
+    not depend on its log."""
     try:
-        return await asyncio.wait_for(asyncio.get_running_loop().run_in_executor(None, look), seconds)
+        return await asyncio.wait_for(work, seconds)
     except asyncio.TimeoutError:
         return None
     except Exception as fault:

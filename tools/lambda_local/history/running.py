@@ -6,8 +6,7 @@
 
 It is one connection, of which no more is read than is asked for: what has not been asked for waits in the service's
 history. A service that is silent is asked again from the next entry on, so one that does not answer any more is
-noticed. Who needs no more of payloads, outputs and reports than what reports say asks for entries without bodies, and
-gets the few that have a report with them."""
+noticed. (`up.following` has the same for a task.)"""
 import contextlib
 import errno
 import socket
@@ -35,32 +34,47 @@ class NoDescriptor(Lost):
     """This process has no descriptor for a connection."""
 
 
+class Lines:
+    """The lines of a text that comes in pieces, without their ends."""
+
+    def __init__(self) -> None:
+        self.held: List[bytes] = []
+        self.size = 0
+
+    def feed(self, piece: bytes) -> List[bytes]:
+        """Those that this piece ends; NotTrace if one is too long."""
+        first, *others = piece.split(b"\n")
+        self.held.append(first)
+        self.size += len(first)
+        if self.size > LONGEST_LINE:
+            raise NotTrace(f"a line is longer than {LONGEST_LINE:,} bytes")
+        if not others:
+            return []
+        whole = [b"".join(self.held), *others[:-1]]
+        self.held, self.size = others[-1:], len(others[-1])
+        return whole
+
+    def end(self) -> None:
+        """NotTrace if it ends within a line."""
+        if self.size:
+            raise NotTrace("its last line is cut off")
+
+
 def lines_in(pieces: Iterable[bytes]) -> Iterator[bytes]:
     """The lines of a text that comes in pieces, without their ends; NotTrace if it ends within one."""
-    held: List[bytes] = []
-    size = 0
+    lines = Lines()
     for piece in pieces:
-        first, *others = piece.split(b"\n")
-        held.append(first)
-        size += len(first)
-        if size > LONGEST_LINE:
-            raise NotTrace(f"a line is longer than {LONGEST_LINE:,} bytes")
-        if others:
-            yield b"".join(held)
-            yield from others[:-1]
-            held, size = others[-1:], len(others[-1])
-    if size:
-        raise NotTrace("its last line is cut off")
+        yield from lines.feed(piece)
+    lines.end()
 
 
 class Running:
     """A service whose callers' port this is. One thread at a time takes its entries; `close` may be called by any."""
 
-    def __init__(self, port: int, environments: int, silence: float = SILENCE, only_reports: bool = False) -> None:
-        self.port, self.silence, self.only_reports = port, silence, only_reports
+    def __init__(self, port: int, environments: int, silence: float = SILENCE) -> None:
+        self.port, self.silence = port, silence
         self._reader, self._lock = Reader(environments), threading.Lock()
         self._sockets: Set[socket.socket] = set()
-        self._tries = 0  # to get the next entry with its report
         self._is_closed = False
 
     @property
@@ -73,37 +87,15 @@ class Running:
         does not answer, NotTrace if its answer is none: they may be asked for again, and go on with the next one."""
         while not self._is_closed:
             try:
-                more = "&bodies=none" if self.only_reports else ""
-                with contextlib.closing(self._lines(f"follow=1&from={self.next}{more}")) as lines:
+                with contextlib.closing(self._lines(f"follow=1&from={self.next}")) as lines:
                     for line in lines:
-                        yield self._counted(line)
+                        yield self._reader.take(line)
                 return
             except socket.timeout:
                 pass  # (it was silent: it is asked again)
             except (Lost, Malformed, OSError) as fault:
                 if not self._is_closed:
                     raise lost(fault) from None
-
-    def _counted(self, line: bytes) -> Entry:
-        """The entry of a line. It is counted once it is here with all that it is asked for: what breaks off before that
-        is asked for again."""
-        entry = self._reader.read(line)
-        if self.only_reports and has_report(entry) and self._tries < MOST_TRIES:
-            self._tries += 1
-            entry = self._whole(entry)
-        self._tries = 0
-        self._reader.count(entry)
-        return entry
-
-    def _whole(self, entry: Entry) -> Entry:
-        """The same entry with its bodies; without, if there is no memory for them."""
-        with contextlib.closing(self._lines(f"from={entry.ticket}")) as lines:
-            try:
-                return self._reader.read(next(lines))
-            except StopIteration:
-                raise Lost(f"it does not give entry {entry.ticket} again") from None
-            except MemoryError:
-                return entry
 
     def close(self) -> None:
         """Ends the entries: none is waited for any more."""

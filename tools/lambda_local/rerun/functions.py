@@ -1,6 +1,5 @@
 """The functions of an UP.json, started by what lambda_local up has, for as long as invocations are sent to them."""
 import argparse
-import threading
 from typing import Callable, List, Optional, Tuple, TypeVar
 
 from ..service import Fault
@@ -24,6 +23,9 @@ class Silent(Log):
     def __call__(self, who: str, text: str, level: str = "info", kind: str = "up", always: bool = False,
                  **members: object) -> None:
         pass
+
+    def is_short(self) -> bool:
+        return False
 
 
 class Functions(Session):
@@ -51,9 +53,7 @@ class Functions(Session):
 
     def used(self, use: Callable[[], Given]) -> Given:
         """What `use` gives once all are ready; whatever happens, nothing is left running."""
-        for thread in self.threads:
-            thread.start()
-        threading.Thread(target=self.note_end, daemon=True).start()
+        self.begin()
         try:
             if not self.wait_until_ready():
                 raise Fault(2, "the service ended before its functions were ready")

@@ -25,9 +25,6 @@ class Printed(Protocol):
     def deliver(self, identifier: str) -> None:
         """Takes all that they have written by now: what comes after that is this invocation's."""
 
-    def deliver_at_once(self, identifier: str) -> bool:
-        """The same if there is nothing to wait for; whether it is so."""
-
 
 class Marker(Protocol):
     """Marks what the processes of an environment print, where the lines of an invocation begin."""

@@ -1,7 +1,6 @@
 """The telemetry of one environment: its story, the subscriptions of its extensions, and what they have not got yet.
-What passes on the wire, what lambda_local up does and what processes print come from different threads."""
+What passes on the wire, what lambda_local up does and what processes print come in one loop."""
 import json
-import threading
 import time
 from typing import Awaitable, Callable, Dict, List, Optional, Tuple
 
@@ -54,7 +53,6 @@ class Desk:
     def __init__(self, about: About, tell: Tell, memory: Callable[[], Optional[int]] = lambda: None,
                  clock: Callable[[], Moment] = now):
         self.about, self.tell, self.memory, self.clock = about, tell, memory, clock
-        self.lock = threading.RLock()
         self.story: Optional[Story] = None
         self.kept = Kept()
         self.receivers: Dict[str, Receiver] = {}  # by the identifier of the extension
@@ -62,27 +60,23 @@ class Desk:
     # ---- generations -------------------------------------------------------------------------------------------------
 
     def begins(self) -> None:
-        with self.lock:
-            self.ends()
-            self.kept = Kept()
-            self.story = Story(self.about, self._take, self.memory, self.clock)
+        self.ends()
+        self.kept = Kept()
+        self.story = Story(self.about, self._take, self.memory, self.clock)
 
     def closes(self, reason: str) -> None:
-        with self.lock:
-            if self.story:
-                self.story.closes(reason)
-            for receiver in self.receivers.values():
-                receiver.sender.hurry()
+        if self.story:
+            self.story.closes(reason)
+        for receiver in self.receivers.values():
+            receiver.sender.hurry()
 
     def fails(self, kind: str) -> None:
-        with self.lock:
-            if self.story:
-                self.story.fails(kind)
+        if self.story:
+            self.story.fails(kind)
 
     def ends(self) -> None:
         """All its processes have ended."""
-        with self.lock:
-            receivers, self.receivers, self.story = list(self.receivers.values()), {}, None
+        receivers, self.receivers, self.story = list(self.receivers.values()), {}, None
         for receiver in receivers:
             receiver.sender.end()
             lost = len(receiver.buffer.waiting) + receiver.buffer.dropped
@@ -112,82 +106,70 @@ class Desk:
 
     def line(self, kind: str, text: str) -> None:
         """`kind` is function or extension."""
-        with self.lock:
-            if self.story and (self.receivers or not self.story.is_ready):
-                self.story.line(kind, text)
+        if self.story and (self.receivers or not self.story.is_ready):
+            self.story.line(kind, text)
 
     # ---- on the wire -------------------------------------------------------------------------------------------------
 
     def registers(self, identifier: str, name: str, events: List[str]) -> None:
-        with self.lock:
-            if self.story:
-                self.story.registers(identifier, name, events)
+        if self.story:
+            self.story.registers(identifier, name, events)
 
     def extension_asks(self, identifier: str) -> None:
-        with self.lock:
-            if self.story:
-                self.story.extension_asks(identifier)
+        if self.story:
+            self.story.extension_asks(identifier)
 
     def extension_answered(self, identifier: str) -> None:
-        with self.lock:
-            if self.story:
-                self.story.extension_answered(identifier)
+        if self.story:
+            self.story.extension_answered(identifier)
 
     def extension_fails(self, identifier: str, state: str, kind: str) -> None:
-        with self.lock:
-            if self.story:
-                self.story.extension_fails(identifier, state, kind)
+        if self.story:
+            self.story.extension_fails(identifier, state, kind)
 
     def runtime_asks(self) -> None:
-        with self.lock:
-            if self.story:
-                self.story.runtime_asks()
+        if self.story:
+            self.story.runtime_asks()
 
     def runtime_answered(self) -> None:
-        with self.lock:
-            if self.story:
-                self.story.runtime_answered()
+        if self.story:
+            self.story.runtime_answered()
 
     def delivered(self, identifier: str, trace: Optional[str]) -> None:
-        with self.lock:
-            if self.story:
-                self.story.delivered(identifier, trace)
+        if self.story:
+            self.story.delivered(identifier, trace)
 
     def responds(self, identifier: str) -> None:
-        with self.lock:
-            if self.story:
-                self.story.responds(identifier)
+        if self.story:
+            self.story.responds(identifier)
 
     def answered(self, identifier: str, status: str, kind: Optional[str], size: int) -> None:
-        with self.lock:
-            if self.story:
-                self.story.answered(identifier, status, kind, size)
+        if self.story:
+            self.story.answered(identifier, status, kind, size)
 
     def init_fails(self, kind: str) -> None:
-        with self.lock:
-            if self.story:
-                self.story.init_fails(kind)
+        if self.story:
+            self.story.init_fails(kind)
 
     # ---- subscriptions -----------------------------------------------------------------------------------------------
 
     def subscribe(self, identifier: str, path: str, body: Optional[bytes]) -> Answer:
         api = "Logs" if path == LOGS else "Telemetry"
-        with self.lock:
-            story = self.story
-            if story is None or identifier not in story.extensions:
-                return refused(403, "Forbidden", "Extension.UnknownIdentifier", "Extension is not registered here")
-            if story.is_ready or story.is_over:
-                return refused(403, "Forbidden", f"{api}.SubscriptionClosed",
-                               f"{api} API subscription is closed already: it is open until Init is over")
-            if body is None:
-                return refused(413, "Payload Too Large", "RequestEntityTooLarge", "The body is too long")
-            try:
-                subscription = subscription_of(path, body)
-                self._refuse_both(identifier, subscription)
-            except Refused as fault:
-                return refused(400, "Bad Request", "ValidationError", str(fault))
-            self._begin(story, identifier, subscription)
-            return Answer(200, "OK", b'"OK"')
+        story = self.story
+        if story is None or identifier not in story.extensions:
+            return refused(403, "Forbidden", "Extension.UnknownIdentifier", "Extension is not registered here")
+        if story.is_ready or story.is_over:
+            return refused(403, "Forbidden", f"{api}.SubscriptionClosed",
+                           f"{api} API subscription is closed already: it is open until Init is over")
+        if body is None:
+            return refused(413, "Payload Too Large", "RequestEntityTooLarge", "The body is too long")
+        try:
+            subscription = subscription_of(path, body)
+            self._refuse_both(identifier, subscription)
+        except Refused as fault:
+            return refused(400, "Bad Request", "ValidationError", str(fault))
+        self._begin(story, identifier, subscription)
+        return Answer(200, "OK", b'"OK"')
 
     def _refuse_both(self, identifier: str, subscription: Subscription) -> None:
         other = self.receivers.get(identifier)
@@ -200,7 +182,7 @@ class Desk:
         if identifier in self.receivers:
             self.receivers.pop(identifier).sender.end()
         buffer = Buffer(subscription.buffering, lambda records, size: self._note(subscription, records, size))
-        sender = Sender(subscription.destination, buffer, self.lock, self.tell)
+        sender = Sender(subscription.destination, buffer, self.tell)
         receiver = self.receivers[identifier] = Receiver(subscription, name, sender, buffer)
         for event in self.kept.events:
             self._give(receiver, event, {})
@@ -219,6 +201,5 @@ class Desk:
 
     def flushed(self, identifier: str) -> Optional[Awaitable[object]]:
         """Done once the extension's receiver has taken what there is, or has had its time."""
-        with self.lock:
-            receiver = self.receivers.get(identifier)
+        receiver = self.receivers.get(identifier)
         return receiver.sender.flushed(FLUSH_SECONDS) if receiver else None

@@ -2,7 +2,7 @@
 Lambda runtime API for custom runtimes" and "Using the Lambda Extensions API")."""
 import re
 import uuid
-from typing import Awaitable, Callable, List, Optional
+from typing import Callable, List, Optional
 
 from ..http1 import Headers, Malformed, Request, Response, first
 from ..json_reader import NotJson, read_json
@@ -21,7 +21,7 @@ POSTED = re.compile(re.escape(RUNTIME) + "invocation/([^/]+)/(response|error)")
 SHORT = 64 << 10  # bytes of a body that is looked at
 UNKNOWN_ERROR = "Runtime.Unknown"
 # What is done before an invocation is passed on: it is, once that is done.
-Deliver = Callable[[str], Optional[Awaitable[object]]]
+Deliver = Callable[[str], None]
 
 
 def identifier_of(headers: Headers, name: str = IDENTIFIER) -> str:
@@ -112,7 +112,7 @@ class ExtensionPoll(Short):
             return
         event = self.members(bytes(self.content))
         if event.get("eventType") == "INVOKE":
-            self.waits = self.deliver(str(event.get("requestId")))
+            self.deliver(str(event.get("requestId")))
         elif event.get("eventType") == "SHUTDOWN":
             self.desk.closes(str(event.get("shutdownReason")))
             self.waits = self.desk.flushed(self.identifier)
@@ -150,7 +150,7 @@ class RuntimePoll(Exchange):
         self.lost()
         identifier = first(head.headers, REQUEST)
         if head.status == 200 and identifier is not None:
-            self.waits = self.deliver(plain(identifier))
+            self.deliver(plain(identifier))
             trace = first(head.headers, "lambda-runtime-trace-id")
             self.streams.passed(plain(identifier))
             self.desk.delivered(plain(identifier), trace)

@@ -1,6 +1,6 @@
 """What stands before environments whose runtimes do not mark what they print, in a process of its own
-(`relay_process`): the threads of lambda_local up would share one interpreter with it, and each invocation would wait
-for them."""
+(`relay_process`): the loop of lambda_local up would share one interpreter with it, and each invocation would wait for
+what else is done there."""
 import contextlib
 import json
 import os
@@ -8,7 +8,6 @@ import socket
 import struct
 import subprocess
 import sys
-import threading
 from typing import Callable, Dict, Optional
 
 from ..paths import PACKAGE
@@ -19,16 +18,15 @@ SEND_SECONDS = 20  # for it to take a message
 END_SECONDS = 10.0  # for it to end
 START = "import sys; sys.path.insert(0, sys.argv.pop(1)); from lambda_local.telemetry.relay_process import main; " \
         "main(int(sys.argv[1]))"
+Hear = Callable[[int, Callable[[], bool]], None]  # has this called when there is something to read, until it says no
 Tell = Callable[[int, str, str], None]  # the number of an environment, a kind, a line
 
 
-class Relay(threading.Thread):
-    """The process, and a thread that reads what it tells. `when_lost` is called if it ends before it is to."""
+class Relay:
+    """The process, and what it tells, which is heard by a loop. `when_lost` is called if it ends before it is to."""
 
-    def __init__(self, tell: Tell, when_lost: Callable[[], None]):
-        super().__init__(name="relay", daemon=True)
+    def __init__(self, tell: Tell, when_lost: Callable[[], None], hear: Hear) -> None:
         self.tell, self.when_lost = tell, when_lost
-        self.lock = threading.Lock()
         self.count = 0  # of processes whose output it was given
         self.ends = False
         self.channel, its = socket.socketpair(socket.AF_UNIX, socket.SOCK_SEQPACKET)
@@ -39,7 +37,7 @@ class Relay(threading.Thread):
                 [sys.executable or "python3", "-I", "-S", "-c", START, os.path.dirname(PACKAGE), str(its.fileno())],
                 stdin=subprocess.DEVNULL, cwd="/", stdout=subprocess.DEVNULL, start_new_session=True,
                 pass_fds=[its.fileno()])
-        self.start()
+        hear(self.channel.fileno(), self.come)
 
     def listen(self, number: int, port: int, listener: socket.socket) -> None:
         """From now on it accepts what comes to this listener, for the environment with this port."""
@@ -48,9 +46,8 @@ class Relay(threading.Thread):
 
     def prints(self, number: int, output: int, mark: str) -> int:
         """A process of an environment, which is started next, prints into this pipe. Returns its number."""
-        with self.lock:
-            self.count += 1
-            count = self.count
+        self.count += 1
+        count = self.count
         # (opened anew, since whether a write waits is a matter of the opening, which the process would share)
         marking = os.open(f"/proc/self/fd/{output}", os.O_WRONLY | os.O_NONBLOCK)
         try:
@@ -67,23 +64,28 @@ class Relay(threading.Thread):
     def _send(self, message: Dict[str, object], descriptor: Optional[int] = None) -> None:
         """OSError if it has ended, or does not take it in time."""
         data = json.dumps(message).encode()
-        with self.lock:
-            socket.send_fds(self.channel, [data], [] if descriptor is None else [descriptor])
+        socket.send_fds(self.channel, [data], [] if descriptor is None else [descriptor])
 
-    def run(self) -> None:
+    def come(self) -> bool:
+        """Takes what it tells next, which is waited for; whether there can be more."""
+        data = b""
         with contextlib.suppress(OSError):
-            while data := self.channel.recv(LONGEST_MESSAGE):
-                said = json.loads(data)
-                self.tell(said["environment"], said["kind"], said["text"])
-        if not self.ends:
+            data = self.channel.recv(LONGEST_MESSAGE)
+        if data:
+            said = json.loads(data)
+            self.tell(said["environment"], said["kind"], said["text"])
+        elif not self.ends:
             self.when_lost()
+        return bool(data)
 
     def end(self) -> None:
-        """Once all that it stands before has ended: its last lines are told."""
+        """Once all that it stands before has ended, and the loop: its last lines are told."""
         self.ends = True
         with contextlib.suppress(OSError):
             self.channel.shutdown(socket.SHUT_WR)
-        self.join(END_SECONDS)
+        self.channel.settimeout(END_SECONDS)
+        while self.come():
+            pass
         try:
             self.process.wait(END_SECONDS)
         except subprocess.TimeoutExpired:

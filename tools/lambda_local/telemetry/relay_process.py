@@ -12,7 +12,8 @@ import os
 import resource
 import socket
 import sys
-from typing import Awaitable, Dict, List, Optional
+from collections import deque
+from typing import Awaitable, Deque, Dict, List, Optional
 
 from ..http1 import Malformed, Request, Response, first
 from ..json_reader import NotJson, read_json
@@ -21,6 +22,8 @@ from .proxy import Proxy
 from .refusals import Refusals
 
 LONGEST_MESSAGE = 64 << 10  # bytes
+MOST_LINES = 1000  # that wait, beyond those for which the socket has room, if the tool is slow
+LAST_SECONDS = 5.0  # for it to take the last ones
 SHORT = 64 << 10  # bytes of an extension's event
 NEXT, EVENT = "/2018-06-01/runtime/invocation/next", "/2020-01-01/extension/event/next"
 REQUEST = "lambda-runtime-aws-request-id"
@@ -147,6 +150,7 @@ class Relay:
         self.places: Dict[int, Marking] = {}  # by the number of the environment
         self.proxies: List[Proxy] = []
         self.starting: "List[asyncio.Task[None]]" = []
+        self.lines: Deque[bytes] = deque()  # that the tool has not taken
         self.is_over: "asyncio.Future[None]" = asyncio.get_running_loop().create_future()
 
     async def run(self) -> None:
@@ -157,6 +161,9 @@ class Relay:
         loop.remove_reader(self.channel)
         for proxy in self.proxies:
             await proxy.stop()
+        loop.remove_writer(self.channel)
+        self.channel.settimeout(LAST_SECONDS)
+        self.send()
         self.channel.close()
 
     def take_all(self) -> None:
@@ -193,8 +200,22 @@ class Relay:
 
     def tell(self, number: int, kind: str, text: str) -> None:
         """A line for the log. (One that there is no room for is left out, as the log does it.)"""
-        with contextlib.suppress(OSError):
-            self.channel.send(json.dumps({"environment": number, "kind": kind, "text": text}).encode())
+        if len(self.lines) < MOST_LINES:
+            self.lines.append(json.dumps({"environment": number, "kind": kind, "text": text}).encode())
+        self.send()
+
+    def send(self) -> None:
+        """Sends the lines that wait; if there is no room, the rest once there is."""
+        loop = asyncio.get_running_loop()
+        try:
+            while self.lines:
+                self.channel.send(self.lines[0])
+                self.lines.popleft()
+        except BlockingIOError:
+            return loop.add_writer(self.channel, self.send)
+        except OSError:  # (the tool has ended, or takes none)
+            self.lines.clear()
+        loop.remove_writer(self.channel)
 
 
 async def serve(channel: socket.socket) -> None:

@@ -2,7 +2,6 @@
 or wrong costs nothing but the room of its own buffer. A batch that was not taken is sent again, so none is lost while
 there is room, and one may come twice."""
 import asyncio
-import threading
 import time
 from typing import Callable, List, Optional, Tuple
 
@@ -128,10 +127,10 @@ def connection_to(destination: Destination) -> Connection:
 
 
 class Sender:
-    """Sends what is in a buffer, batch by batch. `lock` is that of the buffer, whose events come from other threads."""
+    """Sends what is in a buffer, batch by batch."""
 
-    def __init__(self, destination: Destination, buffer: Buffer, lock: "threading.RLock", tell: Callable[[str], None]):
-        self.buffer, self.lock, self.tell = buffer, lock, tell
+    def __init__(self, destination: Destination, buffer: Buffer, tell: Callable[[str], None]):
+        self.buffer, self.tell = buffer, tell
         self.connection = connection_to(destination)
         self.is_hurried = self.is_ended = self.is_woken = False
         self.is_idle = True  # nothing waits, and so no time is running
@@ -142,7 +141,7 @@ class Sender:
         self.loop, self.changed = asyncio.get_running_loop(), asyncio.Event()
         self.task = begin_task(self._run(), "what sends telemetry", self.tell)
 
-    # ---- from any thread, with the lock ------------------------------------------------------------------------------
+    # ---- from its desk -----------------------------------------------------------------------------------------------
 
     def wake(self) -> None:
         """Something has come."""
@@ -172,9 +171,8 @@ class Sender:
         """Until its receiver has taken all, or its time is over."""
         end = time.monotonic() + seconds
         while not self.is_ended and time.monotonic() < end:
-            with self.lock:
-                if not self.buffer.waiting:
-                    return
+            if not self.buffer.waiting:
+                return
             await asyncio.sleep(BETWEEN_LOOKS)
 
     async def _run(self) -> None:
@@ -204,21 +202,18 @@ class Sender:
 
     async def _due(self) -> None:
         while True:
-            with self.lock:
-                self.changed.clear()
-                self.is_woken = False
-                wait = self.buffer.wait(time.monotonic())
-                if wait is not None and (self.is_hurried or wait <= 0):
-                    return
-                self.is_idle = wait is None
+            self.changed.clear()
+            self.is_woken = False
+            wait = self.buffer.wait(time.monotonic())
+            if wait is not None and (self.is_hurried or wait <= 0):
+                return
+            self.is_idle = wait is None
             try:
                 await asyncio.wait_for(self.changed.wait(), wait)
             except asyncio.TimeoutError:
                 pass
 
     async def _send_one(self) -> None:
-        with self.lock:
-            batch = self.buffer.batch()
+        batch = self.buffer.batch()
         await self.connection.send(batch)
-        with self.lock:
-            self.buffer.taken(len(batch), time.monotonic())
+        self.buffer.taken(len(batch), time.monotonic())

@@ -5,8 +5,6 @@ are streamed. The relay is in front of one whose processes do not mark what they
 always if its function says so (`"logs": "exact"`) or has an `init`, with `--report`, and while it is debugged; from its
 next generation on if a caller wants the log of an invocation (`up.closer`), or if a generation ended early, since the
 relay also tells what the service refuses."""
-import threading
-from concurrent.futures import ThreadPoolExecutor
 from typing import Any, Callable, Container, Dict, Iterable, List, Mapping, NamedTuple, Set
 
 from ..front.front import Other, listener_at
@@ -24,18 +22,19 @@ class Place(NamedTuple):
 
 class Sidecars:
     """Those of all environments, by their numbers. `streaming` are the functions whose responses may be streamed;
-    `divides` has all that is printed divided from the start, and `when_lost` is called if the relay has ended."""
+    `divides` has all that is printed divided from the start, `when_lost` is called if the relay has ended, and `hear`
+    has a loop take what it tells."""
 
     def __init__(self, functions: Iterable[Any], streaming: Container[str], path: str, log: Callable[..., None],
-                 divides: bool, when_lost: Callable[[], None]):
+                 divides: bool, when_lost: Callable[[], None], hear: Callable[[int, Callable[[], bool]], None]):
         self.functions, self.streaming, self.path, self.log = list(functions), streaming, path, log
-        self.divides, self.when_lost = divides, when_lost
+        self.divides, self.when_lost, self.hear = divides, when_lost, hear
         self.streams = Streams()
         self.streaming_environments: Set[int] = set()  # by their numbers
         self.found: Dict[int, Beside] = {}
         self.unmarked: Dict[int, Place] = {}
+        self.by_hand: Dict[int, Place] = {}  # those whose runtimes are started by hand
         self.relay: Any = None  # once one is needed
-        self.lock = threading.Lock()
 
     def serve(self, configuration: Mapping[str, Any], printed: Mapping[int, Printed]) -> List[Other]:
         """Makes the proxies of a service with this configuration, whose environments' processes print this; its front
@@ -52,6 +51,8 @@ class Sidecars:
                     # (an Init that may take long is not to be made again for a log)
                     if self.divides or function.has_exact_logs or function.debug or function.init is not None:
                         self.divide(number)
+                elif function.command is None:
+                    self.by_hand[number] = Place(function, name, port)
         return proxies
 
     def pairing(self, call: Callable[..., None]) -> Pairing:
@@ -61,14 +62,11 @@ class Sidecars:
     def _proxy(self, function: Any, name: str, port: int, number: int, printed: Mapping[int, Printed]) -> Other:
         from .ears import OfStreams
         from .with_proxy import made
-        if not self.found:  # (one for each environment: what one of them prints delays no other)
-            self.readers = ThreadPoolExecutor(len(printed), "reads before a delivery")
         streams = OfStreams()  # (of another function each result comes in one piece)
         if function.name in self.streaming:
             streams = OfStreams(self.streams, number)
             self.streaming_environments.add(number)
-        self.found[number] = one = made(function, name, port, self.path, printed[number], streams, self.readers,
-                                        self.log)
+        self.found[number] = one = made(function, name, port, self.path, printed[number], streams, self.log)
         return one.proxy
 
     def of(self, number: int, port: int) -> Beside:
@@ -79,26 +77,29 @@ class Sidecars:
         """Whether what its next generation prints is divided, one way or another."""
         return number not in self.unmarked or number in self.found
 
+    def is_heard(self, number: int) -> bool:
+        """Whether all requests of its processes are heard."""
+        return number in self.found
+
     def is_unheard(self, number: int) -> bool:
         """Whether nothing hears the requests of an environment whose runtime is not a bundled one."""
-        return number in self.unmarked and number not in self.found
+        return number in self.by_hand or number in self.unmarked and number not in self.found
 
     def divide(self, number: int) -> None:
         """From its next generation on, what an environment prints is divided, and what the service refuses of it
         told."""
-        with self.lock:
-            if self.is_divided(number):
-                return
-            from .relay import BehindRelay, Relay
-            if self.relay is None:
-                self.relay = Relay(self.tell, self.when_lost)
-            place = self.unmarked[number]
-            self.found[number] = BehindRelay(self.relay, number, listener_at(0, f"proxy of {place.name}", self.path),
-                                             place.port)
+        if self.is_divided(number):
+            return
+        from .relay import BehindRelay, Relay
+        if self.relay is None:
+            self.relay = Relay(self.tell, self.when_lost, self.hear)
+        place = self.unmarked[number]
+        self.found[number] = BehindRelay(self.relay, number, listener_at(0, f"proxy of {place.name}", self.path),
+                                         place.port)
 
     def tell(self, number: int, kind: str, text: str) -> None:
         """A line about the processes of an environment."""
-        place = self.unmarked[number]
+        place = self.unmarked.get(number) or self.by_hand[number]
         self.log(place.name, f"-- {text}", level="warning", kind=kind, function=place.function.name)
 
     def end(self) -> None:

@@ -1,10 +1,8 @@
 """A proxy within lambda_local up in front of an environment: its function's extensions may subscribe to telemetry, or
 its responses are streamed."""
-import asyncio
 import json
 import uuid
-from concurrent.futures import Executor
-from typing import Any, Awaitable, Callable, Optional
+from typing import Any, Callable, Optional
 
 from ..front import origins
 from ..front.front import listener_at
@@ -71,21 +69,18 @@ def about(function: Any) -> About:
     return About(function.name, function.memory, str(uuid.uuid4()), form == "JSON", tuple(function.extensions))
 
 
-def made(function: Any, name: str, port: int, path: str, printed: Printed, streams: OfStreams, readers: Executor,
+def made(function: Any, name: str, port: int, path: str, printed: Printed, streams: OfStreams,
          log: Callable[..., None]) -> WithProxy:
     """That of the environment with this name and port, whose processes print this; what they have printed before a
-    delivery is read by one of the readers."""
+    delivery is read first."""
     def tell(text: str) -> None:
         log(name, f"-- {text}", level="warning", kind="telemetry", function=function.name)
 
-    async def wait(identifier: str) -> None:
+    def deliver(identifier: str) -> None:
         try:
-            await asyncio.get_running_loop().run_in_executor(readers, printed.deliver, identifier)
+            printed.deliver(identifier)
         except Exception as fault:
             tell(f"what it has printed before {identifier} could not be read: {fault!r}")
-
-    def deliver(identifier: str) -> Optional[Awaitable[None]]:
-        return None if printed.deliver_at_once(identifier) else wait(identifier)
     desk = Desk(about(function), tell)
     refusals = Refusals(lambda text: log(name, f"-- {text}", level="warning", kind="refused", function=function.name))
     ears = EnvironmentEars(desk, refusal_of, streams, function.has_telemetry, deliver, refusals)

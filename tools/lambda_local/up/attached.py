@@ -4,11 +4,11 @@ Nothing is asked of a runtime, nor for an invocation. Node says on standard erro
 that was started; from then on the system is asked at each look whether a client is connected to it. Python's runtime
 notices that pydevd is imported, on which debugpy and PyCharm rest; from then on it has a file beside the clock's while
 a client is attached (examples/runtime.py)."""
+import asyncio
 import contextlib
 import functools
 import os
 import re
-import threading
 from typing import Callable, Dict, Iterable, List, NamedTuple, Set
 
 from ..clock.followed import Clock
@@ -40,7 +40,7 @@ def clients_of(port: int, pid: int) -> Set[str]:
 
 
 class Attached:
-    """The debuggers of a run. `look` is called again and again, by one thread."""
+    """The debuggers of a run. `look` is called again and again, by one task."""
 
     def __init__(self, environments: Iterable[Environment], printed: Dict[int, Printed], clock: Clock,
                  clock_file: str, say: Callable[[str, str, str], None]) -> None:
@@ -51,25 +51,24 @@ class Attached:
         self.clients: Dict[Environment, Set[str]] = {}  # of inspectors, at the last look
         self.attached: Set[Environment] = set()
         self.holds = False  # the clock
-        self.lock = threading.Lock()
         for environment in self.environments:
             if language_of(environment.function.member["runtime"]) == "node":
                 printed[environment.number].follow(functools.partial(self._take, environment))
 
     def _take(self, environment: Environment, line: Line) -> None:
         if line.text.startswith(BEGINS) and (found := LISTENS.fullmatch(line.text)):
-            with self.lock:
-                self.inspectors[environment] = Inspector(environment.generation, int(found[1]))
+            self.inspectors[environment] = Inspector(environment.generation, int(found[1]))
 
-    def look(self) -> None:
+    async def look(self) -> None:
         marked = self._marked()
         attached = {one for one in self.environments if self._is_inspected(one) or self._pid_of(one) in marked}
         fresh = sorted(attached - self.attached, key=lambda one: one.number)
         was_held, self.attached = bool(self.attached), attached
+        loop = asyncio.get_running_loop()
         if attached and not was_held:
-            self._hold(fresh[0])
+            await loop.run_in_executor(None, self._hold, fresh[0])
         elif was_held and not attached:
-            self._let_go()
+            await loop.run_in_executor(None, self._let_go)
 
     @staticmethod
     def _pid_of(environment: Environment) -> int:
@@ -93,8 +92,7 @@ class Attached:
 
     def _is_inspected(self, environment: Environment) -> bool:
         """Whether a client stays connected to its inspector: one that only asks what there is to debug goes at once."""
-        with self.lock:
-            inspector = self.inspectors.get(environment)
+        inspector = self.inspectors.get(environment)
         runtime = environment.runtime
         if inspector is None or runtime is None or inspector.generation != environment.generation:
             return False

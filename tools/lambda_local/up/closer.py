@@ -1,13 +1,14 @@
 """The log of an invocation, asked for by a caller (the log type Tail), of a function whose environments were started
 without the relay: they are started again with it, each as soon as it is idle."""
+import asyncio
 import contextlib
-import http.client
 import threading
 import time
-from typing import Iterable, Iterator, List, Set
+from typing import Iterable, List, Optional, Set
 
-from ..service import Service, ask
+from ..service import Service
 from ..telemetry.sidecars import Sidecars
+from .asking import ask
 from .environments import Environment
 from .log import Log
 from .watch import Watch
@@ -22,7 +23,7 @@ class Closer:
     def __init__(self, sidecars: Sidecars, service: Service, watch: Watch, log: Log, stopping: threading.Event):
         self.sidecars, self.service, self.watch, self.log, self.stopping = sidecars, service, watch, log, stopping
         self.environments: List[Environment] = []
-        self.lock = threading.Lock()
+        self.turn: Optional[asyncio.Lock] = None  # of whoever prepares
         self.told: Set[str] = set()  # functions
 
     def is_divided(self, function: str) -> bool:
@@ -30,13 +31,12 @@ class Closer:
         return all(is_divided(each) for each in self.environments
                    if each.function.name == function and each.is_started)
 
-    def prepare(self, function: str) -> None:
+    async def prepare(self, function: str) -> None:
         """Waits until what the function's environments print is divided. One that is busy is left for the next caller,
         unless there is no other."""
         end = time.monotonic() + LONGEST_SECONDS
-        if not self.lock.acquire(timeout=LONGEST_SECONDS):
-            return
-        try:
+        self.turn = self.turn or asyncio.Lock()
+        async with self.turn:
             whole = [each for each in self.environments if each.function.name == function]
             for environment in whole:
                 self.sidecars.divide(environment.number)
@@ -45,13 +45,11 @@ class Closer:
                 due = [each for each in whole if each.is_started and not is_divided(each)]
                 if due and function not in self.told:
                     self.tell(function)
-                asked.update(self.spun_down(each for each in due if each not in asked))
+                asked.update(await self.spun_down(each for each in due if each not in asked))
                 begins = any(not self.is_over_init(each) for each in due if each not in asked)
                 if all(map(self.is_ready, asked)) and not begins and (asked or len(due) < len(whole)):
                     return
-                time.sleep(BETWEEN_LOOKS)
-        finally:
-            self.lock.release()
+                await asyncio.sleep(BETWEEN_LOOKS)
 
     def is_ready(self, environment: Environment) -> bool:
         """Whether one that was spun down has been started again, if it is to be."""
@@ -65,13 +63,15 @@ class Closer:
         self.log("up", f"restarting {function}: a caller wants the log of an invocation (\"logs\": \"exact\" starts "
                        "it so)")
 
-    def spun_down(self, due: Iterable[Environment]) -> Iterator[Environment]:
+    async def spun_down(self, due: Iterable[Environment]) -> List[Environment]:
         """Those that are idle, and end now."""
-        with contextlib.suppress(OSError, http.client.HTTPException):  # (the service has ended)
+        found = []
+        with contextlib.suppress(OSError):  # (the service has ended)
             for environment in due:
                 path = f"/_local/env/{environment.number}/spindown"
-                if ask(self.service.port, "POST", path)[0] == 202:
-                    yield environment
+                if (await ask(self.service.port, "POST", path))[0] == 202:
+                    found.append(environment)
+        return found
 
 
 def is_divided(environment: Environment) -> bool:

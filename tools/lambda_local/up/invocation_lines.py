@@ -7,12 +7,11 @@ does before it passes a delivery on (`passing`), or by a proxy, which reads the 
 late a line is read.
 
     printed = Printed()                      # of one environment, for all its processes, one generation after the other
-    printed.follow(lambda line: ..)          # called for each line as it comes, by the thread that reads it
+    printed.follow(lambda line: ..)          # called for each line as it comes
     printed.divide(identifier)               # what is taken from now on is this invocation's
     printed.settle()                         # all that the processes had written by now has been taken then
     printed.of_invocation(identifier)        # its lines"""
 import itertools
-import threading
 import time
 from collections import deque
 from typing import Callable, Deque, List, NamedTuple, Optional, Protocol, Tuple
@@ -57,10 +56,6 @@ class Readable(Protocol):
         """Takes what it has written by now; what has come of the line that is not whole yet, and since when, by the
         time of day in seconds. If it cuts, that is a line as well."""
 
-    @property
-    def is_settled(self) -> bool:
-        """Whether all that it has written by now has been taken, in whole lines, so far as is known without waiting."""
-
 
 class Start:
     """A runtime that was started, and the most memory that it and its extensions have used, in bytes."""
@@ -79,7 +74,6 @@ class Printed:
     """What the processes of one environment print."""
 
     def __init__(self) -> None:
-        self.lock, self.dividing = threading.Lock(), threading.Lock()
         self.lines: Deque[Line] = deque()
         self.size = self.count = 0  # of those that are kept, in characters; of all
         self.divisions: Deque[Division] = deque(maxlen=MOST_DIVISIONS)
@@ -97,14 +91,12 @@ class Printed:
         self.starts.append(Start(now()))
 
     def add(self, process: Readable) -> None:
-        with self.lock:
-            self.processes.append(process)
+        self.processes.append(process)
 
     def remove(self, process: Readable) -> None:
         """It has ended, and all its lines have been taken."""
-        with self.lock:
-            if process in self.processes:
-                self.processes.remove(process)
+        if process in self.processes:
+            self.processes.remove(process)
 
     def measure(self, since: float = 0.0) -> None:
         """Notes how much memory they have used, if that was not done within so many seconds: it reads files of the
@@ -112,14 +104,14 @@ class Printed:
         moment = time.monotonic()
         if self.starts and moment - self.measured >= since:
             self.measured = moment
-            used = sum(peak_of(process.pid) for process in list(self.processes))
+            used = sum(peak_of(process.pid) for process in self.processes)
             self.starts[-1].peak = max(self.starts[-1].peak, used)
 
     def is_above(self, most: int) -> bool:
         """Whether they have used more than so many bytes since the last runtime was started."""
         self.measure()
         return bool(self.starts) and self.starts[-1].peak > most and is_above(
-            [process.pid for process in list(self.processes)], most)
+            [process.pid for process in self.processes], most)
 
     def peak(self) -> int:
         """The most that they have used since the last runtime was started, in bytes; 0 if none is known."""
@@ -140,37 +132,31 @@ class Printed:
     def take(self, source: str, text: str) -> None:
         """A line that was read just now."""
         line = Line(now(), source, text)
-        with self.lock:
-            self.lines.append(line)
-            self.count += 1
-            self.size += len(text) + OF_A_LINE
-            while self.size > MOST_KEPT and len(self.lines) > 1:
-                self.size -= len(self.lines.popleft().text) + OF_A_LINE
+        self.lines.append(line)
+        self.count += 1
+        self.size += len(text) + OF_A_LINE
+        while self.size > MOST_KEPT and len(self.lines) > 1:
+            self.size -= len(self.lines.popleft().text) + OF_A_LINE
         for follower in self.followers:
             follower(line)
 
     def since(self, place: int) -> List[Line]:
         """The lines that were taken after so many, as far as they are kept."""
-        with self.lock:
-            return list(itertools.islice(self.lines, max(0, place - self.count + len(self.lines)), None))
+        return list(itertools.islice(self.lines, max(0, place - self.count + len(self.lines)), None))
 
     def settle(self, cuts: bool = False) -> Settled:
         """Takes all that the processes have written by now. If it cuts, also what is not whole."""
-        with self.lock:
-            processes = list(self.processes)
-        begun = [(process.name, *process.settle(cuts)) for process in processes]
+        begun = [(process.name, *process.settle(cuts)) for process in self.processes]
         unfinished = [Line(1000 * since, name, text) for name, since, text in begun if text]
-        with self.lock:
-            return Settled(self.count, self.divisions[-1].identifier if self.divisions else "", unfinished)
+        return Settled(self.count, self.divisions[-1].identifier if self.divisions else "", unfinished)
 
     # ---- the invocations ---------------------------------------------------------------------------------------------
 
     def divide(self, identifier: str = "") -> None:
         """What is taken from now on is this invocation's; without one, it is that of a new generation."""
-        with self.lock:
-            if self.is_current(identifier):
-                return
-            self.divisions.append(Division(identifier, self.count))
+        if self.is_current(identifier):
+            return
+        self.divisions.append(Division(identifier, self.count))
         if identifier:
             for divider in self.dividers:
                 divider(identifier)
@@ -181,35 +167,20 @@ class Printed:
 
     def deliver(self, identifier: str) -> None:
         """Divides after all that the processes have written by now: before this invocation is passed on to them. The
-        first of those that are to get it makes the division, and the others wait for it."""
-        with self.dividing:
-            if not self.is_current(identifier):
-                self.settle(cuts=True)
-                self.divide(identifier)
-
-    def deliver_at_once(self, identifier: str) -> bool:
-        """The same if there is nothing to wait for; whether it is so."""
-        if not self.dividing.acquire(blocking=False):
-            return False
-        try:
-            if not self.is_current(identifier):
-                if not all(process.is_settled for process in list(self.processes)):
-                    return False
-                self.divide(identifier)
-            return True
-        finally:
-            self.dividing.release()
+        first of those that are to get it makes the division."""
+        if not self.is_current(identifier):
+            self.settle(cuts=True)
+            self.divide(identifier)
 
     def of_invocation(self, identifier: str, until: Optional[Settled] = None) -> List[Line]:
         """The lines of an invocation, as far as they are kept, and what has come of those that are not whole; only what
         was taken until then."""
-        with self.lock:
-            places = [division.place for division in self.divisions] + [self.count]
-            number = next((number for number, division in enumerate(self.divisions)
-                           if division.identifier == identifier), None)
-            if number is None:
-                return []
-            end = min(places[number + 1], until.place) if until else places[number + 1]
-            dropped = self.count - len(self.lines)
-            found = list(itertools.islice(self.lines, max(0, places[number] - dropped), max(0, end - dropped)))
+        places = [division.place for division in self.divisions] + [self.count]
+        number = next((number for number, division in enumerate(self.divisions)
+                       if division.identifier == identifier), None)
+        if number is None:
+            return []
+        end = min(places[number + 1], until.place) if until else places[number + 1]
+        dropped = self.count - len(self.lines)
+        found = list(itertools.islice(self.lines, max(0, places[number] - dropped), max(0, end - dropped)))
         return found + (until.unfinished if until and until.identifier == identifier else [])

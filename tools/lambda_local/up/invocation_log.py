@@ -6,7 +6,7 @@ import json
 import math
 from collections import OrderedDict
 from datetime import datetime, timezone
-from typing import Any, Dict, Iterator, List, Mapping, NamedTuple, Optional, Protocol, Sequence
+from typing import Any, Callable, Dict, Iterator, List, Mapping, NamedTuple, Optional, Protocol, Sequence
 
 from ..history.words import Word
 from ..life import Ended, Event
@@ -15,6 +15,7 @@ from .invocation_lines import Line, Printed, Settled
 
 MOST_TAIL = 4096  # bytes
 MOST_REMEMBERED = 1024  # invocations that have ended
+LONGEST_SECONDS = 30.0  # until the end of one is here that was answered
 OF_PROCESSES = ("Runtime.ExitError", "Extension.Crash")  # errors that no handler has raised
 MB = 1 << 20
 STATUSES = {Word.OUTPUT: "success", Word.TIMEOUT: "timeout", Word.INIT_TIMEOUT: "timeout"}  # of a report
@@ -162,17 +163,18 @@ def remembered(event: Ended) -> Ended:
 
 
 class Watching(Protocol):
-    def refresh(self) -> None:
-        """Takes what the history has now."""
+    async def comes(self, holds: Callable[[], bool], seconds: float) -> None:
+        """Waits until this holds, at most so long, and not while the service does not answer. It is asked after each
+        entry."""
 
 
 class Dividing(Protocol):
     """Has what a function's environments print divided."""
 
     def is_divided(self, function: str) -> bool:
-        """Whether it is. Does not wait."""
+        """Whether it is."""
 
-    def prepare(self, function: str) -> None:
+    async def prepare(self, function: str) -> None:
         """Waits until it is."""
 
 
@@ -183,11 +185,11 @@ class Tails:
         self.invocations, self.watch = invocations, watch
         self.is_prepared, self.prepare = dividing.is_divided, dividing.prepare
 
-    def result_of(self, function: str, identifier: str) -> Optional[str]:
+    async def result_of(self, function: str, identifier: str) -> Optional[str]:
         """The log result of an invocation that was answered just now; none if nothing is known of it."""
         invocations = self.invocations
         until = invocations.settle(function)
-        self.watch.refresh()
+        await self.watch.comes(lambda: identifier in invocations.ended, LONGEST_SECONDS)
         event = invocations.ended.get(identifier)
         if event is None:
             return None

@@ -4,12 +4,12 @@ invocation.
 What an environment's processes print is shown as it comes, and START before what is the first invocation's own. The
 next one's START waits until the history says that the one before has ended, which is known a moment later: its END and
 REPORT come first."""
-import threading
-import time
+import asyncio
 from collections import deque
 from typing import Any, Deque, Dict, Iterator, List, NamedTuple, Set, Union
 
 from ..life import Begun, Ended, Event
+from .bell import Bell
 from .invocation_lines import OF_A_LINE, Line, Printed
 from .invocation_log import Invocations, end_line, report_line, start_line
 from .log import OUTPUT, Log
@@ -18,7 +18,8 @@ MOST_HELD = 4 << 20  # characters, with OF_A_LINE for each line; then a process 
 PATIENCE = 1.0  # seconds, as long as it waits
 MOST_REMEMBERED = 64  # invocations of an environment
 BETWEEN_MEASURES = 0.2  # seconds at least, of memory before an invocation: at its end it is measured anew
-REST = 0.005  # seconds in which lines come together: each would wake a thread, which every invocation would wait for
+REST = 0.005  # seconds in which lines come together
+BETWEEN_LOOKS = 0.01  # seconds, for room in the log
 
 
 class Begin(NamedTuple):
@@ -73,37 +74,32 @@ class Told(NamedTuple):
     marks: List[Mark]
 
 
-class InvocationReport(threading.Thread):
-    def __init__(self, invocations: Invocations, log: Log):
-        super().__init__(name="report", daemon=True)
+class InvocationReport:
+    def __init__(self, invocations: Invocations, log: Log, loop: asyncio.AbstractEventLoop) -> None:
         self.invocations, self.log = invocations, log
-        self.changed = threading.Condition()  # what is notified waits for room
-        self.news = threading.Event()
+        self.news = Bell(loop)
         self.newer: Set[Held] = set()  # those that have something to show
         self.held: Dict[int, Held] = {}
-        self.coming: List[Told] = []  # by the watch, which goes on
         self.told: List[Told] = []
         self.size = 0
-        self.is_settling = self.is_closed = False
+        self.is_over = self.is_closed = False
 
     def hold(self, number: int, name: str, function: str, place: int, printed: Printed) -> None:
         """From now on, what this environment's processes print goes this way."""
         self.held[number] = held = Held(name, function, place, printed)
         printed.follow(lambda line: self.take_line(held, line), lambda identifier: self.begin(held, identifier))
 
+    def is_short(self) -> bool:
+        """Whether so much is held that what processes print is to wait."""
+        return self.size > MOST_HELD
+
     def take_line(self, held: Held, line: Line) -> None:
-        end = time.monotonic() + PATIENCE
-        with self.changed:
-            while (self.size > MOST_HELD and not self.is_settling and not self.is_closed
-                   and (left := end - time.monotonic()) > 0):
-                self.changed.wait(left)
-            self.size += len(line.text) + OF_A_LINE
-            self.add(held, line)
+        self.size += len(line.text) + OF_A_LINE
+        self.add(held, line)
 
     def begin(self, held: Held, identifier: str) -> None:
-        with self.changed:
-            if identifier not in held.over and not held.has(identifier):
-                self.add(held, Begin(identifier))
+        if identifier not in held.over and not held.has(identifier):
+            self.add(held, Begin(identifier))
 
     def add(self, held: Held, item: Union[Line, Begin]) -> None:
         held.next.append(item)
@@ -124,65 +120,59 @@ class InvocationReport(threading.Thread):
             return
         figures, about = self.invocations.figures_of(event), {"request": identifier}
         marks = [Mark(text, about) for text in (*self.invocations.failure_of(event), end_line(identifier))]
-        self.coming.append(Told(held, identifier, [*marks, Mark(report_line(figures), figures.members)]))
+        self.told.append(Told(held, identifier, [*marks, Mark(report_line(figures), figures.members)]))
 
     def tell(self, who: str, text: str, level: str = "info", kind: str = "up", always: bool = False,
              **members: object) -> None:
         """A line of lambda_local up: one about an invocation comes after that."""
         held = next((held for held in self.held.values() if held.name == who), None)
         if kind == "invocation" and held is not None:
-            self.coming.append(Told(held, str(members["request"]), [Mark(text, members, level, kind)]))
+            self.told.append(Told(held, str(members["request"]), [Mark(text, members, level, kind)]))
         else:
             self.log(who, text, level, kind, always, **members)
 
     def know(self) -> None:
         """All that an entry tells was told."""
-        if not self.coming:
-            return
-        with self.changed:
-            self.told += self.coming
-            self.coming = []
+        if self.told:
             self.news.set()
 
-    # ---- its thread --------------------------------------------------------------------------------------------------
+    # ---- its task ----------------------------------------------------------------------------------------------------
 
-    def run(self) -> None:
-        while not self.is_closed:
-            self.news.wait()
-            if not self.is_closed:
-                time.sleep(REST)
+    async def run(self) -> None:
+        while not self.is_over:
+            await self.news.wait()
+            await asyncio.sleep(REST)
             self.news.clear()
             self.place()
-            with self.changed:
-                newer, self.newer = self.newer, set()
+            newer, self.newer = self.newer, set()
             for held in newer:
-                self.show(held)
+                for found in self.ready_of(held):
+                    await self.room()
+                    self.show(held, found)
+
+    async def room(self) -> None:
+        """Waits while there is little room in the log, up to PATIENCE."""
+        left = PATIENCE
+        while self.log.is_short() and left > 0 and not self.is_over:
+            left -= BETWEEN_LOOKS
+            await asyncio.sleep(BETWEEN_LOOKS)
 
     def place(self) -> None:
         """What was told gets its place: after all that the processes had written before they answered."""
-        with self.changed:
-            told, self.told = self.told, []
-            self.is_settling = bool(told)
-            self.changed.notify_all()
+        told, self.told = self.told, []
         for held in {one.held for one in told}:
             held.printed.settle()
-        with self.changed:
-            self.is_settling = False
-            for one in told:
-                one.held.put(one.identifier, one.marks)
-                self.newer.add(one.held)
+        for one in told:
+            one.held.put(one.identifier, one.marks)
+            self.newer.add(one.held)
 
-    def show(self, held: Held) -> None:
-        with self.changed:
-            ready = list(self.ready_of(held))
-            self.size -= sum(len(found.text) + OF_A_LINE for found in ready if isinstance(found, Line))
-            self.changed.notify_all()
-        for found in ready:
-            if isinstance(found, Line):
-                self.log(found.source, found.text, kind=OUTPUT)
-            else:
-                self.log(held.name, found.text, found.level, found.kind, found.kind == "platform",
-                         **{**held.members, **found.members})
+    def show(self, held: Held, found: Union[Line, Mark]) -> None:
+        if isinstance(found, Line):
+            self.size -= len(found.text) + OF_A_LINE
+            self.log(found.source, found.text, kind=OUTPUT)
+        else:
+            self.log(held.name, found.text, found.level, found.kind, found.kind == "platform",
+                     **{**held.members, **found.members})
 
     def ready_of(self, held: Held) -> Iterator[Union[Line, Mark]]:
         """What is shown next, up to the START of an invocation that waits for the end of the one before."""
@@ -196,15 +186,16 @@ class InvocationReport(threading.Thread):
             held.next.popleft()
             yield found
 
+    def stop(self) -> None:
+        """Ends its task. For any thread."""
+        self.is_over = True
+        self.news.set()
+
     def close(self) -> None:
         """Once all has ended: shows all that is left."""
-        with self.changed:
-            self.is_closed = True
-            self.changed.notify_all()
-        self.news.set()
-        if self.ident is not None:
-            self.join(PATIENCE)
-        self.know()
+        self.is_closed = True
         self.place()
         for held in self.held.values():
-            self.show(held)
+            for found in self.ready_of(held):
+                self.log.wait_for_room()
+                self.show(held, found)

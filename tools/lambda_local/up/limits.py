@@ -1,6 +1,5 @@
 """What Lambda would have done: a line about a function that goes beyond one of Lambda's limits which do not end it
 here, or comes near to one that does; one for each function and each limit."""
-import threading
 import time
 from typing import Dict, Mapping, NamedTuple, Optional, Sequence, Set, Tuple
 
@@ -42,16 +41,14 @@ class Limits:
                  log: Log, patience: float = 1) -> None:
         self.functions = {function.name: function for function in functions}
         self.streaming, self.watch, self.printed, self.log, self.patience = streaming, watch, printed, log, patience
-        self.lock = threading.Lock()
         self.told: Set[Tuple[str, str]] = set()
         self.quiet: Dict[int, Quiet] = {}
         self.measured: Dict[int, Measured] = {}
 
     def warn(self, function: str, limit: str, text: str, where: Optional[Environment] = None) -> None:
-        with self.lock:
-            if (function, limit) in self.told:
-                return
-            self.told.add((function, limit))
+        if (function, limit) in self.told:
+            return
+        self.told.add((function, limit))
         place = {} if where is None else {"environment": where.place}
         self.log(where.name if where else function, text, "warning", "limit", False, function=function, limit=limit,
                  **place)
@@ -81,18 +78,18 @@ class Limits:
 
     # ---- what is looked at -------------------------------------------------------------------------------------------
 
-    def look(self) -> None:
+    async def look(self) -> None:
         for number, here in self.watch.life.environments.items():
             if self.printed[number].starts:  # (else it is not started, or not by this tool)
                 function = self.functions[here.function]
                 self._look_at_init(here, function)
                 self._look_at_memory(number, here, function)
-                self._look_at_output(number, here)
+                await self._look_at_output(number, here)
 
-    def look_at_the_end(self) -> None:
+    async def look_at_the_end(self) -> None:
         """While the processes are still there."""
         self.measured.clear()
-        self.look()
+        await self.look()
 
     def _look_at_init(self, here: Environment, function: Function) -> None:
         starts, asked = self.printed[here.number].starts, here.generation.asked
@@ -123,7 +120,7 @@ class Limits:
     def _is_at_rest(self, here: Environment) -> bool:
         return here.here.phase.name == IDLE and here.generation.deliveries > 0 and not here.generation.closes
 
-    def _look_at_output(self, number: int, here: Environment) -> None:
+    async def _look_at_output(self, number: int, here: Environment) -> None:
         """What a runtime prints while all of its environment has asked for the next invocation. Before that, it may
         work after its response on Lambda too."""
         if self.is_told(here.function, "frozen"):
@@ -139,7 +136,7 @@ class Limits:
         line = next((line for line in printed.since(quiet.place) if line.source == here.name and line.text), None)
         if line is None:
             return
-        self.watch.refresh()  # (an invocation that had begun, or an end, is known now)
+        await self.watch.refreshed()  # (an invocation that had begun, or an end, is known now)
         if self._is_at_rest(here) and self._work(here) == work:
             said = line.text.rpartition("\t")[2] or line.text  # (behind the moment, the identifier and the level)
             self.warn(here.function, "frozen", f"it printed {shown(said)} after its response, while no invocation "

@@ -1,7 +1,8 @@
 """The lines of lambda_local up on standard error: who says it and when, as text or as JSON.
 
 What reads them may be slow, or may not read at all. Whoever has a line puts it into a queue, which is bounded, and a
-thread writes. Without room, a line is left out and counted, and the log says so once there is room."""
+thread writes. While there is little room, no more is read of what processes print. Without room, a line is left out and
+counted, and the log says so once there is room."""
 import json
 import os
 import select
@@ -19,7 +20,8 @@ COLOURS = {"error": "31", "warning": "33", "ok": "32"}
 NAMES = ("36", "35", "34", "96", "95", "94")  # by turns, so that functions can be distinguished
 MOST_WAITING = 4 << 20  # bytes of lines that wait to be written
 AT_ONCE = 64 << 10  # bytes, in one write
-PATIENCE = 1.0  # seconds: as long a process that prints waits for room, and as long an end waits for a reader
+ROOM = 2 << 20  # bytes of them that are left for a piece of what a process prints
+PATIENCE = 1.0  # seconds: as long a process that prints waits for a reader, and as long an end waits for it
 LAST_SECONDS = 10.0  # of an end, for a reader that is slow
 
 
@@ -36,14 +38,21 @@ class Writer(threading.Thread):
         self.left_out = self.bytes_left_out = 0
         self.is_closed = self.is_broken = False
 
-    def put(self, line: bytes, note: "Note", seconds: float = 0.0) -> None:
-        """Takes a line if there is room, which is waited for at most so long, while the reader still reads. `note`
-        makes the line that says how many were left out before this one."""
+    @property
+    def is_short(self) -> bool:
+        """Whether there is little room, and the reader still reads: what processes print is to wait."""
+        return self.size > MOST_WAITING - ROOM and not self.is_closed and time.monotonic() < self.moved + PATIENCE
+
+    def wait_for_room(self, seconds: float) -> None:
+        """Waits while it is short, at most so long."""
         end = time.monotonic() + seconds
         with self.changed:
-            while (self.size + len(line) > MOST_WAITING and self.size and not self.is_closed
-                   and (left := min(end, self.moved + PATIENCE) - time.monotonic()) > 0):
+            while self.is_short and (left := min(end, self.moved + PATIENCE) - time.monotonic()) > 0:
                 self.changed.wait(left)
+
+    def put(self, line: bytes, note: "Note") -> None:
+        """Takes a line if there is room. `note` makes the line that says how many were left out before this one."""
+        with self.changed:
             if self.is_closed or self.is_broken:
                 return
             if self.size and self.size + len(line) > MOST_WAITING:
@@ -142,11 +151,18 @@ class Log:
 
     def __call__(self, who: str, text: str, level: str = "info", kind: str = "up", always: bool = False,
                  **members: object) -> None:
-        """`level` is "info", "ok", "warning" or "error"; `members` are those of a line's object in JSON alone. Only a
-        line that a process wrote waits for room, since nothing else waits for the thread that has it."""
+        """`level` is "info", "ok", "warning" or "error"; `members` are those of a line's object in JSON alone."""
         if self.quiet and level in ("info", "ok") and kind != OUTPUT and not always:
             return
-        self.writer.put(self.line(who, text, level, kind, members), self.note, PATIENCE if kind == OUTPUT else 0.0)
+        self.writer.put(self.line(who, text, level, kind, members), self.note)
+
+    def wait_for_room(self) -> None:
+        """For a thread that has a line of a process: waits while there is little room, up to PATIENCE."""
+        self.writer.wait_for_room(PATIENCE)
+
+    def is_short(self) -> bool:
+        """Whether there is little room for more of what processes print, which is to wait."""
+        return self.writer.is_short
 
     def line(self, who: str, text: str, level: str, kind: str, members: Dict[str, object]) -> bytes:
         now = time.time()

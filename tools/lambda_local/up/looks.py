@@ -1,9 +1,8 @@
 """What lambda_local up looks at after the account has changed, and otherwise now and then: what environments need, and
 how much room and memory are left."""
 import http.client
-import threading
 import time
-from typing import Callable, List, NamedTuple
+from typing import Awaitable, Callable, List, NamedTuple, Optional
 
 from . import memory
 from .supervised import told
@@ -16,32 +15,31 @@ NOW_AND_THEN = 0.2  # seconds
 class Hook(NamedTuple):
     """What is done at each look; `task` completes "could not .."."""
     task: str
-    run: Callable[[], None]
+    run: Callable[[], Optional[Awaitable[None]]]
 
 
-class Looks(threading.Thread):
-    def __init__(self, watch: Watch, stopping: threading.Event) -> None:
-        super().__init__(name="looks", daemon=True)
-        self.watch, self.stopping = watch, stopping
+class Looks:
+    def __init__(self, watch: Watch) -> None:
+        self.watch = watch
         self.most = watch.service.configuration.get("maxEntries", 1_000_000)
         self.hooks: List[Hook] = []
         self.between = 0.1  # seconds from one look to the next at least
         self.look_at = 0.0
 
-    def run(self) -> None:
-        while not self.stopping.wait(self.between):
-            self.watch.has_news.wait(NOW_AND_THEN)
+    async def run(self) -> None:
+        while not await self.watch.over.wait(self.between):
+            await self.watch.has_news.wait(NOW_AND_THEN)
             self.watch.has_news.clear()
             self._look_at_memory()
-            with self.watch.lock:
-                self.watch.lines.tell_throttled()
-                self._look_at_room()
+            self.watch.lines.tell_throttled()
+            self._look_at_room()
             for hook in self.hooks:
-                self._call(hook)
+                await self._call(hook)
 
-    def _call(self, hook: Hook) -> None:
+    async def _call(self, hook: Hook) -> None:
         try:
-            hook.run()
+            if (work := hook.run()) is not None:
+                await work
         except (OSError, http.client.HTTPException):
             pass  # (a service that has just ended answers no one)
         except Exception as fault:
@@ -49,7 +47,7 @@ class Looks(threading.Thread):
 
     def _look_at_room(self) -> None:
         """Room for a stop is kept back: each environment may expire before it, and once more at it."""
-        count, kept = self.watch.running.next, 2 * (len(self.watch.life.environments) + 1)
+        count, kept = self.watch.following.next, 2 * (len(self.watch.life.environments) + 1)
         if count > self.most - kept:
             self.watch.warn("full", f"the history is full ({count} entries): every call is answered 500 `Journal is "
                                     "full`; stop, or write a higher maxEntries into UP.json", "error")

@@ -1,16 +1,22 @@
 """What a process prints, in lines of a bounded length."""
 import array
+import asyncio
 import codecs
 import fcntl
 import os
-import select
 import termios
-import threading
 import time
-from typing import Callable, List, Protocol, Tuple
+from typing import Callable, List, Optional, Protocol, Tuple
+
+from .bell import settle
 
 LONGEST_LINE = 256 << 10  # characters; a longer line is written in parts of that length (as Lambda's log does)
-AT_ONCE = 64 << 10  # bytes
+AT_ONCE = 64 << 10  # bytes of a stream
+PIECE = 8 << 10  # bytes that a loop reads at once: lines of them fit into the room that there is
+SOME = 256  # bytes of them that are taken between two looks at the time
+SLICE = 0.002  # seconds
+PATIENCE = 1.0  # seconds: as long a process that prints waits for room
+BETWEEN_LOOKS = 0.01  # seconds, for room
 OF_IDENTIFIER = 36  # characters of an invocation's, after a mark
 
 
@@ -103,57 +109,86 @@ def read_lines(stream: Readable, take: Callable[[str], None]) -> None:
     splitter.feed(b"")
 
 
-class Reader(threading.Thread):
-    """Reads what comes from a pipe, as it comes, until its end."""
+class Pace:
+    """Of all readers of a loop: what is printed takes up to half of its time, in turns of SLICE seconds."""
 
-    def __init__(self, descriptor: int, splitter: Splitter, name: str):
-        super().__init__(name=name, daemon=True)
-        self.descriptor, self.splitter = descriptor, splitter
-        self.lock = threading.Lock()  # held while it reads, and while what was read is taken
-        self.is_over = False
+    def __init__(self) -> None:
+        self.free = 0.0  # from when on the next may take its turn
+
+
+class Reader:
+    """Reads what comes from a pipe, as it comes, until its end, in the running loop. While there `is_short` of room for
+    more, whoever prints waits, up to PATIENCE for each piece."""
+
+    def __init__(self, descriptor: int, splitter: Splitter, is_short: Callable[[], bool], pace: Pace) -> None:
+        self.descriptor, self.splitter, self.is_short, self.pace = descriptor, splitter, is_short, pace
+        self.ahead = b""  # what was read and not taken
+        self.loop = asyncio.get_running_loop()
+        self.over: "asyncio.Future[None]" = self.loop.create_future()  # done once all was read
+        self.short_since: Optional[float] = None
         os.set_blocking(descriptor, False)
+        self.loop.add_reader(descriptor, self._come)
 
-    def run(self) -> None:
-        waiting = select.poll()
-        waiting.register(self.descriptor, select.POLLIN)
-        while not self.is_over:
-            waiting.poll()
-            with self.lock:
-                self._read()
+    def _come(self) -> None:
+        now = self.loop.time()
+        if (rest := max(self.pace.free - now, BETWEEN_LOOKS if self._waits(now) else 0.0)) > 0:
+            return self._pause(rest)
+        if not self.ahead and self._read() == 0:
+            self.splitter.feed(b"")
+            self.loop.remove_reader(self.descriptor)
+            os.close(self.descriptor)
+            return settle(self.over, None)
+        while self.ahead and self.loop.time() - now < SLICE:
+            self._take()
+        took = self.loop.time() - now
+        self.pace.free = now + 2 * took
+        if self.ahead:  # (nothing may come any more)
+            self._pause(took)
+
+    def _pause(self, seconds: float) -> None:
+        self.loop.remove_reader(self.descriptor)
+        self.loop.call_later(seconds, self._go_on)
+
+    def _waits(self, now: float) -> bool:
+        if not self.is_short():
+            self.short_since = None
+            return False
+        if self.short_since is None:
+            self.short_since = now
+        if now - self.short_since < PATIENCE:
+            return True
+        self.short_since = now
+        return False
+
+    def _go_on(self) -> None:
+        if not self.over.done():
+            self.loop.add_reader(self.descriptor, self._come)
+            if self.ahead:
+                self._come()
 
     def settle(self, cuts: bool = False) -> Tuple[float, str]:
         """Takes all that was written by now; what has come of the line that is not whole yet, and since when. If it
         cuts, that is a line as well."""
-        with self.lock:
-            left = 0 if self.is_over else self._unread()
-            while left > 0 and (count := self._read()):
-                left -= count
-            if cuts:
-                self.splitter.cut()
-            return self.splitter.unfinished
+        left = 0 if self.over.done() else len(self.ahead) + self._unread()
+        while left > 0 and (self.ahead or self._read() > 0):
+            left -= self._take()
+        if cuts:
+            self.splitter.cut()
+        return self.splitter.unfinished
 
-    @property
-    def is_settled(self) -> bool:
-        """Whether all that was written by now has been taken, in whole lines. Does not wait: if it is not known, it is
-        not."""
-        if not self.lock.acquire(blocking=False):
-            return False
-        try:
-            return (self.is_over or self._unread() == 0) and not self.splitter.unfinished[1]
-        finally:
-            self.lock.release()
+    def _take(self) -> int:
+        """Takes some of what was read; how many bytes."""
+        some, self.ahead = self.ahead[:SOME], self.ahead[SOME:]
+        self.splitter.feed(some)
+        return len(some)
 
     def _read(self) -> int:
-        """How many bytes it took."""
+        """How many bytes it has read: 0 at the end, and less if nothing is here."""
         try:
-            data = os.read(self.descriptor, AT_ONCE)
+            self.ahead = os.read(self.descriptor, PIECE)
         except BlockingIOError:  # (`settle` has taken it)
-            return 0
-        self.splitter.feed(data)
-        if not data:
-            self.is_over = True
-            os.close(self.descriptor)
-        return len(data)
+            return -1
+        return len(self.ahead)
 
     def _unread(self) -> int:
         """How many bytes wait in the pipe."""

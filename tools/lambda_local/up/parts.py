@@ -1,6 +1,7 @@
 """The parts of a run of lambda_local up, in the order in which they are made: the functions, what is in front of them,
 the service, what follows it, the environments, the sources of events."""
 import argparse
+import asyncio
 import functools
 import os
 import signal
@@ -14,11 +15,12 @@ from ..event_sources.sources import Sources, prepare
 from ..front import asynchronous
 from ..front.front import Front
 from ..front.outbox import Outbox
-from ..guard import GUARD
+from ..guard import GUARD, Channel
 from ..service import Fault, Service
 from ..telemetry.sidecars import Sidecars
 from . import patience, surroundings
 from .attached import Attached
+from .bell import hear
 from .closer import Closer
 from .environments import Environment
 from .invocation_lines import Line, Printed
@@ -32,6 +34,7 @@ from .members import load
 from .project import Project, project_by
 from .queues import pollers_of
 from .refused_calls import RefusedCalls
+from .rejected import Rejected
 from .reload import Reload
 from .restarts import Restarts
 from .run import Run
@@ -39,6 +42,7 @@ from .scaling import BETWEEN_LOOKS, Scaling
 from .schedules import Schedules
 from .sources import queues_of, refuse_aws
 from .supervised import Supervisor
+from .tasks import Tasks
 from .troubles import Troubles
 from .unnamed import Unnamed
 from .watch import Watch
@@ -60,6 +64,8 @@ class Parts:
         self.ending = threading.Event()  # no further event is to be made
         self.signals, self.signal_number, self.kills_at = 0, 0, 2
         self.supervisor = Supervisor(log, self.happened.set)
+        self.loop = asyncio.new_event_loop()
+        GUARD.follow = self.hear_guard
         GUARD.adopt_orphans(self.guard_lost)
         self.has_guard = True
         if options.storm and options.debug:
@@ -96,9 +102,11 @@ class Parts:
                                                        if function.init)])
         drain = options.patient * DRAIN_SECONDS if options.drain is None else options.drain
         outbox = Outbox(options.keep_credentials) if self.sends_on else None
-        self.front = Front(self.settings, options.up, drain, self.log, outbox)
+        self.front = Front(self.settings, options.up, drain, self.log, outbox, self.loop)
+        self.tasks = Tasks(self.loop, self.supervisor.broken, self.is_short)
         self.streaming = {name for name, address in self.settings.urls.items() if address.streams}
-        self.sidecars = Sidecars(self.functions, self.streaming, options.up, self.log, options.report, self.relay_lost)
+        self.sidecars = Sidecars(self.functions, self.streaming, options.up, self.log, options.report, self.relay_lost,
+                                 functools.partial(hear, self.loop))
 
     def start_service(self, configuration: Members) -> None:
         options, log = self.options, self.log
@@ -108,18 +116,18 @@ class Parts:
         for number in (signal.SIGTERM, signal.SIGINT, signal.SIGHUP):
             signal.signal(number, self.signalled)
         self.service = Service(configuration, options.program, lambda line: log("service", line, kind="service"),
-                               options.up, patience.of_service(options.patient))
+                               options.up, patience.of_service(options.patient), self.hear_service)
         self.is_served = True
 
     def follow_service(self) -> None:
         """Makes what follows the service's entries: lines, logs of invocations, limits."""
         log, options = self.log, self.options
-        self.watch = Watch(self.service, log)
+        self.watch = Watch(self.service, log, self.loop)
         self.clock_file = os.path.join(self.service.folder, "clock")
         self.watch.clock.share(self.clock_file)
         if any(function.debug for function in self.functions):
             self.watch.clock.pause()
-        self.looks = Looks(self.watch, self.stopping)
+        self.looks = Looks(self.watch)
         self.printed = {number: Printed() for number in self.watch.life.environments}
         self.invocations = self.make_invocations()
         self.watch.followers.append(self.invocations.take)
@@ -142,6 +150,8 @@ class Parts:
         self.watch.takers.append(self.sidecars.pairing(self.front.call).take)
         self.refused = RefusedCalls(self.service.configuration, self.sidecars, self.sidecars.tell)
         self.watch.takers.append(self.refused.take)
+        self.rejected = Rejected(self.service, self.sidecars, self.watch.life.environments, self.log)
+        self.looks.hooks.append(Hook("tell what the service has refused", self.rejected.look))
 
     def look_after_environments(self) -> None:
         """Says what is looked at again and again while the environments run."""
@@ -149,7 +159,7 @@ class Parts:
         troubles.look_after(self.environments)
         if gate := self.front.gate:
             self.service.through = self.front.invoke_port
-            troubles.still, troubles.sent = functools.partial(gate.still, self.front.loop), gate.unanswered
+            troubles.still, troubles.sent = functools.partial(gate.still, self.loop), gate.unanswered
         self.front.port.trouble = troubles.order
         self.watch.followers.append(troubles.take)
         self.closer.environments += self.environments
@@ -168,9 +178,9 @@ class Parts:
             self.looks.between = BETWEEN_LOOKS
 
     def make_threads(self) -> None:
-        """Makes the threads that run until the end, and those that read sources of events."""
+        """Makes the threads that run until the end beside the loop, and those that read sources of events."""
         options, log, functions = self.options, self.log, self.settings.functions
-        self.threads: List[threading.Thread] = [self.watch, self.looks, *self.environments]
+        self.threads: List[threading.Thread] = []
         self.clients = surroundings.Clients(log, self.stopping)
         self.schedules = Schedules(list(functions), self.service, self.watch.clock, self.ending, log)
         self.event_sources = Sources(self.positions, functions, self.service, self.watch.clock,
@@ -180,6 +190,10 @@ class Parts:
             *self.event_sources.threads]
         if options.reload:
             self.threads.append(Reload(self.environments, self.service, self.stopping, log, self.project.watched))
+
+    def is_short(self) -> bool:
+        """Whether there is little room for more of what processes print."""
+        return self.report.is_short() if self.report else self.log.is_short()
 
     def show(self, line: Line) -> None:
         """A line that a process printed."""
@@ -203,7 +217,7 @@ class Parts:
 
     def make_report(self, invocations: Invocations) -> InvocationReport:
         """With --report, what environments print goes through it; else it is shown as it comes."""
-        report = InvocationReport(invocations, self.log)
+        report = InvocationReport(invocations, self.log, self.loop)
         for number, here in self.watch.life.environments.items():
             report.hold(number, here.name, here.function, here.place, self.printed[number])
         self.watch.followers.append(report.take)
@@ -239,7 +253,7 @@ class Parts:
                                                             {**self.front.variables(), **own})
                     restarts = Restarts(self.options.reload)
                     yield Environment(self.service, self.watch, function, number, port, variables, restarts,
-                                      self.stopping, self.log, self.printed[number], self.sidecars)
+                                      self.stopping, self.log, self.printed[number], self.sidecars, self.tasks)
 
     def signalled(self, number: int, _frame: object) -> None:
         if not self.is_served:  # it is being built, or does not listen yet: nothing has to end in order
@@ -249,8 +263,21 @@ class Parts:
             self.kills_at = 3  # (the second one is for the command)
         self.happened.set()
         if self.signals >= self.kills_at and self.service.process.poll() is None:
-            # (it ends, and with it each environment's thread, which kills its processes)
+            # (it ends, and with it each environment's task, which kills its processes)
             self.service.process.kill()
+
+    def hear_service(self, service: Service) -> None:
+        """Has the loop take what the service says once it listens."""
+        def come() -> bool:
+            if service.come():
+                return True
+            service.close_said()
+            return False
+        hear(self.loop, service.said.fileno(), come)
+
+    def hear_guard(self, channel: Channel) -> None:
+        """Has the loop take what the guard says."""
+        hear(self.loop, channel.socket.fileno(), channel.come)
 
     def guard_lost(self) -> None:
         """The guard has been killed: all that it had started is below this process now, and ends with it."""

@@ -1,7 +1,6 @@
 """Processes of one environment, in what each of which an invocation's lines begin at a mark of its own. Each prints the
 same marks, in one order; how far it has been read is another matter. So what one prints after a mark is held until all
 have come to theirs: the division is one for all, and each line on its right side."""
-import threading
 from collections import deque
 from typing import Callable, Deque, Dict, NamedTuple, Union
 
@@ -23,42 +22,37 @@ class Passing:
 
     def __init__(self, take: Callable[[str, str], None], divide: Callable[[str], None]):
         self.take_now, self.divide = take, divide
-        self.lock = threading.RLock()
         self.held: Dict[str, Items] = {}  # of each process that is there, from a mark on
         self.size = 0
         self.forced: Deque[Mark] = deque(maxlen=MOST_FORCED)  # not waited for, so another process comes to it later
 
     def add(self, name: str) -> None:
-        with self.lock:
-            self.held[name] = deque()
+        self.held[name] = deque()
 
     def remove(self, name: str) -> None:
         """It has ended, and all its lines were taken."""
-        with self.lock:
-            while self.held.get(name):
-                self._force(name)
-            self.held.pop(name, None)
-            self._go_on()
+        while self.held.get(name):
+            self._force(name)
+        self.held.pop(name, None)
+        self._go_on()
 
     def take(self, name: str, text: str) -> None:
         """A line that a process has printed."""
-        with self.lock:
-            held = self.held.get(name)
-            if not held:
-                self.take_now(name, text)
-                return
-            held.append(text)
-            self.size += len(text) + OF_A_LINE
-            while self.size > MOST_HELD:
-                self._force(max(self.held, key=lambda each: len(self.held[each])))
+        held = self.held.get(name)
+        if not held:
+            self.take_now(name, text)
+            return
+        held.append(text)
+        self.size += len(text) + OF_A_LINE
+        while self.size > MOST_HELD:
+            self._force(max(self.held, key=lambda each: len(self.held[each])))
 
     def passes(self, name: str, identifier: str) -> None:
         """What this one prints from now on is this invocation's."""
-        with self.lock:
-            mark, held = Mark(identifier), self.held.setdefault(name, deque())
-            if held or mark not in self.forced:
-                held.append(mark)
-                self._go_on()
+        mark, held = Mark(identifier), self.held.setdefault(name, deque())
+        if held or mark not in self.forced:
+            held.append(mark)
+            self._go_on()
 
     def _go_on(self) -> None:
         """As far as all have come."""

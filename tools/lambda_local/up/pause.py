@@ -1,26 +1,29 @@
 """What callers hear of an environment that waits before it is started again."""
+import asyncio
 import contextlib
-import threading
-from typing import Callable, Iterable, Iterator, Optional, Set
+from typing import AsyncIterator, Awaitable, Callable, Iterable, Optional, Set
+
+from .bell import Bell
 
 
 class Pause:
-    """In it each caller hears at once what was reported last."""
+    """In it each caller hears at once what was reported last. `hurry` ends it before its time."""
 
-    def __init__(self) -> None:
+    def __init__(self, hurry: Bell) -> None:
         self.last_report = b"{}"
-        self.hurry = threading.Event()  # it is over before its time
-        self.lock = threading.Lock()
+        self.hurry = hurry
         self.report: Optional[bytes] = None  # what callers hear; none outside a pause
         self.answered: Set[int] = set()
+        self.answering_now: "Optional[asyncio.Future[None]]" = None  # while a caller is answered
 
-    @contextlib.contextmanager
-    def answering(self) -> Iterator[threading.Event]:
-        """While this lasts, callers are answered. Gives the event by which the pause is over before its time."""
+    @contextlib.asynccontextmanager
+    async def answering(self) -> AsyncIterator[Bell]:
+        """While this lasts, callers are answered. Gives the bell by which the pause is over before its time."""
         self.report = self.last_report
         yield self.hurry
-        with self.lock:
-            self.report = None
+        self.report = None
+        if self.answering_now:
+            await asyncio.wait({self.answering_now})
 
     def was_hurried(self) -> bool:
         """Whether it was over before its time, asked once."""
@@ -28,10 +31,14 @@ class Pause:
         self.hurry.clear()
         return was_set
 
-    def answer(self, waiting: Callable[[], Iterable[int]], fail: Callable[[bytes], None]) -> None:
+    async def answer(self, waiting: Callable[[], Iterable[int]], fail: Callable[[bytes], Awaitable[None]]) -> None:
         """In a pause: if there are callers who have not been answered, `fail` is given the report for them."""
-        with self.lock:
-            callers = set(waiting()) if self.report is not None else set()
-            if self.report is not None and callers - self.answered:
-                fail(self.report)
-            self.answered = callers
+        callers = set(waiting()) if self.report is not None else set()
+        fresh, self.answered = callers - self.answered, callers
+        if self.report is not None and fresh:
+            self.answering_now = asyncio.get_running_loop().create_future()
+            try:
+                await fail(self.report)
+            finally:
+                self.answering_now.set_result(None)
+                self.answering_now = None

@@ -1,4 +1,5 @@
 """Processes of functions and extensions."""
+import asyncio
 import contextlib
 import os
 import secrets
@@ -9,12 +10,15 @@ import time
 from typing import List, Mapping, Optional, Tuple
 
 from ..executables import why_not_found, why_not_started
-from ..guard import GUARD
+from ..guard import Process as Started
 from ..telemetry.beside import Marker
+from .bell import first_of, settle
 from .invocation_lines import Printed
 from .output import MarkedSplitter, Reader, Splitter
+from .tasks import Tasks
 
 LONGEST_KILL = 2.0  # seconds until a process that was killed is gone
+LAST_SECONDS = 1.0  # for the last of what it has printed, which another may go on with
 MARK = "LAMBDA_LOCAL_MARK"  # what a bundled runtime prints before an invocation, after a NUL
 
 
@@ -25,17 +29,25 @@ def program_of(word: str, directory: str) -> str:
 
 class Process:
     """A process in a session of its own, whose lines `printed` takes under its name. One that `marks` is a bundled
-    runtime, which prints where the lines of an invocation begin; in what any other prints, a `marker` may do that."""
+    runtime, which prints where the lines of an invocation begin; in what any other prints, a `marker` may do that. It
+    is of the loop in which it is made, and no other thread calls what waits."""
 
-    def __init__(self, name: str, words: List[str], directory: str, variables: Mapping[str, str], printed: Printed,
-                 forks: bool = False, marks: bool = False, marker: Optional[Marker] = None):
-        self.name, self.printed, self.begun = name, printed, time.monotonic()
-        self.marker, self.marked = marker, 0
-        splitter, mark = Splitter(lambda line: printed.take(name, line)), secrets.token_hex(16)
-        if marks:
+    def __init__(self, name: str, tasks: Tasks, printed: Printed, marks: bool = False,
+                 marker: Optional[Marker] = None) -> None:
+        self.name, self.tasks, self.printed, self.begun = name, tasks, printed, time.monotonic()
+        self.marks, self.marker, self.marked = marks, marker, 0
+        self.pid, self.handle = 0, -1  # until it is started
+        self.started: Started
+        self.gone: "asyncio.Future[None]" = asyncio.get_running_loop().create_future()  # done once it has ended
+
+    async def start(self, words: List[str], directory: str, variables: Mapping[str, str], forks: bool = False) -> None:
+        """OSError if it cannot be; then nothing is left of it."""
+        name, printed, mark = self.name, self.printed, secrets.token_hex(16)
+        splitter = Splitter(lambda line: printed.take(name, line))
+        if self.marks:
             variables = {**variables, MARK: mark}
             splitter = MarkedSplitter(splitter.take, printed.divide, b"\0" + mark.encode())
-        elif marker:
+        elif self.marker:
             passing = printed.passing
             splitter = MarkedSplitter(lambda line: passing.take(name, line),
                                       lambda identifier: passing.passes(name, identifier), b"\0" + mark.encode())
@@ -43,75 +55,81 @@ class Process:
         if not shutil.which(program):
             raise FileNotFoundError(f"{words[0]} {why_not_found(program) or 'is not a program (any more)'}")
         reading, writing = os.pipe()
-        # (before it is started: it may have answered an invocation before this thread goes on)
-        self.pid = 0
-        self.reader = Reader(reading, splitter, f"output of {name}")
-        self.reader.start()
+        # (before it is started: it may have answered an invocation before this task goes on)
+        self.reader = Reader(reading, splitter, self.tasks.is_short, self.tasks.pace)
         printed.add(self)
         try:
-            if marker:
+            if self.marker:
                 printed.passing.add(name)
-                self.marked = marker.begins(writing, mark)
-            self.started = GUARD.start([program, *words[1:]], directory, variables, writing, forks)
+                self.marked = self.marker.begins(writing, mark)
+            self.started = await self.tasks.guarded.start([program, *words[1:]], directory, variables, writing, forks)
             self.pid = self.started.pid
-            self.handle = self._handle()
+            await self._watch()
         except OSError as fault:
-            self._leave(0.0)
+            os.close(writing)
+            writing = -1
+            await self._leave(0.0)
             raise OSError(f"{words[0]} {why_not_started(shutil.which(program) or program, fault)}") from None
         finally:
-            os.close(writing)
+            if writing >= 0:
+                os.close(writing)
 
-    def _leave(self, seconds: float = 1.0) -> None:
+    async def _watch(self) -> None:
+        try:
+            self.handle = os.pidfd_open(self.pid)
+        except OSError:
+            await self.tasks.guarded.kill(self.started)
+            raise
+        asyncio.get_running_loop().add_reader(self.handle, self._note_end)
+
+    def _note_end(self) -> None:
+        asyncio.get_running_loop().remove_reader(self.handle)
+        settle(self.gone, None)
+
+    async def _leave(self, seconds: float = LAST_SECONDS) -> None:
         """It has ended. (The marker, which has its pipe open, is notified first.)"""
         if self.marker:
             self.marker.ended(self.marked)
-        self.reader.join(seconds)
+        await first_of([self.reader.over], seconds)
         self.printed.passing.remove(self.name)
         self.printed.remove(self)
-
-    def _handle(self) -> int:
-        try:
-            return os.pidfd_open(self.pid)
-        except OSError:
-            self.started.kill()
-            raise
 
     def settle(self, cuts: bool = False) -> Tuple[float, str]:
         """Takes what it has printed by now; what has come of the line that is not whole yet, and since when. If it
         cuts, that is a line as well."""
         return self.reader.settle(cuts)
 
-    @property
-    def is_settled(self) -> bool:
-        """Whether all that it has printed by now has been taken, in whole lines, so far as is known without waiting."""
-        return self.reader.is_settled
-
-    def ended(self, seconds: float = 0.0) -> bool:
-        """Whether it ends within this many seconds."""
+    def has_ended(self) -> bool:
         waiting = select.poll()
         waiting.register(self.handle, select.POLLIN)
-        return bool(waiting.poll(max(0, seconds) * 1000))
+        return bool(waiting.poll(0))
 
-    def status(self) -> int:
+    async def ended(self, seconds: float) -> bool:
+        """Whether it ends within this many seconds."""
+        await first_of([self.gone], seconds)
+        return self.gone.done()
+
+    async def status(self) -> int:
         """The status of a process that has ended."""
-        return self.started.status()
+        return await self.tasks.guarded.status(self.started)
 
-    def kill(self) -> None:
+    async def kill(self) -> None:
         """Kills its group at once; its status says so."""
         with contextlib.suppress(ProcessLookupError, PermissionError):
-            os.killpg(self.started.pid, signal.SIGKILL)
-        self.ended(LONGEST_KILL)
+            os.killpg(self.pid, signal.SIGKILL)
+        await self.ended(LONGEST_KILL)
 
-    def end(self, seconds: float = 0.0) -> None:
+    async def end(self, seconds: float = 0.0) -> None:
         """Asks it to end if there is time for it; then its whole group is killed, with all below it."""
-        if seconds > 0 and not self.ended():
+        if seconds > 0 and not self.has_ended():
             with contextlib.suppress(ProcessLookupError, PermissionError):
-                os.killpg(self.started.pid, signal.SIGTERM)
-            self.ended(seconds)
+                os.killpg(self.pid, signal.SIGTERM)
+            await self.ended(seconds)
         self.printed.measure()
-        self.started.kill()
+        await self.tasks.guarded.kill(self.started)
+        asyncio.get_running_loop().remove_reader(self.handle)
         os.close(self.handle)
-        self._leave()
+        await self._leave()
 
 
 def reason_of(status: int, who: str = "Runtime") -> str:

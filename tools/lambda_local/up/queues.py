@@ -6,7 +6,6 @@ import http.client
 import json
 import sys
 import threading
-import time
 from typing import Any, Dict, Iterator, List, NamedTuple, Optional
 from urllib.parse import urlsplit
 

@@ -3,7 +3,8 @@ while without work."""
 from typing import Dict, Iterable, Tuple
 
 from .. import life
-from ..service import Service, ask
+from ..service import Service
+from .asking import ask
 from .environments import Environment
 from .watch import Watch
 
@@ -20,7 +21,7 @@ class Scaling:
         self.watch, self.service = watch, service
         self.last: Dict[Environment, Tuple[Work, int]] = {}  # and since which moment
 
-    def look(self) -> None:
+    async def look(self) -> None:
         now = self.watch.clock.now()
         for environment in self.environments:
             here = self.watch.environment(environment.number)
@@ -29,15 +30,16 @@ class Scaling:
                 if here.is_bound:
                     environment.begin()
             elif here.generation.is_ready:
-                self.look_at_idle(environment, here, now)
+                await self.look_at_idle(environment, here, now)
 
-    def look_at_idle(self, environment: Environment, here: life.Environment, now: int) -> None:
+    async def look_at_idle(self, environment: Environment, here: life.Environment, now: int) -> None:
         """One that had no work for long enough is spun down; if it works just now, the service refuses (409)."""
         work = (here.generation, here.generation.deliveries)
         seen, since = self.last.get(environment, (None, now))
-        if seen != work or not self.watch.clock.reached(since + 1000 * (environment.function.idle or 0)):
+        if seen != work or not await self.watch.clock.reached_later(
+                since + 1000 * (environment.function.idle or 0)):
             self.last[environment] = (work, since if seen == work else now)
             return
         self.last[environment] = (work, now)
-        if ask(self.service.port, "POST", f"/_local/env/{environment.number}/spindown")[0] == 202:
+        if (await ask(self.service.port, "POST", f"/_local/env/{environment.number}/spindown"))[0] == 202:
             environment.say(f"stopping: idle for {environment.function.idle} s")

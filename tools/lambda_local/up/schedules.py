@@ -1,6 +1,5 @@
 """The schedules of functions: each sends its event when it is due (EventBridge User Guide, "Creating a rule that runs
 on a schedule"), as an asynchronous invocation."""
-import http.client
 import json
 import threading
 import uuid
@@ -9,7 +8,7 @@ from typing import Any, Dict, List, NamedTuple, Optional
 from urllib.parse import urlsplit
 
 from ..clock.followed import Clock
-from ..service import ask
+from .asking import ask
 from .log import Log
 from .sources import Schedule, schedules_of
 
@@ -67,24 +66,24 @@ class Schedules:
             due = Due(moment, function, schedule)
             self.clock.at(round(1000 * moment.timestamp()), lambda: self.come(due))
 
-    def come(self, due: Due) -> None:
+    async def come(self, due: Due) -> None:
         """It is due, or has been: what was due again meanwhile, as while the machine slept or in an advance, is sent
         once."""
         if self.stopping.is_set():
             return
-        self.fire(due)
+        await self.fire(due)
         following, now = due.schedule.expression.next_after(due.moment), moment_of(self.clock.now())
         is_late = following is not None and following <= now
         self.note(due.function, due.schedule, max(due.moment, now) if is_late else due.moment)
 
-    def fire(self, due: Due) -> None:
+    async def fire(self, due: Due) -> None:
         payload = event_of(due.function, due.schedule, self.service.configuration, due.moment)
         path = f"/2015-03-31/functions/{due.function}/invocations"
         status: Optional[int] = None
         try:
-            status, headers, body = ask(urlsplit(self.service.endpoint_url).port, "POST", path, payload,
-                                        {"X-Amz-Invocation-Type": "Event"})
-        except (OSError, http.client.HTTPException) as fault:
+            status, headers, body = await ask(int(urlsplit(self.service.endpoint_url).port or 0), "POST", path, payload,
+                                              {"X-Amz-Invocation-Type": "Event"})
+        except OSError as fault:
             why = str(fault)
         if status == 202:
             self.log(due.function, f"schedule {due.schedule.text}: event {headers.get('x-amzn-requestid')}",

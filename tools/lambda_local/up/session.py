@@ -1,8 +1,10 @@
 """One run of lambda_local up: all is started, the command is run or a signal waited for, and all is stopped in
 order."""
+import asyncio
+import contextlib
 import http.client
+import os
 import signal
-import threading
 import time
 from typing import Callable, List, Optional, Sequence, Tuple, TypeVar
 
@@ -11,6 +13,7 @@ from ..outgoing import written
 from ..reports import Report
 from ..service import Fault
 from ..variables import of_callers
+from .bell import settle
 from .environments import Environment
 from .lines import Lines
 from .parts import Parts
@@ -19,6 +22,7 @@ from .supervised import BROKEN, told
 
 Given = TypeVar("Given")
 
+REPORT = "report"  # the name of its task
 SAVED = "lambda_local.history.txt"
 NAMED = 8  # environments in one line
 FAILED_STARTS = 3  # of an environment in a row, after which a command is not waited for any more
@@ -26,8 +30,30 @@ LAST_SECONDS = 20.0  # for all threads at the end
 
 
 class Session(Parts):
-    def note_end(self) -> None:
-        self.service.process.wait()
+    def begin(self) -> None:
+        """Begins the tasks, and the threads beside them."""
+        self.tasks.begin("watch", self.watch.follow())
+        self.tasks.begin("looks", self.looks.run())
+        self.tasks.begin("service", self.note_end())
+        for environment in self.environments:
+            if not environment.is_extra:  # (it is started once it is wanted)
+                environment.start()
+        if self.report:
+            self.tasks.begin(REPORT, self.report.run())
+        for thread in self.threads:
+            thread.start()
+
+    async def note_end(self) -> None:
+        """Of the service."""
+        loop = asyncio.get_running_loop()
+        with contextlib.suppress(ProcessLookupError):  # (it has ended already)
+            handle, ended = os.pidfd_open(self.service.process.pid), loop.create_future()
+            loop.add_reader(handle, settle, ended, None)
+            try:
+                await ended
+            finally:
+                loop.remove_reader(handle)
+                os.close(handle)
         self.happened.set()
 
     def wait(self) -> None:
@@ -44,10 +70,7 @@ class Session(Parts):
             self.say(self.front.gate.tally.announcement(), "warning", "storm")
         for function, text, url in self.front.addresses():
             self.say(text, kind="address", always=not self.options.command, function=function, endpoint=url)
-        for thread in [*self.threads, *([self.report] if self.report else [])]:
-            if not (isinstance(thread, Environment) and thread.is_extra):  # (it is started once it is wanted)
-                thread.start()
-        threading.Thread(target=self.note_end, daemon=True).start()
+        self.begin()
         try:
             if self.wait_until_ready():
                 for thread in (self.clients, *self.sources):
@@ -166,23 +189,25 @@ class Session(Parts):
         self.ending.set()
         self.step("letting the clock go on", self.watch.clock.go_on)
         self.step("waiting for events", lambda: self.front.drain(lambda: self.service.process.poll() is not None))
-        self.step("looking at limits", self.limits.look_at_the_end)
+        self.step("looking at limits", lambda: self.tasks.call(self.limits.look_at_the_end(), LAST_SECONDS))
         gone = self.service.process.poll() is not None
         is_saved: Optional[bool] = True
         self.step("reading the history", self.watch.refresh)
         if (self.options.history or self.options.command and failed) and not gone:
             is_saved = self.step("saving the history", self.save, False)
         self.stopping.set()
-        self.watch.wake()
+        self.watch.end()
         for environment in self.environments:
             environment.wake()
         status, counts = self.step("the stop", self.service.stop) or (4, "")
+        self.join_tasks()
         self.step("the end of the front", self.front.end)
         self.join()
         self.step("the end of streams", self.event_sources.end)
         self.step("the end of the relay", self.sidecars.end)
         self.step("the end of those that were asked for their versions", self.clients.end)
         self.refused.end()
+        self.step("telling what the service has refused", self.rejected.look)
         if self.report:
             self.step("the end of the log", self.report.close)
         if gate := self.front.gate:
@@ -198,6 +223,15 @@ class Session(Parts):
         if not self.has_guard:
             self.step("the end of all processes", end_all_below)
         return status or (0 if is_saved else 4) if status >= 0 else 4
+
+    def join_tasks(self) -> None:
+        """Waits for all tasks: the guard ends what one leaves that does not end. What they print is reported last."""
+        end = time.monotonic() + LAST_SECONDS
+        late = self.tasks.late(end, self.front.is_alive, (REPORT, ))
+        if self.report:
+            self.report.stop()
+        for name in late or self.tasks.late(end, self.front.is_alive):
+            self.say(f"the task {name} did not end in time, and was left", level="error", kind="fault")
 
     def join(self) -> None:
         """Waits for all threads: the guard ends what one leaves that does not end."""

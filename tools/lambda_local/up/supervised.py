@@ -1,4 +1,4 @@
-"""The threads of lambda_local up: one that ends by an exception is reported, and ends the run."""
+"""The threads and tasks of lambda_local up: one that ends by an exception is reported, and ends the run."""
 import os
 import threading
 import traceback
@@ -18,7 +18,8 @@ def told(fault: BaseException) -> str:
 
 
 class Supervisor:
-    """Hears of each thread of this process that an exception has ended; `when_broken` is called once for each."""
+    """Hears of each thread of this process that an exception has ended, and of tasks; `when_broken` is called once for
+    each."""
 
     def __init__(self, log: Log, when_broken: Callable[[], None]):
         self.log, self.when_broken, self.is_broken = log, when_broken, False

@@ -2,6 +2,7 @@
 runtime that exits, one that takes too long, a new environment, or one whose Init fails. The function is as it is: its
 runtimes are stopped by a signal before the invocation comes, so that none answers; or its idle environments end, and
 the next generation is held until the invocation is bound to it."""
+import asyncio
 import contextlib
 import http.client
 import os
@@ -11,7 +12,7 @@ import time
 from typing import Callable, ContextManager, Dict, Iterable, Iterator, List, Optional, Sequence, Set, Tuple
 
 from ..clock.asked import advance
-from ..history.words import CLOSING, IDLE, STARTING
+from ..history.words import BUSY, CLOSING, IDLE, STARTING
 from ..life import Begun, Ended, Event, Invocation, Throttled
 from ..service import ask
 from ..storm import COLD, CRASH, INIT, KINDS, THROTTLE, TIMEOUT, NotMade, Ordered, Progress
@@ -97,9 +98,11 @@ class Troubles:
 
     def working(self, function: str) -> int:
         self.watch.refresh()
-        with self.watch.lock:
-            return sum(invocation.function == function and invocation.delivered is not None
-                       for invocation in self.watch.life.invocations.values())
+        return self._held(function)
+
+    def _held(self, function: str) -> int:
+        return sum(invocation.function == function and invocation.delivered is not None
+                   for invocation in list(self.watch.life.invocations.values()))
 
     def arrange(self, function: str, kind: str, progress: Progress) -> Order:
         """For a storm, whose invocation comes at once."""
@@ -149,16 +152,26 @@ class Troubles:
         """Ends the idle environments of the function, and waits until their next generation is held."""
         end = time.monotonic() + ENDING_SECONDS
         try:
-            while (idle := self._in(order.function, IDLE, CLOSING)) or order.function in self._beginning():
+            while True:
+                idle = self._in(order.function, IDLE, CLOSING)
+                is_to_end = bool(idle) or order.function in self._beginning()
+                if not is_to_end and not self._is_about_to_ask(order.function):
+                    break
                 for environment in idle:
                     ask(self.watch.service.port, "POST", f"/_local/env/{environment.number}/spindown")
                 if time.monotonic() > end or self.stopping.is_set():
+                    if not is_to_end:
+                        break  # (an extension works on, after the answer)
                     raise NotMade("its environments do not end")
                 time.sleep(REST)
                 self.watch.refresh()
         except (OSError, http.client.HTTPException, NotMade) as fault:
             self.withdraw(order)
             raise NotMade(told(fault) if not isinstance(fault, NotMade) else str(fault)) from None
+
+    def _is_about_to_ask(self, function: str) -> bool:
+        """Whether one of its environments has answered: it is idle once all that is in it has asked again."""
+        return len(self._in(function, BUSY)) > self._held(function)
 
     # ---- what comes --------------------------------------------------------------------------------------------------
 
@@ -277,10 +290,10 @@ class Troubles:
             self.is_moving = False
 
     def _spares(self, deadline: int, but: Invocation) -> bool:
-        with self.watch.lock:
-            others = [one for one in self.watch.life.invocations.values() if one is not but]
-            if self.sent() > len(self.watch.life.invocations):
-                return False  # (one is on its way)
+        invocations = list(self.watch.life.invocations.values())
+        others = [one for one in invocations if one is not but]
+        if self.sent() > len(invocations):
+            return False  # (one is on its way)
         for one in others:
             timeout = self._timeout_of(one.function)
             if one.delivered is None or one.delivered + timeout - deadline < timeout / 2:
@@ -296,7 +309,7 @@ class Troubles:
 
     # ---- a new environment -------------------------------------------------------------------------------------------
 
-    def holds(self, environment: Environment) -> bool:
+    async def holds(self, environment: Environment) -> bool:
         """Before a generation begins: waits while one that is to be new, or to fail, waits for its invocation; whether
         it is bound to this environment, and is to find an Init that fails."""
         fails = False
@@ -310,5 +323,5 @@ class Troubles:
                     fails = order is not None and order.kind == INIT and is_bound
                     self.beginning.add(environment)
                     break
-            time.sleep(REST)
+            await asyncio.sleep(REST)
         return fails

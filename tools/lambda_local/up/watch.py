@@ -1,21 +1,21 @@
 """Follows what goes on in the account while lambda_local up runs: for its lines, and for what environments ask about
 themselves."""
+import asyncio
+import concurrent.futures
 import contextlib
-import http.client
-import threading
-import time
-from collections import Counter
-from typing import Callable, Counter as Counts, Iterator, List, Optional, Set
+from typing import Awaitable, Callable, List, Optional, Set
 
-from ..clock.followed import Clock
 from ..history.entries import Entry
-from ..history.running import Lost, NoDescriptor, Running
+from ..history.running import Lost, NoDescriptor
 from ..history.shapes import NotTrace
-from ..history.words import FAILURES
-from ..life import Begun, Closes, Ended, Environment, Event, Generation, Life
+from ..life import Begun, Closes, Ended, Environment, Event, Generation, Life, Reporter
 from ..service import Service
+from .asking import Answered, entries_of
+from .bell import Bell, call_soon, called, done_within, first_of, settle
+from .following import Following
 from .lines import Lines
 from .log import Log
+from .loop_clock import LoopClock
 from .supervised import told
 
 PAUSES = (0.0, 0.05, 0.1, 0.2, 0.4, 1.0)  # seconds before the service is asked again, as long as no entry comes
@@ -33,52 +33,53 @@ def what(event: Event) -> str:
     return f"a throttled invocation of {event.function}"
 
 
-class Watch(threading.Thread):
+class Watch:
     """Takes the entries as they come, until the service is Off or has ended."""
 
-    def __init__(self, service: Service, log: Log) -> None:
-        super().__init__(name="watch", daemon=True)
-        self.service, self.log = service, log
+    def __init__(self, service: Service, log: Log, loop: asyncio.AbstractEventLoop) -> None:
+        """It follows in this loop."""
+        self.service, self.log, self.loop = service, log, loop
         self.lines = Lines(log, ())
-        self.clock = Clock(service.port, lambda text: log("up", text, level="error", kind="fault"))
-        self.life, self.lock = Life(service.configuration), threading.RLock()
-        self.running = Running(service.port, len(self.life.environments), only_reports=True)
+        self.clock = LoopClock(service.port, lambda text: log("up", text, level="error", kind="fault"), loop)
+        self.life = Life(service.configuration)
+        self.following = Following(service.port, len(self.life.environments), loop,
+                                   is_awaited=lambda: bool(self.waiting))
         self.taken = 0  # entries, of all that followers were given
-        self.has_news = threading.Event()  # an entry has come, for those who look again and again
-        self.changed = threading.Condition(self.lock)  # the same, for those who wait for one
+        self.has_news = Bell(loop)  # an entry has come, for those who look again and again
+        self.waiting: "List[asyncio.Future[None]]" = []  # the same, for those who wait for one
+        self.over = Bell(loop)  # all is to end
         self.is_lost = False  # the service does not answer: it is asked again
         self.warnings: Set[str] = set()
-        self.mute: Counts[int] = Counter()  # by the numbers of environments
+        self.own: Set[Reporter] = set()  # in whose names this tool reports a failure next, which it says elsewhere
         self.takers: List[Callable[[Entry], None]] = []  # that are given each entry, before its events
         self.followers: List[Callable[[Event], None]] = []  # that are given each event
         self.readers: List[Callable[[], None]] = []  # that are notified once all events of an entry were given
 
-    def run(self) -> None:
+    async def follow(self) -> None:
         in_vain = 0
         while True:
-            before, self.is_lost = self.running.next, False
+            before, self.is_lost = self.following.next, False
             try:
-                for entry in self.running.entries():
+                while (entry := await self.following.entry()) is not None:
                     self._come(entry)
                 break
             except (Lost, NotTrace, MemoryError) as fault:
-                in_vain = 0 if self.running.next > before else min(in_vain + 1, len(PAUSES) - 1)
+                in_vain = 0 if self.following.next > before else min(in_vain + 1, len(PAUSES) - 1)
                 self._lose(fault, in_vain)
-            time.sleep(PAUSES[in_vain])
+            await asyncio.sleep(PAUSES[in_vain])
             if self.service.process.poll() is not None:
                 break
         self._lose(None, 0)
 
     def _come(self, entry: Entry) -> None:
         self.clock.note(entry.moment)
-        with self.lock:
-            for take in (*self.takers, self._take):
-                self._call(take, entry)
-            for reader in self.readers:
-                reader()
-            self.taken = entry.ticket + 1
-            self.changed.notify_all()
+        for take in (*self.takers, self._take):
+            self._call(take, entry)
+        for reader in self.readers:
+            reader()
+        self.taken = entry.ticket + 1
         self.has_news.set()
+        self._wake_tasks()
 
     def _lose(self, fault: Optional[Exception], in_vain: int) -> None:
         """No entry comes any more, or until the service has been asked again. A service that has just ended answers no
@@ -94,9 +95,8 @@ class Watch(threading.Thread):
         elif in_vain == len(PAUSES) - 1:
             self.warn("lost", f"the service does not give its history: {fault}: it is asked again until it does",
                       "error")
-        with self.lock:
-            self.is_lost = True
-            self.changed.notify_all()
+        self.is_lost = True
+        self._wake_tasks()
 
     def warn(self, name: str, text: str, level: str) -> None:
         """A line about the history, once for each name."""
@@ -115,9 +115,12 @@ class Watch(threading.Thread):
             self._tell(fault, f"could not follow entry {entry.ticket} of the history, {entry.call.kind}")
 
     def _take(self, entry: Entry) -> None:
+        reporter = self.life.reporter(entry)
         for event in self.life.take(entry):
-            if not self._is_muted(event):
+            if not (isinstance(event, Closes) and reporter in self.own):
                 self._report(event)
+        if reporter is not None:
+            self.own.discard(reporter)
 
     def _report(self, event: Event) -> None:
         for take in (*self.followers, self.lines.take):
@@ -128,53 +131,66 @@ class Watch(threading.Thread):
 
     # ---- what others ask ---------------------------------------------------------------------------------------------
 
-    def until(self, holds: Callable[[], bool], seconds: float) -> None:
+    def _wake_tasks(self) -> None:
+        waiting, self.waiting = self.waiting, []
+        for future in waiting:
+            settle(future, None)
+
+    async def news(self, *others: "asyncio.Future[None]", seconds: Optional[float] = None) -> None:
+        """Waits for the next entry, for what `wake` tells or the loss of the service, or for one of these others."""
+        future: "asyncio.Future[None]" = asyncio.get_running_loop().create_future()
+        self.waiting.append(future)
+        self.following.hurry.set()
+        await (first_of([future, *others], seconds) if others else done_within(future, seconds))
+        if future in self.waiting:
+            self.waiting.remove(future)
+
+    async def comes(self, holds: Callable[[], bool], seconds: float) -> None:
         """Waits until this holds, at most so long, and not while the service does not answer. It is asked after each
         entry."""
-        with self.changed:
-            self.changed.wait_for(lambda: holds() or self.is_lost, seconds)
+        loop = asyncio.get_running_loop()
+        end = loop.time() + seconds
+        while not (holds() or self.is_lost) and (rest := end - loop.time()) > 0:
+            await self.news(seconds=rest)
 
-    def wake(self) -> None:
-        """Those who wait are to look again: something else has happened."""
-        self.has_news.set()
-        with self.changed:
-            self.changed.notify_all()
-
-    def refresh(self) -> None:
+    async def refreshed(self) -> None:
         """Waits until what the service has by now was taken, which is a moment after it was read. If it does not
         answer, that is as it was."""
-        with contextlib.suppress(OSError, http.client.HTTPException, ValueError, KeyError):
-            count = self.service.stats()["entries"]
-            self.until(lambda: self.taken >= count, UP_TO_DATE)
+        with contextlib.suppress(OSError):
+            count = await entries_of(self.service.port)
+            await self.comes(lambda: self.taken >= count, UP_TO_DATE)
 
-    @contextlib.contextmanager
-    def muted(self, environment: int) -> Iterator[None]:
-        """What this would report about the environment is reported elsewhere."""
-        self.refresh()
-        with self.lock:
-            self.mute[environment] += 1
+    def refresh(self) -> None:
+        """The same for a thread, while the loop runs."""
+        with contextlib.suppress(RuntimeError, concurrent.futures.TimeoutError):
+            called(self.loop, self.refreshed(), 2 * UP_TO_DATE)
+
+    def end(self) -> None:
+        """All is to end: those who wait are to look again. For any thread."""
+        self.over.set()
+        self.has_news.set()
+        call_soon(self.loop, self._wake_tasks)
+
+    async def reported(self, reporter: Reporter, answer: Awaitable[Answered]) -> None:
+        """Waits for the answer to this tool's own report of a failure, of which nothing is said here, and until it was
+        taken."""
+        self.own.add(reporter)
         try:
-            yield
-            self.refresh()
+            if (await answer)[0] == 202:
+                await self.comes(lambda: reporter not in self.own, UP_TO_DATE)
         finally:
-            with self.lock:
-                self.mute[environment] -= 1
-
-    def _is_muted(self, event: Event) -> bool:
-        return isinstance(event, Closes) and event.kind in FAILURES and self.mute[event.environment.number] > 0
+            self.own.discard(reporter)
 
     def environment(self, number: int) -> Environment:
         return self.life.environments[number]
 
-    def generation(self, number: int, identifier: Optional[str]) -> Optional[Generation]:
-        """The generation of this environment in which an extension is registered, as it is now; none if it is not
-        known."""
-        self.refresh()
-        with self.lock:
-            return self.environment(number).of(identifier) if identifier is not None else None
+    async def generation(self, number: int, identifier: str) -> Optional[Generation]:
+        """The generation of this environment in which an extension is registered; none if it is not known."""
+        here = self.environment(number)
+        await self.comes(lambda: here.of(identifier) is not None, UP_TO_DATE)
+        return here.of(identifier)
 
-    def waiting(self, function: str) -> List[int]:
+    def without_runtime(self, function: str) -> List[int]:
         """The tickets of the function's invocations that no runtime was given yet."""
-        with self.lock:
-            return [ticket for ticket, invocation in self.life.invocations.items()
-                    if invocation.function == function and invocation.delivered is None]
+        return [ticket for ticket, invocation in self.life.invocations.items()
+                if invocation.function == function and invocation.delivered is None]

@@ -1,0 +1,180 @@
+"""The service's followed trace as a task reads it: its entries as they come, without bodies but for the few that have a
+report with them. `history.running` has the same for a thread."""
+import asyncio
+from collections import deque
+from typing import Callable, Deque, Optional
+
+from ..front.client import Client, ServiceWire
+from ..front.http import Body
+from ..front.wire import Gone
+from ..history.entries import Entry
+from ..history.reader import Reader
+from ..history.running import MOST_SAID, MOST_TRIES, SILENCE, Lines, Lost, has_report, lost
+from ..http1 import Data, request_head
+from .bell import Bell
+
+REST = 0.01  # seconds
+AT_ONCE = 16  # entries, after which others have their turn
+LONGEST_REFUSAL = 1 << 20  # bytes
+
+
+class Silent(Exception):
+    """Nothing has come for long: it is to be asked again."""
+
+
+class Trace:
+    """The lines of an answer, on a connection of its own."""
+
+    def __init__(self, port: int, silence: float) -> None:
+        self.port, self.silence = port, silence
+        self.split = Lines()
+        self.lines: Deque[bytes] = deque()
+        self.wire: Optional[ServiceWire] = None
+        self.body: Optional[Body] = None  # while more of it is to come
+        self.is_silent = False
+        self.timer: Optional[asyncio.TimerHandle] = None
+
+    async def ask(self, query: str) -> None:
+        """Lost if there is no such answer."""
+        target = f"/_local/trace?{query}"
+        try:
+            _, wire = await asyncio.wait_for(asyncio.get_running_loop().create_connection(
+                ServiceWire, "127.0.0.1", self.port), self.silence)
+        except asyncio.TimeoutError:
+            raise Lost(f"no connection within {self.silence:g} s") from None
+        self.wire = wire
+        wire.transport.write(request_head("GET", target, [("Host", f"127.0.0.1:{self.port}")]))
+        try:
+            answer = await asyncio.wait_for(Client.answer(wire, "GET"), self.silence)
+            said = b"" if answer.status == 200 else await answer.body.whole(LONGEST_REFUSAL)
+        except asyncio.TimeoutError:
+            raise Lost(f"no answer within {self.silence:g} s") from None
+        except Gone:
+            raise self.broken() from None
+        if answer.status != 200:
+            raise Lost(f"GET {target}: {answer.status} {said[:MOST_SAID].decode(errors='replace')}")
+        self.body = answer.body
+        self.look()
+
+    def look(self) -> None:
+        """Ends it if it is silent for too long. (One timer for each silence, and none for each piece.)"""
+        assert self.wire is not None
+        loop = asyncio.get_running_loop()
+        rest = self.wire.touched + self.silence - loop.time()
+        if rest <= 0:
+            self.is_silent = True
+            self.wire.abort()
+        else:
+            self.timer = loop.call_later(rest, self.look)
+
+    def broken(self) -> Lost:
+        fault = self.wire.responses.fault if self.wire else None
+        return lost(fault) if fault else Lost("it has closed the connection")
+
+    async def line(self) -> Optional[bytes]:
+        """The next one, without its end; none after the last. Silent if nothing comes for long, Lost if it breaks off,
+        NotTrace if it ends within a line."""
+        while not self.lines and self.body is not None:
+            try:
+                assert self.wire is not None
+                event = await self.wire.event()
+            except Gone:
+                raise (Silent() if self.is_silent else self.broken()) from None
+            if isinstance(event, Data):
+                self.lines.extend(self.split.feed(event.data))
+            else:
+                self.body = None
+                self.split.end()
+        return self.lines.popleft() if self.lines else None
+
+    def hold(self) -> None:
+        """Nothing more is read until the next line is asked for."""
+        if self.wire and not self.wire.is_paused and not self.wire.is_lost:
+            self.wire.is_paused = True
+            self.wire.transport.pause_reading()
+
+    def close(self) -> None:
+        if self.timer:
+            self.timer.cancel()
+        if self.wire:
+            self.wire.abort()
+
+
+class Following:
+    """Of a service whose callers' port this is."""
+
+    def __init__(self, port: int, environments: int, loop: asyncio.AbstractEventLoop, silence: float = SILENCE,
+                 is_awaited: Callable[[], bool] = lambda: True) -> None:
+        """If it `is_awaited`, somebody waits for the next entry; who begins to rings `hurry`."""
+        self.port, self.silence = port, silence
+        self._reader = Reader(environments)
+        self._tries = 0  # to get the next entry with its report
+        self._trace: Optional[Trace] = None
+        self.hurry, self.is_awaited = Bell(loop), is_awaited
+
+    @property
+    def next(self) -> int:
+        """The ticket of the first entry that was not taken yet."""
+        return self._reader.next
+
+    async def entry(self) -> Optional[Entry]:
+        """The next entry, once it comes; none once the service is Off. Lost if the service does not answer, NotTrace if
+        its answer is none: it may be asked again, and goes on with the same one."""
+        while True:
+            try:
+                return await self._entry()
+            except Silent:
+                self.close()
+            except (OSError, Lost) as fault:
+                self.close()
+                raise lost(fault) from None
+            except BaseException:
+                self.close()
+                raise
+
+    async def _entry(self) -> Optional[Entry]:
+        if self._trace is None:
+            self._trace = Trace(self.port, self.silence)
+            await self._trace.ask(f"follow=1&from={self.next}&bodies=none")
+        elif not self._trace.lines:
+            await self._rest(self._trace)
+        line = await self._trace.line()
+        if line is None:
+            self.close()
+            return None
+        if self.next % AT_ONCE == 0:
+            await asyncio.sleep(0)
+        entry = self._reader.read(line)
+        if has_report(entry) and self._tries < MOST_TRIES:
+            self._tries += 1
+            entry = await self._whole(entry)
+        self._tries = 0
+        self._reader.count(entry)
+        return entry
+
+    async def _rest(self, trace: Trace) -> None:
+        """While nobody waits for an entry, those of some milliseconds come together, and not amid each invocation."""
+        self.hurry.clear()
+        if not self.is_awaited():
+            trace.hold()
+            await self.hurry.wait(REST)
+
+    async def _whole(self, entry: Entry) -> Entry:
+        """The same entry with its bodies; without, if there is no memory for them."""
+        trace = Trace(self.port, self.silence)
+        try:
+            await trace.ask(f"from={entry.ticket}")
+            line = await trace.line()
+            if line is None:
+                raise Lost(f"it does not give entry {entry.ticket} again")
+            return self._reader.read(line)
+        except MemoryError:
+            return entry
+        finally:
+            trace.close()
+
+    def close(self) -> None:
+        """Ends the connection, if there is one."""
+        if self._trace:
+            self._trace.close()
+            self._trace = None
