@@ -28,12 +28,14 @@ abbrev answered_in : Config → List Entry → Throttle → ℕ → ℕ → Bool
 answered_in config h reason f e = has_answered (stand config h e) && in_way reason f (reservation config h (function_of config e)) (function_of config e)
 
 -- an environment's function has its reservation in the pool
-reserved_at : (config : Config) (h : List Entry) (e : ℕ) → 1 ≤ e → e ≤ length (owners config) → (usage_at (numbers config h) (function_of config e)).reserved ≡ reservation config h (function_of config e)
+reserved_at : (config : Config) (h : List Entry) (e : ℕ) → 1 ≤ e → e ≤ length (owners config)
+    → (usage_at (numbers config h) (function_of config e)).reserved ≡ reservation config h (function_of config e)
 reserved_at config h e low high =
     let owner = owner_is_function config e low high in
     ap (λ (u : Usage). u.reserved) (pool.usage_is config h (function_of config e) owner.0 owner.1)
 
-one_of : (config : Config) (h : List Entry) (reason : Throttle) (f e : ℕ) → 1 ≤ e → e ≤ length (owners config) → answered_at (numbers config h) reason f (site config h e) ≡ answered_in config h reason f e
+one_of : (config : Config) (h : List Entry) (reason : Throttle) (f e : ℕ) → 1 ≤ e → e ≤ length (owners config)
+    → answered_at (numbers config h) reason f (site config h e) ≡ answered_in config h reason f e
 one_of config h reason f e low high =
     ap (λ (r : Option ℕ). has_answered (stand config h e) && in_way reason f r (function_of config e)) (reserved_at config h e low high)
 
@@ -44,7 +46,8 @@ from config h reason f a (suc n) low high =
     ap₂ (λ (x y : Bool). x || y) (one_of config h reason f a low (omega (arith, high))) (from config h reason f (suc a) n (omega arith) (omega (arith, high)))
 
 -- What is kept and the history tell the same of the environments in the way.
-pub answered_in_way : (config : Config) (h : List Entry) (reason : Throttle) (f : ℕ) → list_any (answered_at (numbers config h) reason f) (sites config h) ≡ has_answered_in_way config h f reason
+pub answered_in_way : (config : Config) (h : List Entry) (reason : Throttle) (f : ℕ)
+    → list_any (answered_at (numbers config h) reason f) (sites config h) ≡ has_answered_in_way config h f reason
 answered_in_way config h reason f =
     list_any-map (answered_at (numbers config h) reason f) (site config h) (environments config)
     ∙ from config h reason f 1 (length (owners config)) (omega arith) (omega arith)

@@ -31,13 +31,16 @@ unfolding seen life members
 nobody config e = omega arith
 
 -- what is kept beside the environments of a configuration before any call
-pub fleet_opened : (f : Inside) (config : Config) → first_fault config ≡ None → f.sites.items ≡ sites config [] → f.due ≡ deadlines config [] → f.places ≡ places config [] → f.pool ≡ numbers config [] → f.widest ≡ 0 → IsFleet f
+pub fleet_opened : (f : Inside) (config : Config) → first_fault config ≡ None → f.sites.items ≡ sites config []
+    → f.due ≡ deadlines config [] → f.places ≡ places config [] → f.pool ≡ numbers config [] → f.widest ≡ 0 → IsFleet f
 fleet_opened f config sound is due place pool none = record {
   due = due ∙ sym (deadlines_are config []) ∙ ap (map deadline_at) (sym is);
   places = place ∙ sym (places_are config []) ∙ ap (map site_place) (sym is);
   pool = pool ∙ numbers_flown config [] tt ∙ ap₂ flown (sym is) (sym pool);
   owned = rw (is, many) (All-map (IsOwned (length config.functions)) (site config []) (environments config) own);
-  narrow = rw (is, none) (All-map (λ (s : Site). length s.environment.stand.members ≤ 0) (site config []) (environments config) (λ i d lt. nobody config (get_or (environments config) i d)));
+  narrow =
+      rw (is, none)
+      (All-map (λ (s : Site). length s.environment.stand.members ≤ 0) (site config []) (environments config) (λ i d lt. nobody config (get_or (environments config) i d)));
   ten = rw none (omega arith);
   few = rw (is, sites_length config []) (environments_256 config sound);
 }

@@ -1,12 +1,17 @@
 -- The answers of an entry: those that the environments give which it reaches, and its own.
-use Rattle.std.proofs.Common.{◌≡◌, ◌≢◌, ℕ, ◌<◌, ◌≤◌, Bool, true, false, List, [], ◌∷◌, ◌++◌, length, filter, Option, Some, None, is_some, sym, refl, ap, ◌∙◌, arith, inl, inr, if◌then◌else◌, true≢false, le_refl}
+use Rattle.std.proofs.Common.{◌≡◌, ◌≢◌, ℕ, ◌<◌, ◌≤◌, Bool, true, false, List, [], ◌∷◌, ◌++◌, length, filter, Option}
+use Rattle.std.proofs.Common.{Some, None, is_some, sym, refl, ap, ◌∙◌, arith, inl, inr, if◌then◌else◌, true≢false}
+use Rattle.std.proofs.Common.{le_refl}
 use Rattle.std.proofs.lemmas.Bool.{cases_lt}
 use Rattle.arn_ids.specs.declared.config.Config.{Config}
 use Rattle.call_types.specs.declared.answer.Answer.{Answer}
 use Rattle.call_types.specs.declared.answer.Answer.TheVariants.{Told, Ending, Stopped, Refused, Reserved}
 use Rattle.call_types.specs.declared.answer.Rejection.TheVariants.{BadReservation}
 use Rattle.call_types.specs.declared.call.Call.{Call}
-use Rattle.call_types.specs.declared.call.Call.TheVariants.{Invoke, RuntimeNext, Response, ResponseTooLarge, Failure, InitFailure, Register, ExtNext, ExtInitFailure, ExtExitFailure, Tick, Withdraw, Spindown, Stop, Expire, Reserve}
+use Rattle.call_types.specs.declared.call.Call.TheVariants.{Invoke, RuntimeNext, Response, ResponseTooLarge, Failure}
+use Rattle.call_types.specs.declared.call.Call.TheVariants.{InitFailure, Register, ExtNext, ExtInitFailure}
+use Rattle.call_types.specs.declared.call.Call.TheVariants.{ExtExitFailure, Tick, Withdraw, Spindown, Stop, Expire}
+use Rattle.call_types.specs.declared.call.Call.TheVariants.{Reserve}
 use Rattle.call_types.specs.declared.call.Entry.{Entry}
 use Rattle.call_model.specs.Answers.{first_answer, second_answer, own_first, home, verdict_answer, with_event, reserve_answer}
 use Rattle.call_model.specs.History.{answer_in, or_else, stopped}
@@ -29,7 +34,8 @@ use Rattle.fleet.proofs.Entered.{concerns_reach}
 use Rattle.account_book.proofs.Merging.{last_rising, last_answer}
 
 -- an older ticket without an environment gets nothing
-pub homeless : (config : Config) (h : List Entry) (entry : Entry) (t : ℕ) → Follows config h entry → t < length h → home h t ≡ None → answer_in entry.answers t ≡ None
+pub homeless : (config : Config) (h : List Entry) (entry : Entry) (t : ℕ) → Follows config h entry → t < length h
+    → home h t ≡ None → answer_in entry.answers t ≡ None
 unfolding first_answer second_answer
 homeless config h entry t w lt none =
     is_some_none (answer_in entry.answers t)
@@ -46,7 +52,8 @@ unanswered : (a : Option Answer) → is_some a ≡ true → a ≡ None → ⊥
 unanswered None q r = true≢false (sym q)
 unanswered (Some a) q r = some-none r
 
-pub answered_is : (config : Config) (h : List Entry) (entry : Entry) (t : ℕ) → Follows config h entry → is_some (answer_in entry.answers t) ≡ true → Answered config h entry t
+pub answered_is : (config : Config) (h : List Entry) (entry : Entry) (t : ℕ) → Follows config h entry
+    → is_some (answer_in entry.answers t) ≡ true → Answered config h entry t
 answered_is config h entry t w q = elim (cases_lt t (length h)) [
   | inl lt ↦ older lt (home h t) refl
   | inr ge ↦ elim (cases_lt (length h) t) [
@@ -70,9 +77,11 @@ part q entry = filter (λ a. q a.0) entry.answers
 pub part_rising : (config : Config) (h : List Entry) (entry : Entry) (q : ℕ → Bool) → Follows config h entry → IsRising 0 (part q entry)
 part_rising config h entry q w = filter_rising q 0 entry.answers (answers_rising config h entry w)
 
-pub part_same : (config : Config) (h : List Entry) (entry : Entry) (q r : ℕ → Bool) → Follows config h entry → ((t : ℕ) → Answered config h entry t → q t ≡ r t) → part q entry ≡ part r entry
+pub part_same : (config : Config) (h : List Entry) (entry : Entry) (q r : ℕ → Bool) → Follows config h entry
+    → ((t : ℕ) → Answered config h entry t → q t ≡ r t) → part q entry ≡ part r entry
 part_same config h entry q r w same =
-    rising_same 0 (part q entry) (part r entry) (part_rising config h entry q w) (part_rising config h entry r w) (λ u. filter_answer q entry.answers u ∙ each u (answer_in entry.answers u) refl ∙ sym (filter_answer r entry.answers u))
+    rising_same 0 (part q entry) (part r entry) (part_rising config h entry q w) (part_rising config h entry r w)
+    (λ u. filter_answer q entry.answers u ∙ each u (answer_in entry.answers u) refl ∙ sym (filter_answer r entry.answers u))
   where
     none : (b c : Bool) (a : Option Answer) → a ≡ None → (if b then a else None) ≡ (if c then a else None)
     none true true a e = refl
@@ -80,7 +89,8 @@ part_same config h entry q r w same =
     none false true a e = sym e
     none false false a e = refl
 
-    each : (u : ℕ) (a : Option Answer) → answer_in entry.answers u ≡ a → (if q u then answer_in entry.answers u else None) ≡ (if r u then answer_in entry.answers u else None)
+    each : (u : ℕ) (a : Option Answer) → answer_in entry.answers u ≡ a
+        → (if q u then answer_in entry.answers u else None) ≡ (if r u then answer_in entry.answers u else None)
     each u None e = none (q u) (r u) (answer_in entry.answers u) e
     each u (Some a) e = ap (λ (b : Bool). if b then answer_in entry.answers u else None) (same u (answered_is config h entry u w (ap is_some e)))
 
@@ -153,7 +163,9 @@ none_of_two None env q = q
 none_of_two (Some e) env q = absurd (some-none q)
 
 -- a call without an environment gets its own answer
-pub own_homeless : (config : Config) (h : List Entry) (entry : Entry) → Follows config h entry → or_else entry.place (env_of entry.call) ≡ None → answer_in entry.answers (length h) ≡ book_answer config h entry.call
+pub own_homeless : (config : Config) (h : List Entry) (entry : Entry) → Follows config h entry
+    → or_else entry.place (env_of entry.call) ≡ None
+    → answer_in entry.answers (length h) ≡ book_answer config h entry.call
 unfolding first_answer second_answer
 own_homeless config h entry w none =
     plain_one (answer_in entry.answers (length h)) (own_first config h entry.call)
@@ -166,7 +178,8 @@ own_homeless config h entry w none =
     alone (Some a) = refl
 
 -- one with an environment gets none of the book's
-own_housed : (config : Config) (h : List Entry) (call : Call) (place : Option ℕ) (e : ℕ) → place ≡ place_for config h call → or_else place (env_of call) ≡ Some e → book_answer config h call ≡ None
+own_housed : (config : Config) (h : List Entry) (call : Call) (place : Option ℕ) (e : ℕ)
+    → place ≡ place_for config h call → or_else place (env_of call) ≡ Some e → book_answer config h call ≡ None
 unfolding own_first
 own_housed config h (Invoke f qualified trace body) None e p q = absurd (none-some q)
 own_housed config h (Invoke f qualified trace body) (Some d) e p q = go (verdict config h f) p
@@ -192,14 +205,20 @@ own_housed config h (Spindown d) place e p q = refl
 own_housed config h (Expire d) place e p q = refl
 
 -- An entry's answers are those to tickets that have an environment, and its own where that has none.
-pub answers_parts : (config : Config) (h : List Entry) (entry : Entry) → Follows config h entry → entry.answers ≡ with_own (length h) (book_answer config h entry.call) (part (has_home h entry) entry)
+pub answers_parts : (config : Config) (h : List Entry) (entry : Entry) → Follows config h entry
+    → entry.answers ≡ with_own (length h) (book_answer config h entry.call) (part (has_home h entry) entry)
 answers_parts config h entry w = by_home (home (entry ∷ h) (length h)) refl
   where
     all_part : part (λ t. true) entry ≡ entry.answers
-    all_part = rising_same 0 (part (λ t. true) entry) entry.answers (part_rising config h entry (λ t. true) w) (answers_rising config h entry w) (λ u. filter_answer (λ t. true) entry.answers u)
+    all_part =
+        rising_same 0 (part (λ t. true) entry) entry.answers (part_rising config h entry (λ t. true) w)
+        (answers_rising config h entry w) (λ u. filter_answer (λ t. true) entry.answers u)
 
-    by_home : (o : Option ℕ) → home (entry ∷ h) (length h) ≡ o → entry.answers ≡ with_own (length h) (book_answer config h entry.call) (part (has_home h entry) entry)
-    by_home (Some e) q = rw (own_housed config h entry.call entry.place e w.place (sym (home_new entry h) ∙ q)) (sym all_part ∙ part_same config h entry (λ t. true) (has_home h entry) w housed)
+    by_home : (o : Option ℕ) → home (entry ∷ h) (length h) ≡ o
+        → entry.answers ≡ with_own (length h) (book_answer config h entry.call) (part (has_home h entry) entry)
+    by_home (Some e) q =
+        rw (own_housed config h entry.call entry.place e w.place (sym (home_new entry h) ∙ q))
+        (sym all_part ∙ part_same config h entry (λ t. true) (has_home h entry) w housed)
       where
         housed : (t : ℕ) → Answered config h entry t → true ≡ has_home h entry t
         housed t (Own s) = sym (ap (has_home h entry) s ∙ ap is_some q)
@@ -207,7 +226,8 @@ answers_parts config h entry w = by_home (home (entry ∷ h) (length h)) refl
     by_home None q = with_answer (book_answer config h entry.call) (own_homeless config h entry w (sym (home_new entry h) ∙ q))
       where
         no_own : answer_in (part (has_home h entry) entry) (length h) ≡ None
-        no_own = filter_answer (has_home h entry) entry.answers (length h) ∙ ap (λ (b : Bool). if b then answer_in entry.answers (length h) else None) (ap is_some q)
+        no_own =
+            filter_answer (has_home h entry) entry.answers (length h) ∙ ap (λ (b : Bool). if b then answer_in entry.answers (length h) else None) (ap is_some q)
 
         older_same : (u : ℕ) → u < length h → answer_in (part (has_home h entry) entry) u ≡ answer_in entry.answers u
         older_same u lt = filter_answer (has_home h entry) entry.answers u ∙ each (home h u) refl
@@ -240,12 +260,19 @@ answers_parts config h entry w = by_home (home (entry ∷ h) (length h)) refl
                 | inr le ↦ let same : u ≡ length h = omega (arith, ge, le) in ap (answer_in entry.answers) same ∙ r ∙ sym (none_later u ge)
               ]
             ]
-        with_answer (Some a) r = rising_same 0 entry.answers (part (has_home h entry) entry ++ (length h, a) ∷ []) (answers_rising config h entry w) (last_rising 0 (length h) a (part (has_home h entry) entry) rising (omega arith) none_later) each
+        with_answer (Some a) r =
+            rising_same 0 entry.answers (part (has_home h entry) entry ++ (length h, a) ∷ [])
+            (answers_rising config h entry w)
+            (last_rising 0 (length h) a (part (has_home h entry) entry) rising (omega arith) none_later) each
           where
             each : (u : ℕ) → answer_in entry.answers u ≡ answer_in (part (has_home h entry) entry ++ (length h, a) ∷ []) u
             each u = elim (cases_lt u (length h)) [
-              | inl lt ↦ sym (older_same u lt) ∙ sym (behind (answer_in (part (has_home h entry) entry) u)) ∙ ap (or_else (answer_in (part (has_home h entry) entry) u)) (sym (skipped u (λ same. before u lt same))) ∙ sym (last_answer (length h) a (part (has_home h entry) entry) u no_own)
-              | inr ge ↦ later u ge ∙ ap (λ (o : Option Answer). or_else o (answer_in ((length h, a) ∷ []) u)) (sym (none_later u ge)) ∙ sym (last_answer (length h) a (part (has_home h entry) entry) u no_own)
+              | inl lt ↦ sym (older_same u lt) ∙ sym (behind (answer_in (part (has_home h entry) entry) u))
+                  ∙ ap (or_else (answer_in (part (has_home h entry) entry) u)) (sym (skipped u (λ same. before u lt same)))
+                  ∙ sym (last_answer (length h) a (part (has_home h entry) entry) u no_own)
+              | inr ge ↦ later u ge
+                  ∙ ap (λ (o : Option Answer). or_else o (answer_in ((length h, a) ∷ []) u)) (sym (none_later u ge))
+                  ∙ sym (last_answer (length h) a (part (has_home h entry) entry) u no_own)
             ]
               where
                 behind : (o : Option Answer) → or_else o None ≡ o
@@ -261,7 +288,8 @@ answers_parts config h entry w = by_home (home (entry ∷ h) (length h)) refl
                 later : (v : ℕ) → length h ≤ v → answer_in entry.answers v ≡ answer_in ((length h, a) ∷ []) v
                 later v ge = elim (cases_lt (length h) v) [
                   | inl gt ↦ past config h entry v w gt ∙ sym (skipped v (λ same. strict v gt same))
-                  | inr le ↦ let same : length h ≡ v = omega (arith, ge, le) in ap (answer_in entry.answers) (sym same) ∙ r ∙ sym (rw (sym same, eqb-self (length h)) refl)
+                  | inr le ↦ let same : length h ≡ v =
+                      omega (arith, ge, le) in ap (answer_in entry.answers) (sym same) ∙ r ∙ sym (rw (sym same, eqb-self (length h)) refl)
                 ]
                   where
                     strict : (x : ℕ) → length h < x → length h ≡ x → ⊥

@@ -1,5 +1,7 @@
 -- How many answers an entry has, and to which tickets.
-use Rattle.std.proofs.Common.{◌≡◌, ℕ, zero, suc, ◌<◌, ◌≤◌, Bool, true, false, eqb, List, [], ◌∷◌, length, get_or, All, Option, Some, None, is_some, sym, refl, ap, ◌∙◌, arith, inl, inr, if◌then◌else◌, length-append, true≢false}
+use Rattle.std.proofs.Common.{◌≡◌, ℕ, zero, suc, ◌<◌, ◌≤◌, Bool, true, false, eqb, List, [], ◌∷◌, length, get_or, All}
+use Rattle.std.proofs.Common.{Option, Some, None, is_some, sym, refl, ap, ◌∙◌, arith, inl, inr, if◌then◌else◌}
+use Rattle.std.proofs.Common.{length-append, true≢false}
 use Rattle.std.proofs.lemmas.Bool.{cases_lt}
 use Rattle.arn_ids.specs.declared.config.Config.{Config}
 use Rattle.arn_ids.specs.Faults.{first_fault}
@@ -41,14 +43,16 @@ tickets_within config h entry w i d lt = elim (cases_lt (length h) (get_or entry
   | inr le ↦ le
 ]
 
-few_homed : (config : Config) (h : List Entry) (entry : Entry) → first_fault config ≡ None → IsLegal config h → Follows config h entry → AllKnown config h → IsKnown config entry.call → length (homed h entry) ≤ 3328
+few_homed : (config : Config) (h : List Entry) (entry : Entry) → first_fault config ≡ None → IsLegal config h
+    → Follows config h entry → AllKnown config h → IsKnown config entry.call → length (homed h entry) ≤ 3328
 few_homed config h entry sound l w k known = go (reach h entry.place entry.call) refl
   where
     go : (r : Reach) → reach h entry.place entry.call ≡ r → length (homed h entry) ≤ 3328
     go Nowhere q = rw (homed_nowhere config h entry w q) (omega arith)
     go (At e) q =
         let within = reach_within config h entry.call entry.place e k known w.place q in
-        rw (homed_at config h entry e l w q within.0 within.1) (omega (arith, put_all_length (moves_at (length h) entry.moment (request_counts config (entry ∷ h)) entry.call (site config h e)) [], few_there config h entry e l w q within.0 within.1, ten_members config h e l))
+        rw (homed_at config h entry e l w q within.0 within.1)
+        (omega (arith, put_all_length (moves_at (length h) entry.moment (request_counts config (entry ∷ h)) entry.call (site config h e)) [], few_there config h entry e l w q within.0 within.1, ten_members config h e l))
     go Everywhere q =
         rw (homed_everywhere config h entry l w k known q)
         (omega (
@@ -59,8 +63,10 @@ few_homed config h entry sound l w k known = go (reach h entry.place entry.call)
           environments_256 config sound,
         ))
 
-pub few_answers : (config : Config) (h : List Entry) (entry : Entry) → first_fault config ≡ None → IsLegal config h → Follows config h entry → AllKnown config h → IsKnown config entry.call → length entry.answers ≤ answer_limit
-few_answers config h entry sound l w k known = rw (answers_parts config h entry w) (one (book_answer config h entry.call) (few_homed config h entry sound l w k known))
+pub few_answers : (config : Config) (h : List Entry) (entry : Entry) → first_fault config ≡ None → IsLegal config h
+    → Follows config h entry → AllKnown config h → IsKnown config entry.call → length entry.answers ≤ answer_limit
+few_answers config h entry sound l w k known =
+    rw (answers_parts config h entry w) (one (book_answer config h entry.call) (few_homed config h entry sound l w k known))
   where
     one : (o : Option Answer) → length (homed h entry) ≤ 3328 → length (with_own (length h) o (homed h entry)) ≤ 3329
     one None le = omega (arith, le)

@@ -1,5 +1,7 @@
 -- A loop in which the environments that are due expire, one after the other.
-use Rattle.std.proofs.Common.{◌≡◌, ℕ, zero, suc, ◌+◌, ◌<◌, ◌≤◌, Bool, true, false, List, [], ◌∷◌, ◌++◌, ◌-◌, length, map, filter_map, All, Option, Some, None, sym, refl, ap, ◌∙◌, arith, nat_le, if◌then◌else◌}
+use Rattle.std.proofs.Common.{◌≡◌, ℕ, zero, suc, ◌+◌, ◌<◌, ◌≤◌, Bool, true, false, List, [], ◌∷◌, ◌++◌, ◌-◌, length}
+use Rattle.std.proofs.Common.{map, filter_map, All, Option, Some, None, sym, refl, ap, ◌∙◌, arith, nat_le}
+use Rattle.std.proofs.Common.{if◌then◌else◌}
 use Rattle.std.specs.List.{cons_option}
 use Rattle.arn_ids.specs.declared.config.Config.{Config}
 use Rattle.arn_ids.specs.Environments.{environments, count_from, owners}
@@ -39,7 +41,9 @@ by_deadline_within a b (x ∷ xs) w = in_order_within a b x (by_deadline xs) w.0
 
 come_within : (m : ℕ) (P : ℕ → Phase) (a n : ℕ) → AreWithin a (a + n) (filter_map (λ e. due_at m e (deadline_of (P e))) (count_from a n))
 come_within m P a zero = tt
-come_within m P a (suc n) = go (deadline_of (P a)) (let same : suc a + n ≡ a + suc n = omega arith in wider (suc a) (a + suc n) a _ (omega arith) (rw same at (come_within m P (suc a) n)))
+come_within m P a (suc n) =
+    go (deadline_of (P a))
+    (let same : suc a + n ≡ a + suc n = omega arith in wider (suc a) (a + suc n) a _ (omega arith) (rw same at (come_within m P (suc a) n)))
   where
     rest : List (ℕ × ℕ)
     rest = filter_map (λ e. due_at m e (deadline_of (P e))) (count_from (suc a) n)
@@ -54,7 +58,9 @@ come_within m P a (suc n) = go (deadline_of (P a)) (let same : suc a + n ≡ a +
 
 pub due_within : (config : Config) (h : List Entry) (m e : ℕ) → first (due config h m) ≡ Some e → IsEnv config e
 unfolding due
-due_within config h m e q = go (by_deadline (filter_map (λ e. due_at m e (deadline_of (phase config h e))) (environments config))) (by_deadline_within 1 (1 + length (owners config)) _ (come_within m (phase config h) 1 (length (owners config)))) q
+due_within config h m e q =
+    go (by_deadline (filter_map (λ e. due_at m e (deadline_of (phase config h e))) (environments config)))
+    (by_deadline_within 1 (1 + length (owners config)) _ (come_within m (phase config h) 1 (length (owners config)))) q
   where
     go : (xs : List (ℕ × ℕ)) → AreWithin 1 (1 + length (owners config)) xs → first (map (λ a. a.1) xs) ≡ Some e → IsEnv config e
     go [] w r = absurd (none-some r)
@@ -75,8 +81,10 @@ pub record IsExpiring (m : ℕ) (first now : Pages) (first_rooms rooms : List (L
   pub runs : expiries_at now.config now.history m ++ now.history ≡ expiries_at first.config first.history m ++ first.history
 
 -- one environment more has expired
-pub expires_one : (m : ℕ) (first now after : Pages) (all rooms rest : List (List (ℕ × Answer) × ℕ)) → IsExpiring m first now all rooms → suc (length rest) ≡ length rooms → All (IsRoom first.widest) rest
-    → after ≡ record now { history = entered now.config now.history m (Expire (first_or_zero (due now.config now.history m))); room = now.room - 1 } → IsLegal after.config after.history → IsExpiring m first after all rest
+pub expires_one : (m : ℕ) (first now after : Pages) (all rooms rest : List (List (ℕ × Answer) × ℕ))
+    → IsExpiring m first now all rooms → suc (length rest) ≡ length rooms → All (IsRoom first.widest) rest
+    → after ≡ record now { history = entered now.config now.history m (Expire (first_or_zero (due now.config now.history m))); room = now.room - 1 }
+    → IsLegal after.config after.history → IsExpiring m first after all rest
 expires_one m first now after all rooms rest k longer empty became legal = go (due now.config now.history m) refl
   where
     go : (es : List ℕ) → due now.config now.history m ≡ es → IsExpiring m first after all rest

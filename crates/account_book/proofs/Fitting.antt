@@ -25,7 +25,8 @@ fit_call config call within = tt
 fit_expiries : (config : Config) (m : ℕ) (es : List ℕ) (h : List Entry) → m < 2 ^ 53 → All IsFit (expiries config m es h)
 fit_expiries config m [] h small = All-nil IsFit
 fit_expiries config m (e ∷ es) h small =
-    All-append IsFit (expiries config m es (entered config h m (Expire e))) (entry_of config h m (Expire e) ∷ []) (fit_expiries config m es (entered config h m (Expire e)) small)
+    All-append IsFit (expiries config m es (entered config h m (Expire e))) (entry_of config h m (Expire e) ∷ [])
+    (fit_expiries config m es (entered config h m (Expire e)) small)
     (All-cons IsFit (entry_of config h m (Expire e)) [] (small, tt) (All-nil IsFit))
 
 fit_calls : (config : Config) (max_entries : ℕ) (calls : List (ℕ × Call)) → AreTaken config max_entries calls → All IsFit (led_to config calls)

@@ -1,5 +1,7 @@
 -- What is kept beside the environments of a history is what the history says.
-use Rattle.std.proofs.Common.{◌≡◌, ℕ, zero, suc, ◌+◌, ◌≤◌, Bool, true, false, cond, List, [], ◌∷◌, length, map, filter_map, Option, Some, None, sym, refl, ap, ap₂, ◌∙◌, arith, ◌&&◌, ◌==◌, nat_le, count_by, if◌then◌else◌, option_map}
+use Rattle.std.proofs.Common.{◌≡◌, ℕ, zero, suc, ◌+◌, ◌≤◌, Bool, true, false, cond, List, [], ◌∷◌, length, map}
+use Rattle.std.proofs.Common.{filter_map, Option, Some, None, sym, refl, ap, ap₂, ◌∙◌, arith, ◌&&◌, ◌==◌, nat_le}
+use Rattle.std.proofs.Common.{count_by, if◌then◌else◌, option_map}
 use Rattle.std.specs.List.{cons_option}
 use Rattle.std.proofs.lemmas.List.Sums.{sum_by-cons}
 use Rattle.std.proofs.lemmas.List.{length-map}
@@ -50,23 +52,32 @@ count_sites p q g same (e ∷ es) =
 
 pub in_flight_is : (config : Config) (h : List Entry) (f : ℕ) → IsLegal config h → in_flight config h f ≡ count_by (serves_function f) (sites config h)
 unfolding seen
-in_flight_is config h f l = flight config h f l ∙ sym (count_sites (λ e. (function_of config e == f) && is_taken (phase config h e)) (serves_function f) (site config h) (λ e. refl) (environments config))
+in_flight_is config h f l =
+    flight config h f l
+    ∙ sym (count_sites (λ e. (function_of config e == f) && is_taken (phase config h e)) (serves_function f) (site config h) (λ e. refl) (environments config))
 
 -- functions from a on
-flown_each : (g : ℕ → Usage) (sites : List Site) → ((f : ℕ) → (g f).in_flight ≡ count_by (serves_function f) sites) → (a n : ℕ) → map g (count_from a n) ≡ flown_from sites a (map g (count_from a n))
+flown_each : (g : ℕ → Usage) (sites : List Site) → ((f : ℕ) → (g f).in_flight ≡ count_by (serves_function f) sites)
+    → (a n : ℕ) → map g (count_from a n) ≡ flown_from sites a (map g (count_from a n))
 flown_each g sites same a zero = refl
 flown_each g sites same a (suc n) = ap₂ ◌∷◌ (ap (λ (m : ℕ). record (g a) { in_flight = m }) (same a)) (flown_each g sites same (suc a) n)
 
 -- what the history gives the functions in flight is how many environments serve them
 pub numbers_flown : (config : Config) (h : List Entry) → IsLegal config h → numbers config h ≡ flown (sites config h) (numbers config h)
-numbers_flown config h l = ap (λ (us : List Usage). record (numbers config h) { functions = us }) (flown_each (usage config h) (sites config h) (λ f. in_flight_is config h f l) 1 (length config.functions))
+numbers_flown config h l =
+    ap (λ (us : List Usage). record (numbers config h) { functions = us })
+    (flown_each (usage config h) (sites config h) (λ f. in_flight_is config h f l) 1 (length config.functions))
 
 -- the functions from a on, where their reservations are the same after an entry
-flown_next : (g k : ℕ → Usage) (sites : List Site) → ((f : ℕ) → k f ≡ record (g f) { in_flight = count_by (serves_function f) sites }) → (a n : ℕ) → flown_from sites a (map g (count_from a n)) ≡ map k (count_from a n)
+flown_next : (g k : ℕ → Usage) (sites : List Site)
+    → ((f : ℕ) → k f ≡ record (g f) { in_flight = count_by (serves_function f) sites }) → (a n : ℕ)
+    → flown_from sites a (map g (count_from a n)) ≡ map k (count_from a n)
 flown_next g k sites same a zero = refl
 flown_next g k sites same a (suc n) = ap₂ ◌∷◌ (sym (same a)) (flown_next g k sites same (suc a) n)
 
-pub numbers_next : (config : Config) (h : List Entry) (entry : Entry) → IsLegal config (entry ∷ h) → ((f : ℕ) → reservation config (entry ∷ h) f ≡ reservation config h f) → flown (sites config (entry ∷ h)) (numbers config h) ≡ numbers config (entry ∷ h)
+pub numbers_next : (config : Config) (h : List Entry) (entry : Entry) → IsLegal config (entry ∷ h)
+    → ((f : ℕ) → reservation config (entry ∷ h) f ≡ reservation config h f)
+    → flown (sites config (entry ∷ h)) (numbers config h) ≡ numbers config (entry ∷ h)
 numbers_next config h entry l same =
     ap (λ (us : List Usage). record (numbers config h) { functions = us })
     (flown_next (usage config h) (usage config (entry ∷ h)) (sites config (entry ∷ h)) (λ f. ap₂ (λ (r : Option ℕ) (n : ℕ). record (usage config h f) { reserved = r; in_flight = n }) (same f) (in_flight_is config (entry ∷ h) f l)) 1 (length config.functions))
@@ -87,7 +98,8 @@ come_length m e (s ∷ ss) = go (deadline_at s) (come_length m (suc e) ss) ∙ s
     tested d true = omega arith
     tested d false = omega arith
 
-    go : (o : Option ℕ) → length rest ≡ count_by (is_site_due m) ss → length (cons_option (due_at m e o) rest) ≡ cond (has_come m o) 1 0 + count_by (is_site_due m) ss
+    go : (o : Option ℕ) → length rest ≡ count_by (is_site_due m) ss
+        → length (cons_option (due_at m e o) rest) ≡ cond (has_come m o) 1 0 + count_by (is_site_due m) ss
     go None ih = rw (sym ih) (omega arith)
     go (Some d) ih = rw (sym ih) (tested d (nat_le d m))
 
@@ -103,7 +115,8 @@ none_due m sites q = sym (due_count m sites) ∙ empty (due_among m 1 (map deadl
     empty [] r = refl
     empty (x ∷ xs) r = absurd (none-some (sym r))
 
-come_is : (m : ℕ) (P : ℕ → Phase) (g : ℕ → Site) → ((e : ℕ) → deadline_at (g e) ≡ deadline_of (P e)) → (a n : ℕ) → come m a (map deadline_at (map g (count_from a n))) ≡ filter_map (λ e. due_at m e (deadline_of (P e))) (count_from a n)
+come_is : (m : ℕ) (P : ℕ → Phase) (g : ℕ → Site) → ((e : ℕ) → deadline_at (g e) ≡ deadline_of (P e)) → (a n : ℕ)
+    → come m a (map deadline_at (map g (count_from a n))) ≡ filter_map (λ e. due_at m e (deadline_of (P e))) (count_from a n)
 come_is m P g same a zero = refl
 come_is m P g same a (suc n) = ap₂ (λ (o : Option ℕ) rest. cons_option (due_at m a o) rest) (same a) (come_is m P g same (suc a) n)
 
@@ -115,5 +128,8 @@ due_count_is config h m =
     ∙ sym (length-map (by_deadline (filter_map (λ e. due_at m e (deadline_of (phase config h e))) (environments config))) (λ (a : ℕ × ℕ). a.1))
 
 -- whether an Invoke is admitted, and where
-pub limits_are : (config : Config) (h : List Entry) (f : ℕ) → 1 ≤ f → f ≤ length config.functions → by_limits config h f (reservation config h f) ≡ by_throttle (throttle (numbers config h) f) (place_among (map site_place (sites config h)) f)
-limits_are config h f low high = pool.verdict_is config h f low high ∙ ap (by_throttle (throttle (numbers config h) f)) (sym (ap (λ ps. place_among ps f) (places_are config h) ∙ place_is config h f))
+pub limits_are : (config : Config) (h : List Entry) (f : ℕ) → 1 ≤ f → f ≤ length config.functions
+    → by_limits config h f (reservation config h f) ≡ by_throttle (throttle (numbers config h) f) (place_among (map site_place (sites config h)) f)
+limits_are config h f low high =
+    pool.verdict_is config h f low high
+    ∙ ap (by_throttle (throttle (numbers config h) f)) (sym (ap (λ ps. place_among ps f) (places_are config h) ∙ place_is config h f))

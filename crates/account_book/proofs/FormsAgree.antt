@@ -1,5 +1,6 @@
 -- A script of form 1 is replayed in form 2 as it is in form 1, up to its first fault.
-use Rattle.std.proofs.Common.{◌≡◌, ℕ, ◌+◌, Bool, true, false, nat_lt, List, [], ◌∷◌, ◌++◌, length, codes, Option, Some, None, Result, Ok, Err, if◌then◌else◌, refl, sym, ap, ◌∙◌, append_assoc}
+use Rattle.std.proofs.Common.{◌≡◌, ℕ, ◌+◌, Bool, true, false, nat_lt, List, [], ◌∷◌, ◌++◌, length, codes, Option, Some}
+use Rattle.std.proofs.Common.{None, Result, Ok, Err, if◌then◌else◌, refl, sym, ap, ◌∙◌, append_assoc}
 use Rattle.std.proofs.lemmas.List.{append-nil}
 use Rattle.std.specs.Str.Lines.{lines}
 use Rattle.call_types.specs.declared.call.Call.{Call}
@@ -7,7 +8,9 @@ use Rattle.script.specs.Lines.{call_in}
 use Rattle.script.proofs.FormsAgree.{call_same}
 use Rattle.script.proofs.WordBounds.{fits_word}
 use Rattle.account_book.specs.Book.{Kept}
-use Rattle.account_book.specs.Run.{ScriptFault, InLine, AtStart, AfterForm, Taking, is_skipped, line_limit, begins_form_2, is_of_form_2, opened, answered_if, line_answered, going_on, started, Replayed, before, and_then, replay_from, run}
+use Rattle.account_book.specs.Run.{ScriptFault, InLine, AtStart, AfterForm, Taking, is_skipped, line_limit}
+use Rattle.account_book.specs.Run.{begins_form_2, is_of_form_2, opened, answered_if, line_answered, going_on, started}
+use Rattle.account_book.specs.Run.{Replayed, before, and_then, replay_from, run}
 use Rattle.account_book.proofs.LineEnds.{lines_again}
 
 -- what the second replay comes to, where the first has no fault; and before a fault of the first, what that writes
@@ -29,7 +32,8 @@ behind text a b g = record {
   same = λ none. ap (before text) (g.same none);
 }
 
-call_if : (n m : ℕ) (book : Kept) (a b : Option (ℕ × Call)) (r : Kept × List ℕ) → ((x : ℕ × Call) → a ≡ Some x → b ≡ Some x) → answered_if n book a ≡ Ok r → answered_if m book b ≡ Ok r
+call_if : (n m : ℕ) (book : Kept) (a b : Option (ℕ × Call)) (r : Kept × List ℕ)
+    → ((x : ℕ × Call) → a ≡ Some x → b ≡ Some x) → answered_if n book a ≡ Ok r → answered_if m book b ≡ Ok r
 call_if n m book None b r h e = cc
 call_if n m book (Some (now, call)) b r h e = rw (h (now, call) refl) e
 
@@ -37,7 +41,8 @@ line_same : (n m : ℕ) (book : Kept) (line : List ℕ) (r : Kept × List ℕ) �
 unfolding line_answered
 line_same n m book line r = go (nat_lt line_limit (length line)) (is_skipped line)
   where
-    go : (long skipped : Bool) → (if long then Err (InLine n) else if skipped then Ok (book, []) else answered_if n book (call_in false book.config line)) ≡ Ok r
+    go : (long skipped : Bool)
+        → (if long then Err (InLine n) else if skipped then Ok (book, []) else answered_if n book (call_in false book.config line)) ≡ Ok r
         → (if long then Err (InLine m) else if skipped then Ok (book, []) else answered_if m book (call_in true book.config line)) ≡ Ok r
     go true s e = cc
     go false true e = e
@@ -47,10 +52,13 @@ agree : (n m : ℕ) (book : Kept) (ls : List (List ℕ)) → GoesAsFar (replay_f
 agree n m book [] = as_far (record { text = []; fault = None })
 agree n m book (line ∷ ls) = go (line_answered false n book line) refl (λ next. agree (n + 1) (m + 1) next ls)
   where
-    go : (r : Result (Kept × List ℕ) ScriptFault) → line_answered false n book line ≡ r → ((next : Kept) → GoesAsFar (replay_from (n + 1) (Taking false next) ls) (replay_from (m + 1) (Taking true next) ls))
+    go : (r : Result (Kept × List ℕ) ScriptFault) → line_answered false n book line ≡ r
+        → ((next : Kept) → GoesAsFar (replay_from (n + 1) (Taking false next) ls) (replay_from (m + 1) (Taking true next) ls))
         → GoesAsFar (and_then (going_on false r) (λ p. replay_from (n + 1) p ls)) (replay_from m (Taking true book) (line ∷ ls))
     go (Err fault) e rest = at_fault fault (replay_from m (Taking true book) (line ∷ ls))
-    go (Ok (next, text)) e rest = rw (line_same n m book line (next, text) e) (behind text (replay_from (n + 1) (Taking false next) ls) (replay_from (m + 1) (Taking true next) ls) (rest next))
+    go (Ok (next, text)) e rest =
+        rw (line_same n m book line (next, text) e)
+        (behind text (replay_from (n + 1) (Taking false next) ls) (replay_from (m + 1) (Taking true next) ls) (rest next))
 
 -- behind the first line
 agree_first : (ls : List (List ℕ)) → begins_form_2 ls ≡ false → GoesAsFar (replay_from 1 AtStart ls) (replay_from 2 AfterForm ls)

@@ -1,12 +1,16 @@
 -- The text of a history is lines.
-use Rattle.std.proofs.Common.{◌≡◌, ℕ, ◌≤◌, Bool, true, false, ◌==◌, List, [], ◌∷◌, ◌++◌, length, map, decimal, None, refl, sym, ap, subst, ◌∙◌, arith, append_assoc, if◌then◌else◌}
+use Rattle.std.proofs.Common.{◌≡◌, ℕ, ◌≤◌, Bool, true, false, ◌==◌, List, [], ◌∷◌, ◌++◌, length, map, decimal, None}
+use Rattle.std.proofs.Common.{refl, sym, ap, subst, ◌∙◌, arith, append_assoc, if◌then◌else◌}
 use Rattle.std.specs.List.{flat_map}
 use Rattle.std.proofs.lemmas.Bool.{leb-true}
 use Rattle.arn_ids.specs.Faults.{first_fault}
 use Rattle.arn_ids.specs.declared.config.Config.{Config}
 use Rattle.call_types.specs.declared.answer.Answer.{Answer}
 use Rattle.call_types.specs.declared.call.Call.{Call}
-use Rattle.call_types.specs.declared.call.Call.TheVariants.{Invoke, RuntimeNext, Response, ResponseTooLarge, Failure, InitFailure, Register, ExtNext, ExtInitFailure, ExtExitFailure, Tick, Withdraw, Spindown, Stop, Expire, Reserve}
+use Rattle.call_types.specs.declared.call.Call.TheVariants.{Invoke, RuntimeNext, Response, ResponseTooLarge, Failure}
+use Rattle.call_types.specs.declared.call.Call.TheVariants.{InitFailure, Register, ExtNext, ExtInitFailure}
+use Rattle.call_types.specs.declared.call.Call.TheVariants.{ExtExitFailure, Tick, Withdraw, Spindown, Stop, Expire}
+use Rattle.call_types.specs.declared.call.Call.TheVariants.{Reserve}
 use Rattle.call_types.specs.declared.call.Entry.{Entry}
 use Rattle.call_model.specs.History.{call_of, is_expiry}
 use Rattle.call_types.specs.Calls.{body_of}
@@ -32,7 +36,8 @@ abbrev pub entries_lines : Config → ℕ → List Entry → List Entry → List
 entries_lines config salt h [] = []
 entries_lines config salt h (entry ∷ older) = entries_lines config salt h older ++ entry_lines config salt h (length older) entry
 
-comments_are : (salt : ℕ) (h : List Entry) (number : ℕ) (answers : List (ℕ × Answer)) → flat_map (comment_line salt h number) answers ≡ ended (comments salt h number answers)
+comments_are : (salt : ℕ) (h : List Entry) (number : ℕ) (answers : List (ℕ × Answer))
+    → flat_map (comment_line salt h number) answers ≡ ended (comments salt h number answers)
 unfolding answer_line
 comments_are salt h number [] = refl
 comments_are salt h number (a ∷ answers) =
@@ -40,7 +45,8 @@ comments_are salt h number (a ∷ answers) =
     ap (λ (t : List ℕ). comment_line salt h number a ++ t) (comments_are salt h number answers)
     ∙ ap (λ (t : List ℕ). 35 ∷ 32 ∷ t) (append_assoc line (10 ∷ []) (ended (comments salt h number answers)))
 
-entry_is : (config : Config) (salt : ℕ) (h : List Entry) (number : ℕ) (entry : Entry) → entry_text config salt h number entry ≡ ended (entry_lines config salt h number entry)
+entry_is : (config : Config) (salt : ℕ) (h : List Entry) (number : ℕ) (entry : Entry)
+    → entry_text config salt h number entry ≡ ended (entry_lines config salt h number entry)
 unfolding entry_text
 entry_is config salt h number entry = ap (λ (t : List ℕ). call_text config entry.moment entry.call ++ 10 ∷ t) (comments_are salt h number entry.answers)
 
@@ -69,7 +75,8 @@ expiry_marked : (config : Config) (moment e : ℕ) → is_skipped (call_text con
 unfolding call_text
 expiry_marked config moment e = refl
 
-pub expiry_skipped : (config : Config) (salt : ℕ) (h : List Entry) (number : ℕ) (entry : Entry) (e : ℕ) → entry.call ≡ Expire e → HasShortBodies h → AreSkipped (entry_lines config salt h number entry)
+pub expiry_skipped : (config : Config) (salt : ℕ) (h : List Entry) (number : ℕ) (entry : Entry) (e : ℕ)
+    → entry.call ≡ Expire e → HasShortBodies h → AreSkipped (entry_lines config salt h number entry)
 expiry_skipped config salt h number entry e is short =
     let text : call_text config entry.moment (Expire e) ≡ call_text config entry.moment entry.call = ap (call_text config entry.moment) (sym is) in
     let P : List ℕ → Type 0 = λ line. Fits 20000000 line × (is_skipped line ≡ true) in
@@ -111,7 +118,8 @@ short_bodies config (entry ∷ h) all t = go (t == length h) (short_bodies confi
     go true older = short_call config entry.call all.0
     go false older = older
 
-line_fits : (config : Config) (moment : ℕ) (call : Call) → first_fault config ≡ None → (is_expiry call ≡ false → IsWithin config call) → Fits 20000000 (call_text config moment call)
+line_fits : (config : Config) (moment : ℕ) (call : Call) → first_fault config ≡ None
+    → (is_expiry call ≡ false → IsWithin config call) → Fits 20000000 (call_text config moment call)
 line_fits config moment (Expire e) sound h = expiry_line_fits config moment e
 line_fits config moment (Invoke f qualified trace body) sound h = call_line_fits config moment _ sound (h refl)
 line_fits config moment (RuntimeNext e) sound h = call_line_fits config moment _ sound (h refl)
@@ -130,8 +138,10 @@ line_fits config moment Stop sound h = call_line_fits config moment _ sound (h r
 line_fits config moment (Reserve f count) sound h = call_line_fits config moment _ sound (h refl)
 
 -- the lines of entries are lines
-pub entries_lines_are : (config : Config) (salt : ℕ) (h older : List Entry) → first_fault config ≡ None → HasShortBodies h → AreHandedIn config older → AreLines (entries_lines config salt h older)
+pub entries_lines_are : (config : Config) (salt : ℕ) (h older : List Entry) → first_fault config ≡ None
+    → HasShortBodies h → AreHandedIn config older → AreLines (entries_lines config salt h older)
 entries_lines_are config salt h [] sound short all = tt
 entries_lines_are config salt h (entry ∷ older) sound short all =
-    are_lines-append (entries_lines config salt h older) (entry_lines config salt h (length older) entry) (entries_lines_are config salt h older sound short all.1)
+    are_lines-append (entries_lines config salt h older) (entry_lines config salt h (length older) entry)
+    (entries_lines_are config salt h older sound short all.1)
     (line_fits config entry.moment entry.call sound all.0, skipped_lines _ (comments_skipped salt h (length older) entry.answers short))

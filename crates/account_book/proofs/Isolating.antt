@@ -30,7 +30,9 @@ invokes_at : (config : Config) (h : List Entry) (f t : ℕ) → own_ticket confi
 invokes_at config [] f t q = absurd (true≢false (sym q))
 invokes_at config (entry ∷ h) f t q = go (t == length h) (invokes_at config h f t) q
   where
-    go : (b : Bool) → (own_ticket config h f t ≡ true → InvokesOf f (call_of h t)) → (if b then is_own config h f entry.call else own_ticket config h f t) ≡ true → InvokesOf f (if b then entry.call else call_of h t)
+    go : (b : Bool) → (own_ticket config h f t ≡ true → InvokesOf f (call_of h t))
+        → (if b then is_own config h f entry.call else own_ticket config h f t) ≡ true
+        → InvokesOf f (if b then entry.call else call_of h t)
     go true k r = own_invokes config h f entry.call r
     go false k r = k r
 
@@ -43,7 +45,8 @@ counts_same : (f : ℕ) (h k : List Entry) (c d : Call) → c ≡ d → InvokesO
 counts_same f h k c d same i q = ap (request_count h) same ∙ count_same f h k d i q
 
 -- the ticket that an answer names is the function's too
-source_own : (config : Config) (h : List Entry) (f t : ℕ) → IsLegal config h → own_ticket config h f t ≡ true → own_ticket config h f (source_of t (named_in (answer_of h t))) ≡ true
+source_own : (config : Config) (h : List Entry) (f t : ℕ) → IsLegal config h → own_ticket config h f t ≡ true
+    → own_ticket config h f (source_of t (named_in (answer_of h t))) ≡ true
 source_own config h f t l q = go (answer_of h t) refl
   where
     at : (a : Answer) → answer_of h t ≡ Some a → (o : Option ℕ) → named a ≡ o → own_ticket config h f (source_of t o) ≡ true
@@ -73,6 +76,7 @@ same_gist config h f t l q =
           source_call (invokes_at config h f source mine) (ap (λ (n : ℕ). requests (upto k n) f) same ∙ own_requests_upto config h f source) i;
     })
 
-pub same_reply : (config : Config) (salt : ℕ) (h : List Entry) (f t : ℕ) → IsLegal config h → own_ticket config h f t ≡ true → reply_text config salt (own config h f) t ≡ reply_text config salt h t
+pub same_reply : (config : Config) (salt : ℕ) (h : List Entry) (f t : ℕ) → IsLegal config h
+    → own_ticket config h f t ≡ true → reply_text config salt (own config h f) t ≡ reply_text config salt h t
 unfolding reply_text
 same_reply config salt h f t l q = ap (reply_of config salt) (same_gist config h f t l q)

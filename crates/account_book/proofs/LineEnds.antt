@@ -1,5 +1,6 @@
 -- A line feed ends a line, and a text without control bytes is the line that it stands for.
-use Rattle.std.proofs.Common.{◌≡◌, ℕ, ◌-◌, ◌<◌, Bool, true, false, cond, ◌==◌, nat_le, slice_index, if◌then◌else◌, take, List, [], ◌∷◌, ◌++◌, length, All, refl, sym, ap, ◌∙◌, arith, append_assoc}
+use Rattle.std.proofs.Common.{◌≡◌, ℕ, ◌-◌, ◌<◌, Bool, true, false, cond, ◌==◌, nat_le, slice_index, if◌then◌else◌, take}
+use Rattle.std.proofs.Common.{List, [], ◌∷◌, ◌++◌, length, All, refl, sym, ap, ◌∙◌, arith, append_assoc}
 use Rattle.std.specs.List.{slice_split, onto_first, list_all}
 use Rattle.std.specs.Str.Lines.{lines, lines_of_parts, strip_carriage_return}
 use Rattle.std.proofs.lemmas.Bool.Decides.{nat_tests}
@@ -21,7 +22,8 @@ pub pieces_begin : (xs : List ℕ) → (q : List ℕ) × (qs : List (List ℕ)) 
 pieces_begin [] = ([], [], refl)
 pieces_begin (x ∷ xs) = begins_onto (is_break x) x (slice_split is_break xs) (pieces_begin xs)
 
-line_before : (line : List ℕ) (rest : List (List ℕ)) (q : List ℕ) (qs : List (List ℕ)) → rest ≡ q ∷ qs → lines_of_parts (line ∷ rest) ≡ strip_carriage_return line ∷ lines_of_parts rest
+line_before : (line : List ℕ) (rest : List (List ℕ)) (q : List ℕ) (qs : List (List ℕ)) → rest ≡ q ∷ qs
+    → lines_of_parts (line ∷ rest) ≡ strip_carriage_return line ∷ lines_of_parts rest
 line_before line rest q qs e = rw e refl
 
 -- a line feed ends a line

@@ -3,7 +3,10 @@ use Rattle.std.proofs.Common.{◌≡◌, ℕ, ◌≤◌, max, true, false, List,
 use Rattle.std.proofs.Math.Nat.{max-le, max-eq_left, le-max_right}
 use Rattle.arn_ids.specs.declared.config.Config.{Config}
 use Rattle.call_types.specs.declared.call.Call.{Call}
-use Rattle.call_types.specs.declared.call.Call.TheVariants.{Invoke, RuntimeNext, Response, ResponseTooLarge, Failure, InitFailure, Register, ExtNext, ExtInitFailure, ExtExitFailure, Tick, Withdraw, Spindown, Stop, Expire, Reserve}
+use Rattle.call_types.specs.declared.call.Call.TheVariants.{Invoke, RuntimeNext, Response, ResponseTooLarge, Failure}
+use Rattle.call_types.specs.declared.call.Call.TheVariants.{InitFailure, Register, ExtNext, ExtInitFailure}
+use Rattle.call_types.specs.declared.call.Call.TheVariants.{ExtExitFailure, Tick, Withdraw, Spindown, Stop, Expire}
+use Rattle.call_types.specs.declared.call.Call.TheVariants.{Reserve}
 use Rattle.call_types.specs.declared.call.Entry.{Entry}
 use Rattle.call_model.specs.History.{is_expiry}
 use Rattle.call_model.specs.Next.{IsLegal, due, entry_of, expiries, entered, moment_at, last_moment, added, next}
@@ -18,7 +21,9 @@ pub reached_first : (config : Config) (max_entries : ℕ) → IsReached config m
 reached_first config max_entries = record { calls = []; taken = tt; led = refl }
 
 -- one call more
-pub reached_next : (config : Config) (max_entries : ℕ) (h : List Entry) (now : ℕ) (call : Call) → IsReached config max_entries h → IsTakenAfter config max_entries h now call → IsReached config max_entries (next config h now call)
+pub reached_next : (config : Config) (max_entries : ℕ) (h : List Entry) (now : ℕ) (call : Call)
+    → IsReached config max_entries h → IsTakenAfter config max_entries h now call
+    → IsReached config max_entries (next config h now call)
 reached_next config max_entries h now call r t = record {
   calls = (now, call) ∷ r.calls;
   taken = (r.taken, subst (λ (k : List Entry). IsTakenAfter config max_entries k now call) r.led t);
@@ -51,7 +56,8 @@ legal config max_entries (c ∷ calls) h = legal_next config (led_to config call
 pub reached_legal : (config : Config) (max_entries : ℕ) (h : List Entry) → IsReached config max_entries h → IsLegal config h
 reached_legal config max_entries h r = subst (IsLegal config) (sym r.led) (legal config max_entries r.calls r.taken)
 
-pub early : (config : Config) (max_entries : ℕ) (calls : List (ℕ × Call)) → AreTaken config max_entries calls → last_moment (led_to config calls) ≤ greatest_moment
+pub early : (config : Config) (max_entries : ℕ) (calls : List (ℕ × Call)) → AreTaken config max_entries calls
+    → last_moment (led_to config calls) ≤ greatest_moment
 unfolding next added
 early config max_entries [] h = omega arith
 early config max_entries (c ∷ calls) h = max-le h.1.timed.0 (early config max_entries calls h.0)
@@ -70,7 +76,8 @@ expiries-append (x ∷ xs) ys h k = (h.0, expiries-append xs ys h.1 k)
 pub are_expiries : (config : Config) (m : ℕ) (es : List ℕ) (h : List Entry) → AreExpiries (expiries config m es h)
 are_expiries config m [] h = tt
 are_expiries config m (e ∷ es) h =
-    expiries-append (expiries config m es (entered config h m (Expire e))) (entry_of config h m (Expire e) ∷ []) (are_expiries config m es (entered config h m (Expire e))) ((e, refl), tt)
+    expiries-append (expiries config m es (entered config h m (Expire e))) (entry_of config h m (Expire e) ∷ [])
+    (are_expiries config m es (entered config h m (Expire e))) ((e, refl), tt)
 
 expiry_is : (call : Call) (e : ℕ) → call ≡ Expire e → is_expiry call ≡ false → ⊥
 expiry_is call e is not_one = let one : is_expiry call ≡ true = ap is_expiry is in cc
@@ -93,4 +100,5 @@ max_again a b = max-eq_left (le-max_right a b)
 
 pub added_again : (config : Config) (h : List Entry) (now : ℕ) (call : Call) → added config h (moment_at h now) call ≡ added config h now call
 unfolding added
-added_again config h now call = ap (λ (m : ℕ). entry_of config (expiries config m (due config h m) h ++ h) m call ∷ expiries config m (due config h m) h) (max_again now (last_moment h))
+added_again config h now call =
+    ap (λ (m : ℕ). entry_of config (expiries config m (due config h m) h ++ h) m call ∷ expiries config m (due config h m) h) (max_again now (last_moment h))

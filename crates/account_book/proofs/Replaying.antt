@@ -36,7 +36,8 @@ begins_on [] more h = absurd h
 begins_on (b ∷ bs) more h = h
 
 begins_decimal : (n : ℕ) → n < 2 ^ 64 → BeginsCall (decimal n)
-begins_decimal n small = decimal_by_steps (λ _ ds. BeginsCall ds) (λ d le. grind (arith, nat_tests)) (λ m ds big begins. begins_on ds ((48 + m % 10) ∷ []) begins) n small
+begins_decimal n small =
+    decimal_by_steps (λ _ ds. BeginsCall ds) (λ d le. grind (arith, nat_tests)) (λ m ds big begins. begins_on ds ((48 + m % 10) ∷ []) begins) n small
 
 not_skipped : (text : List ℕ) → BeginsCall text → is_skipped text ≡ false
 not_skipped [] h = absurd h
@@ -59,7 +60,9 @@ unfolding call_answered next
 answered_is config salt max_entries h now call room =
     rw room (ap (λ (new : List Entry). (book_with config salt max_entries (new ++ h), added_lines salt h new)) (added_again config h now call))
 
-line_taken_is : (config : Config) (salt max_entries : ℕ) (h : List Entry) (now : ℕ) (call : Call) → first_fault config ≡ None → last_moment h ≤ greatest_moment → IsTakenAfter config max_entries h now call → (number : ℕ)
+line_taken_is : (config : Config) (salt max_entries : ℕ) (h : List Entry) (now : ℕ) (call : Call)
+    → first_fault config ≡ None → last_moment h ≤ greatest_moment → IsTakenAfter config max_entries h now call
+    → (number : ℕ)
     → line_taken number (Taking true (book_with config salt max_entries h)) (call_text config (moment_at h now) call)
     ≡ Ok (Taking true (book_with config salt max_entries (next config h now call)), added_lines salt h (added config h now call))
 unfolding line_answered
@@ -77,10 +80,13 @@ skips_expiries config salt all [] h first book text x short p = p
 skips_expiries config salt all (entry ∷ es) h first book text x short p =
     subst (Leads (entries_lines config salt all (entry ∷ (es ++ h))) first (Taking true book)) (append-nil text)
     (leads_on (entries_lines config salt all (es ++ h)) (entry_lines config salt all (length (es ++ h)) entry) first (Taking true book) (Taking true book) text []
-    (skips_expiries config salt all es h first book text x.1 short p) (leads_past true book (entry_lines config salt all (length (es ++ h)) entry) (expiry_skipped config salt all (length (es ++ h)) entry x.0.0 x.0.1 short)))
+    (skips_expiries config salt all es h first book text x.1 short p)
+    (leads_past true book (entry_lines config salt all (length (es ++ h)) entry) (expiry_skipped config salt all (length (es ++ h)) entry x.0.0 x.0.1 short)))
 
 -- one call more
-one_more : (config : Config) (salt max_entries : ℕ) (all h : List Entry) (now : ℕ) (call : Call) → first_fault config ≡ None → HasShortBodies all → IsLegal config h → last_moment h ≤ greatest_moment → IsTakenAfter config max_entries h now call
+one_more : (config : Config) (salt max_entries : ℕ) (all h : List Entry) (now : ℕ) (call : Call)
+    → first_fault config ≡ None → HasShortBodies all → IsLegal config h → last_moment h ≤ greatest_moment
+    → IsTakenAfter config max_entries h now call
     → Leads (entries_lines config salt all h) (Taking true (book_with config salt max_entries [])) (Taking true (book_with config salt max_entries h)) (answers_text salt h)
     → Leads (entries_lines config salt all (next config h now call)) (Taking true (book_with config salt max_entries [])) (Taking true (book_with config salt max_entries (next config h now call))) (answers_text salt (next config h now call))
 unfolding next added
@@ -101,9 +107,11 @@ one_more config salt max_entries all h now call sound short lawful old t p =
     (leads_line (call_text config m call) before (Taking true after) lines_added (line_taken_is config salt max_entries h now call sound old t))
     (leads_past true after (comments salt all (length (es ++ h)) entry.answers) (comments_skipped salt all (length (es ++ h)) entry.answers short))))
 
-pub leads_again : (config : Config) (salt max_entries : ℕ) (all : List Entry) (calls : List (ℕ × Call)) → first_fault config ≡ None → HasShortBodies all → AreTaken config max_entries calls
+pub leads_again : (config : Config) (salt max_entries : ℕ) (all : List Entry) (calls : List (ℕ × Call))
+    → first_fault config ≡ None → HasShortBodies all → AreTaken config max_entries calls
     → Leads (entries_lines config salt all (led_to config calls)) (Taking true (book_with config salt max_entries [])) (Taking true (book_with config salt max_entries (led_to config calls))) (answers_text salt (led_to config calls))
 leads_again config salt max_entries all [] sound short taken = leads_nowhere (Taking true (book_with config salt max_entries []))
 leads_again config salt max_entries all (c ∷ calls) sound short taken =
-    one_more config salt max_entries all (led_to config calls) c.0 c.1 sound short (legal config max_entries calls taken.0) (early config max_entries calls taken.0) taken.1
+    one_more config salt max_entries all (led_to config calls) c.0 c.1 sound short
+    (legal config max_entries calls taken.0) (early config max_entries calls taken.0) taken.1
     (leads_again config salt max_entries all calls sound short taken.0)

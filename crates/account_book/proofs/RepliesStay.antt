@@ -1,5 +1,6 @@
 -- A call that a history has, and a reply that it gives, each history that continues it has and gives too.
-use Rattle.std.proofs.Common.{◌≡◌, ◌<◌, ℕ, true, false, not, nat_lt, ◌&&◌, List, [], ◌∷◌, ◌++◌, length, Option, Some, None, is_some, refl, sym, ap, ◌∙◌, arith, length-append}
+use Rattle.std.proofs.Common.{◌≡◌, ◌<◌, ℕ, true, false, not, nat_lt, ◌&&◌, List, [], ◌∷◌, ◌++◌, length, Option, Some}
+use Rattle.std.proofs.Common.{None, is_some, refl, sym, ap, ◌∙◌, arith, length-append}
 use Rattle.std.proofs.lemmas.Bool.Decides.{nat_tests}
 use Rattle.arn_ids.specs.declared.config.Config.{Config}
 use Rattle.call_types.specs.declared.answer.Answer.{Answer}
@@ -28,7 +29,8 @@ count_old e h t lt =
     ap (λ (k : List Entry). request_count k (call_of h t)) (upto_old e h t lt)
     ∙ ap (request_count (upto (e ∷ h) t)) (sym (call_of_old e h t lt))
 
-answer_old : (config : Config) (e : Entry) (h : List Entry) (t : ℕ) (a : Answer) → IsLegal config (e ∷ h) → answer_of h t ≡ Some a → t < length h → answer_of (e ∷ h) t ≡ Some a
+answer_old : (config : Config) (e : Entry) (h : List Entry) (t : ℕ) (a : Answer) → IsLegal config (e ∷ h)
+    → answer_of h t ≡ Some a → t < length h → answer_of (e ∷ h) t ≡ Some a
 answer_old config e h t a l is lt =
     let quiet : pending h t ≡ false =
     ap (λ (o : Option Answer). not (is_expiry (call_of h t)) && not (is_some o)) is ∙ and_false (not (is_expiry (call_of h t))) in
@@ -36,7 +38,8 @@ answer_old config e h t a l is lt =
     ap (λ (xs : List (ℕ × Answer)). answer_in xs t) l.1.answers ∙ silent config h e.moment e.call t (omega (arith, lt)) quiet in
     ap (λ (o : Option Answer). or_else o (answer_of h t)) none ∙ is
 
-gist_old : (config : Config) (e : Entry) (h : List Entry) (t : ℕ) (a : Answer) → IsLegal config (e ∷ h) → answer_of h t ≡ Some a → own_gist (e ∷ h) t ≡ own_gist h t
+gist_old : (config : Config) (e : Entry) (h : List Entry) (t : ℕ) (a : Answer) → IsLegal config (e ∷ h)
+    → answer_of h t ≡ Some a → own_gist (e ∷ h) t ≡ own_gist h t
 gist_old config e h t a l is =
     let s = source_of t (named a) in
     let there = answered_there config h t a l.0 is in
@@ -46,7 +49,8 @@ gist_old config e h t a l is =
     (sym (call_of_old e h t there.0)) (count_old e h t there.0) (sym (call_of_old e h s there.1)) (count_old e h s there.1))
     ∙ same_gist h t s a (call_of h t) (call_of h s) count source_count is refl refl refl refl refl
 
-reply_old : (config : Config) (salt : ℕ) (e : Entry) (h : List Entry) (t : ℕ) (reply : Reply) → IsLegal config (e ∷ h) → reply_text config salt h t ≡ Some reply → reply_text config salt (e ∷ h) t ≡ Some reply
+reply_old : (config : Config) (salt : ℕ) (e : Entry) (h : List Entry) (t : ℕ) (reply : Reply) → IsLegal config (e ∷ h)
+    → reply_text config salt h t ≡ Some reply → reply_text config salt (e ∷ h) t ≡ Some reply
 unfolding reply_text
 reply_old config salt e h t reply l given = go (answer_of h t) refl
   where
@@ -64,7 +68,8 @@ calls_stay h [] ticket lt = refl
 calls_stay h (e ∷ newer) ticket lt =
     call_of_old e (newer ++ h) ticket (omega (arith, lt, length-append newer h)) ∙ calls_stay h newer ticket lt
 
-legal_stay : (config : Config) (salt : ℕ) (h newer : List Entry) (t : ℕ) (reply : Reply) → IsLegal config (newer ++ h) → reply_text config salt h t ≡ Some reply → reply_text config salt (newer ++ h) t ≡ Some reply
+legal_stay : (config : Config) (salt : ℕ) (h newer : List Entry) (t : ℕ) (reply : Reply) → IsLegal config (newer ++ h)
+    → reply_text config salt h t ≡ Some reply → reply_text config salt (newer ++ h) t ≡ Some reply
 legal_stay config salt h [] t reply l given = given
 legal_stay config salt h (e ∷ newer) t reply l given =
     reply_old config salt e (newer ++ h) t reply l (legal_stay config salt h newer t reply l.0 given)

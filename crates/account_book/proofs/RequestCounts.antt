@@ -23,21 +23,26 @@ numbered_at g a (suc n) zero d lt = let same : a ≡ a + 0 = omega arith in ap g
 numbered_at g a (suc n) (suc i) d lt = let same : suc a + i ≡ a + suc i = omega arith in numbered_at g (suc a) n i d (omega (arith, lt)) ∙ ap g same
 
 pub request_at : (config : Config) (h : List Entry) (f d : ℕ) → 1 ≤ f → f ≤ length config.functions → get_or (request_counts config h) (f - 1) d ≡ requests h f
-request_at config h f d low high = let same : 1 + (f - 1) ≡ f = omega (arith, low) in numbered_at (requests h) 1 (length config.functions) (f - 1) d (omega (arith, low, high)) ∙ ap (requests h) same
+request_at config h f d low high =
+    let same : 1 + (f - 1) ≡ f = omega (arith, low) in numbered_at (requests h) 1 (length config.functions) (f - 1) d (omega (arith, low, high)) ∙ ap (requests h) same
 
 pub requests_few : (h : List Entry) (f : ℕ) → requests h f ≤ length h
 requests_few h f = count_by-le-length (λ (entry : Entry). is_invoke_of f entry.call) h
 
 -- an Invoke is counted for its function alone
-pub counts_after_invoke : (config : Config) (h : List Entry) (entry : Entry) (f : ℕ) (qualified : Bool) (trace : Option (List ℕ)) (body : List ℕ) → entry.call ≡ Invoke f qualified trace body → 1 ≤ f → f ≤ length config.functions
+pub counts_after_invoke : (config : Config) (h : List Entry) (entry : Entry) (f : ℕ) (qualified : Bool) (trace : Option (List ℕ)) (body : List ℕ)
+    → entry.call ≡ Invoke f qualified trace body → 1 ≤ f → f ≤ length config.functions
     → request_counts config (entry ∷ h) ≡ set (request_counts config h) (f - 1) (requests h f + 1)
 counts_after_invoke config h entry f qualified trace body same low high =
     let back : 1 + (f - 1) ≡ f = omega (arith, low) in
-    one_changes (requests (entry ∷ h)) (requests h) 1 (length config.functions) (f - 1) (λ g ne. requests_cons entry h g ∙ rw (same, other g (λ q. ne (q ∙ sym back))) (omega arith)) (omega (arith, low, high))
+    one_changes (requests (entry ∷ h)) (requests h) 1 (length config.functions) (f - 1)
+    (λ g ne. requests_cons entry h g ∙ rw (same, other g (λ q. ne (q ∙ sym back))) (omega arith))
+    (omega (arith, low, high))
     ∙ ap (set (request_counts config h) (f - 1)) (ap (requests (entry ∷ h)) back ∙ requests_cons entry h f ∙ rw (same, eqb-self f) (omega arith))
   where
     other : (g : ℕ) → g ≢ f → (f == g) ≡ false
     other g ne = grind (arith, nat_tests, ne)
 
-pub one_more : (h : List Entry) (entry : Entry) (f : ℕ) (qualified : Bool) (trace : Option (List ℕ)) (body : List ℕ) → entry.call ≡ Invoke f qualified trace body → requests (entry ∷ h) f ≡ requests h f + 1
+pub one_more : (h : List Entry) (entry : Entry) (f : ℕ) (qualified : Bool) (trace : Option (List ℕ)) (body : List ℕ)
+    → entry.call ≡ Invoke f qualified trace body → requests (entry ∷ h) f ≡ requests h f + 1
 one_more h entry f qualified trace body same = requests_cons entry h f ∙ rw (same, eqb-self f) (omega arith)

@@ -16,7 +16,8 @@ use Rattle.fleet.proofs.Loops.{count_length}
 pub full_is : (config : Config) (max : ℕ) (h : List Entry) (call : Call) → full config max h call ≡ nat_lt max (length h + wanted (length (owners config)) call)
 full_is config max h call = ap (λ n. nat_lt max (length h + (if is_stop call then n + 1 else 2 * (n + 1)))) (count_length 1 (length (owners config)))
 
-pub room_for : (config : Config) (max : ℕ) (h : List Entry) (call : Call) (m : ℕ) → full config max h call ≡ false → length h + (length (due config h m) + 1) ≤ max
+pub room_for : (config : Config) (max : ℕ) (h : List Entry) (call : Call) (m : ℕ) → full config max h call ≡ false
+    → length h + (length (due config h m) + 1) ≤ max
 room_for config max h call m free = go (is_stop call) (sym (full_is config max h call) ∙ free)
   where
     n : ℕ

@@ -29,7 +29,8 @@ newest : (entry : Entry) (h : List Entry) (ticket : ℕ) → ticket + 1 ≡ leng
 newest entry h ticket at = let same : length h ≡ ticket = omega (arith, at) in subst (λ (t : ℕ). call_of (entry ∷ h) t ≡ entry.call) same (call_of_new entry h)
 
 -- its newest entry is the call's own
-stands : (config : Config) (h : List Entry) (now : ℕ) (call : Call) (ticket : ℕ) → ticket + 1 ≡ length (next config h now call) → call_of (next config h now call) ticket ≡ call
+stands : (config : Config) (h : List Entry) (now : ℕ) (call : Call) (ticket : ℕ)
+    → ticket + 1 ≡ length (next config h now call) → call_of (next config h now call) ticket ≡ call
 unfolding next added
 stands config h now call ticket at =
     let m = moment_at h now in

@@ -1,5 +1,6 @@
 -- The text of a history is that of its parts.
-use Rattle.std.proofs.Common.{◌≡◌, ℕ, zero, suc, ◌+◌, ◌-◌, List, [], ◌∷◌, ◌++◌, length, reverse, get_or, slice_index_or, refl, sym, ap, ◌∙◌, arith, append_assoc, length-append}
+use Rattle.std.proofs.Common.{◌≡◌, ℕ, zero, suc, ◌+◌, ◌-◌, List, [], ◌∷◌, ◌++◌, length, reverse, get_or, slice_index_or}
+use Rattle.std.proofs.Common.{refl, sym, ap, ◌∙◌, arith, append_assoc, length-append}
 use Rattle.std.specs.List.{flat_map}
 use Rattle.std.proofs.Math.Seq.{get_or-append_seam}
 use Rattle.std.proofs.lemmas.List.{append-nil, get_or-reverse}
@@ -30,13 +31,15 @@ stands_at newer entry older d =
 abbrev part : Config → ℕ → List Entry → Entry → ℕ → List ℕ
 part config salt h d t = entry_text config salt h t (slice_index_or (reverse h) t d)
 
-entries_in_parts : (config : Config) (salt : ℕ) (h newer older : List Entry) (d : Entry) → newer ++ older ≡ h → entries_text config salt h older ≡ flat_map (part config salt h d) (count_from 0 (length older))
+entries_in_parts : (config : Config) (salt : ℕ) (h newer older : List Entry) (d : Entry) → newer ++ older ≡ h
+    → entries_text config salt h older ≡ flat_map (part config salt h d) (count_from 0 (length older))
 entries_in_parts config salt h newer [] d is = refl
 entries_in_parts config salt h newer (entry ∷ older) d is =
     let g : ℕ → List ℕ = part config salt h d in
     let there : entry ≡ slice_index_or (reverse h) (length older) d = sym (stands_at newer entry older d) ∙ ap (λ (k : List Entry). slice_index_or (reverse k) (length older) d) is in
     let number : length older ≡ 0 + length older = omega arith in
-    ap (λ (t : List ℕ). t ++ entry_text config salt h (length older) entry) (entries_in_parts config salt h (newer ++ entry ∷ []) older d (append_assoc newer (entry ∷ []) older ∙ is))
+    ap (λ (t : List ℕ). t ++ entry_text config salt h (length older) entry)
+    (entries_in_parts config salt h (newer ++ entry ∷ []) older d (append_assoc newer (entry ∷ []) older ∙ is))
     ∙ ap (λ (e : Entry). flat_map g (count_from 0 (length older)) ++ entry_text config salt h (length older) e) there
     ∙ ap (λ (k : ℕ). flat_map g (count_from 0 (length older)) ++ g k) number
     ∙ sym (one_more g 0 (length older))

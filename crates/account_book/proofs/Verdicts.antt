@@ -20,14 +20,18 @@ pub verdict_stopped : (config : Config) (h : List Entry) (f : ℕ) → stopped h
 unfolding verdict
 verdict_stopped config h f q = ap (λ (b : Bool). if b then AfterStop else by_limits config h f (reservation config h f)) q
 
-pub verdict_open : (config : Config) (h : List Entry) (f : ℕ) (p : Numbers) (all : List Site) → 1 ≤ f → f ≤ length config.functions → p ≡ numbers config h → all ≡ sites config h → stopped h ≡ false → verdict config h f ≡ by_throttle (throttle p f) (place_among (map site_place all) f)
+pub verdict_open : (config : Config) (h : List Entry) (f : ℕ) (p : Numbers) (all : List Site) → 1 ≤ f
+    → f ≤ length config.functions → p ≡ numbers config h → all ≡ sites config h → stopped h ≡ false
+    → verdict config h f ≡ by_throttle (throttle p f) (place_among (map site_place all) f)
 unfolding verdict
 verdict_open config h f p all low high is are q =
     ap (λ (b : Bool). if b then AfterStop else by_limits config h f (reservation config h f)) q
     ∙ limits_are config h f low high
     ∙ ap₂ (λ (n : Numbers) (ss : List Site). by_throttle (throttle n f) (place_among (map site_place ss) f)) (sym is) (sym are)
 
-pub reserve_open : (config : Config) (h : List Entry) (f : ℕ) (count : Option ℕ) (p : Numbers) (b : Bool) → 1 ≤ f → f ≤ length config.functions → p ≡ numbers config h → stopped h ≡ false → may_reserve p f count ≡ b → (if stopped h then Stopped else reserve_answer config h f count) ≡ by_reserve b count
+pub reserve_open : (config : Config) (h : List Entry) (f : ℕ) (count : Option ℕ) (p : Numbers) (b : Bool) → 1 ≤ f
+    → f ≤ length config.functions → p ≡ numbers config h → stopped h ≡ false → may_reserve p f count ≡ b
+    → (if stopped h then Stopped else reserve_answer config h f count) ≡ by_reserve b count
 reserve_open config h f count p b low high is q r =
     ap (λ (x : Bool). if x then Stopped else reserve_answer config h f count) q
     ∙ pool.reserve_is config h f count low high

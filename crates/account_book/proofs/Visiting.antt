@@ -1,12 +1,16 @@
 -- What holds of the environment that a call reaches.
-use Rattle.std.proofs.Common.{◌≡◌, ℕ, ◌+◌, ◌-◌, ◌<◌, ◌≤◌, All, Bool, true, false, List, ◌∷◌, length, Option, Some, None, sym, refl, ap, ◌∙◌, arith, inl, inr, true≢false, if◌then◌else◌, ◌==◌}
+use Rattle.std.proofs.Common.{◌≡◌, ℕ, ◌+◌, ◌-◌, ◌<◌, ◌≤◌, All, Bool, true, false, List, ◌∷◌, length, Option, Some, None}
+use Rattle.std.proofs.Common.{sym, refl, ap, ◌∙◌, arith, inl, inr, true≢false, if◌then◌else◌, ◌==◌}
 use Rattle.std.proofs.lemmas.Bool.{cases_lt, eqb-true}
 use Rattle.arn_ids.specs.declared.config.Config.{Config}
 use Rattle.arn_ids.specs.Environments.{owners, function_of}
 use Rattle.arn_ids.proofs.Bounds.{label_between}
 use Rattle.call_types.specs.declared.answer.Throttle.{Throttle}
 use Rattle.call_types.specs.declared.call.Call.{Call}
-use Rattle.call_types.specs.declared.call.Call.TheVariants.{Invoke, RuntimeNext, Response, ResponseTooLarge, Failure, InitFailure, Register, ExtNext, ExtInitFailure, ExtExitFailure, Tick, Withdraw, Spindown, Stop, Expire, Reserve}
+use Rattle.call_types.specs.declared.call.Call.TheVariants.{Invoke, RuntimeNext, Response, ResponseTooLarge, Failure}
+use Rattle.call_types.specs.declared.call.Call.TheVariants.{InitFailure, Register, ExtNext, ExtInitFailure}
+use Rattle.call_types.specs.declared.call.Call.TheVariants.{ExtExitFailure, Tick, Withdraw, Spindown, Stop, Expire}
+use Rattle.call_types.specs.declared.call.Call.TheVariants.{Reserve}
 use Rattle.call_types.specs.declared.call.Entry.{Entry}
 use Rattle.call_model.specs.History.{call_of, or_else, is_stop, stopped, poll_env}
 use Rattle.call_types.specs.Calls.{env_of, is_invoke}
@@ -52,7 +56,8 @@ everywhere : (e : ℕ) → Everywhere ≡ At e → ⊥
 everywhere e k = cc
 
 -- the environment that is reached is one that there is
-pub reach_within : (config : Config) (h : List Entry) (call : Call) (place : Option ℕ) (e : ℕ) → AllKnown config h → IsKnown config call → place ≡ place_for config h call → reach h place call ≡ At e → IsEnv config e
+pub reach_within : (config : Config) (h : List Entry) (call : Call) (place : Option ℕ) (e : ℕ) → AllKnown config h
+    → IsKnown config call → place ≡ place_for config h call → reach h place call ≡ At e → IsEnv config e
 reach_within config h call place e all known placed q = go call known placed q
   where
     named : (c : Call) → IsKnown config c → (p : Option ℕ) → p ≡ place_for config h c → or_else p (env_of c) ≡ Some e → IsEnv config e
@@ -87,7 +92,9 @@ reach_within config h call place e all known placed q = go call known placed q
 pub site_of : (config : Config) (h : List Entry) (e : ℕ) → 1 ≤ e → e ≤ length (owners config) → site_at (sites config h) e ≡ site config h e
 site_of config h e low high =
     let back : 1 + (e - 1) ≡ e = omega (arith, low) in
-    site_is_at (sites config h) e no_site low (rw (sites_length config h) high) ∙ numbered_at (site config h) 1 (length (owners config)) (e - 1) no_site (omega (arith, low, high)) ∙ ap (site config h) back
+    site_is_at (sites config h) e no_site low (rw (sites_length config h) high)
+    ∙ numbered_at (site config h) 1 (length (owners config)) (e - 1) no_site (omega (arith, low, high))
+    ∙ ap (site config h) back
 
 -- no Stop reaches one environment alone
 pub no_stop : (h : List Entry) (place : Option ℕ) (call : Call) (e : ℕ) → reach h place call ≡ At e → is_stop call ≡ false
@@ -114,16 +121,19 @@ all_stop h place call q = absurd (one (or_else place (env_of call)) q)
     one (Some d) k = cc
 
 -- an environment that is reached answers each of its waiting tickets once at most
-few_where : (config : Config) (h : List Entry) (entry : Entry) (e : ℕ) → IsLegal config h → Follows config h entry → reaches (reach h entry.place entry.call) e ≡ true → 1 ≤ e → e ≤ length (owners config)
+few_where : (config : Config) (h : List Entry) (entry : Entry) (e : ℕ) → IsLegal config h → Follows config h entry
+    → reaches (reach h entry.place entry.call) e ≡ true → 1 ≤ e → e ≤ length (owners config)
     → length (moves_at (length h) entry.moment (request_counts config (entry ∷ h)) entry.call (site config h e)) ≤ length (stand config h e).members + 3
 few_where config h entry e l w here low high = rw (moves_there config h entry e l w low high here) (few_here config h entry e (l, w))
 
-pub few_there : (config : Config) (h : List Entry) (entry : Entry) (e : ℕ) → IsLegal config h → Follows config h entry → reach h entry.place entry.call ≡ At e → 1 ≤ e → e ≤ length (owners config)
+pub few_there : (config : Config) (h : List Entry) (entry : Entry) (e : ℕ) → IsLegal config h → Follows config h entry
+    → reach h entry.place entry.call ≡ At e → 1 ≤ e → e ≤ length (owners config)
     → length (moves_at (length h) entry.moment (request_counts config (entry ∷ h)) entry.call (site config h e)) ≤ length (stand config h e).members + 3
 few_there config h entry e l w r low high = few_where config h entry e l w (ap (λ (x : Reach). reaches x e) r ∙ eqb-self e) low high
 
 -- and so each of all, where all are reached
-pub few_everywhere : (config : Config) (h : List Entry) (entry : Entry) → IsLegal config h → Follows config h entry → reach h entry.place entry.call ≡ Everywhere
+pub few_everywhere : (config : Config) (h : List Entry) (entry : Entry) → IsLegal config h → Follows config h entry
+    → reach h entry.place entry.call ≡ Everywhere
     → All (λ s. length (moves_at (length h) entry.moment (request_counts config (entry ∷ h)) entry.call s) ≤ 13) (sites config h)
 few_everywhere config h entry l w r i d lt =
     let there : i < length (owners config) = omega (arith, lt, sites_length config h) in
@@ -131,11 +141,15 @@ few_everywhere config h entry l w r i d lt =
     (omega (arith, few_where config h entry (1 + i) l w (ap (λ (x : Reach). reaches x (1 + i)) r) (omega arith) (omega (arith, there)), ten_members config h (1 + i) l))
 
 -- so there is room for its answers, and for one more
-pub room_there : (h : List Entry) (place : Option ℕ) (call : Call) (e widest environments moves members : ℕ) → reach h place call ≡ At e → moves ≤ members + 3 → members ≤ widest → moves + 1 ≤ most_answers widest environments call
+pub room_there : (h : List Entry) (place : Option ℕ) (call : Call) (e widest environments moves members : ℕ)
+    → reach h place call ≡ At e → moves ≤ members + 3 → members ≤ widest
+    → moves + 1 ≤ most_answers widest environments call
 room_there h place call e widest environments moves members r few narrow = rw (no_stop h place call e r) (omega (arith, few, narrow))
 
 -- an Invoke that reaches an environment is admitted there
-pub admitted_there : (config : Config) (h : List Entry) (call : Call) (place : Option ℕ) (e : ℕ) → IsKnown config call → place ≡ place_for config h call → reach h place call ≡ At e → is_invoke call ≡ true → throttle (numbers config h) (function_of config e) ≡ None
+pub admitted_there : (config : Config) (h : List Entry) (call : Call) (place : Option ℕ) (e : ℕ) → IsKnown config call
+    → place ≡ place_for config h call → reach h place call ≡ At e → is_invoke call ≡ true
+    → throttle (numbers config h) (function_of config e) ≡ None
 unfolding verdict
 admitted_there config h (Invoke f qualified trace body) place e known placed r i =
     let at : place_for config h (Invoke f qualified trace body) ≡ Some e = sym placed ∙ only place (one_env (or_else place None) e r) in

@@ -1,5 +1,6 @@
 -- What is kept beside the environments, after one of them changed.
-use Rattle.std.proofs.Common.{◌≡◌, ℕ, zero, suc, ◌+◌, ◌-◌, ◌<◌, ◌≤◌, Bool, true, false, cond, List, [], ◌∷◌, length, map, get_or, set, count_by, All, sym, refl, ap, ap₂, ◌∙◌, arith, subst, true≢false, ◌==◌}
+use Rattle.std.proofs.Common.{◌≡◌, ℕ, zero, suc, ◌+◌, ◌-◌, ◌<◌, ◌≤◌, Bool, true, false, cond, List, [], ◌∷◌, length}
+use Rattle.std.proofs.Common.{map, get_or, set, count_by, All, sym, refl, ap, ap₂, ◌∙◌, arith, subst, true≢false, ◌==◌}
 use Rattle.std.proofs.lemmas.List.{map-set, get_or-map, length-set, length-map}
 use Rattle.std.proofs.lemmas.List.Elements.{All-set, All-get_or}
 use Rattle.std.proofs.lemmas.List.Sums.{sum_by-set}
@@ -28,13 +29,16 @@ pub flown_length : (sites : List Site) (a : ℕ) (usages : List Usage) → lengt
 flown_length sites a [] = refl
 flown_length sites a (u ∷ us) = ap suc (flown_length sites (suc a) us)
 
-flown_at : (sites : List Site) (a : ℕ) (usages : List Usage) (j : ℕ) → j < length usages → (get_or (flown_from sites a usages) j no_usage).in_flight ≡ count_by (serves_function (a + j)) sites
+flown_at : (sites : List Site) (a : ℕ) (usages : List Usage) (j : ℕ) → j < length usages
+    → (get_or (flown_from sites a usages) j no_usage).in_flight ≡ count_by (serves_function (a + j)) sites
 flown_at sites a [] j lt = absurd (omega arith)
 flown_at sites a (u ∷ us) zero lt = ap (λ (f : ℕ). count_by (serves_function f) sites) (let same : a ≡ a + 0 = omega arith in same)
-flown_at sites a (u ∷ us) (suc j) lt = flown_at sites (suc a) us j (omega arith) ∙ ap (λ (f : ℕ). count_by (serves_function f) sites) (let same : suc a + j ≡ a + suc j = omega arith in same)
+flown_at sites a (u ∷ us) (suc j) lt =
+    flown_at sites (suc a) us j (omega arith) ∙ ap (λ (f : ℕ). count_by (serves_function f) sites) (let same : suc a + j ≡ a + suc j = omega arith in same)
 
 -- what a function has in flight is how many environments serve it
-pub in_flight_at : (f : Inside) (g : ℕ) → IsFleet f → 1 ≤ g → g ≤ length f.pool.functions → (usage_at f.pool g).in_flight ≡ count_by (serves_function g) f.sites.items
+pub in_flight_at : (f : Inside) (g : ℕ) → IsFleet f → 1 ≤ g → g ≤ length f.pool.functions
+    → (usage_at f.pool g).in_flight ≡ count_by (serves_function g) f.sites.items
 in_flight_at f g k from_one there =
     let back : 1 + (g - 1) ≡ g = omega (arith, from_one) in
     ap (λ (u : Usage). u.in_flight) (usage_is_at f.pool g no_usage from_one there)
@@ -43,10 +47,13 @@ in_flight_at f g k from_one there =
     ∙ ap (λ (n : ℕ). count_by (serves_function n) f.sites.items) back
 
 -- one that is taken is among them
-pub some_in_flight : (f : Inside) (i : ℕ) (d : Site) → IsFleet f → i < length f.sites.items → is_taken (get_or f.sites.items i d).environment.stand.phase ≡ true → 0 < (usage_at f.pool (get_or f.sites.items i d).function).in_flight
+pub some_in_flight : (f : Inside) (i : ℕ) (d : Site) → IsFleet f → i < length f.sites.items
+    → is_taken (get_or f.sites.items i d).environment.stand.phase ≡ true
+    → 0 < (usage_at f.pool (get_or f.sites.items i d).function).in_flight
 some_in_flight f i d k lt taken =
     let own : IsOwned (length f.pool.functions) s = All-get_or (IsOwned (length f.pool.functions)) f.sites.items i d lt k.owned in
-    rw (in_flight_at f s.function k own.0 own.1) (positive (count_by (serves_function s.function) (set f.sites.items i no_site)) (count_by (serves_function s.function) f.sites.items) (cond (serves_function s.function no_site) 1 0) (serves_function s.function s) (sum_by-set (λ x. cond (serves_function s.function x) 1 0) f.sites.items i no_site d lt) serves nobody)
+    rw (in_flight_at f s.function k own.0 own.1)
+    (positive (count_by (serves_function s.function) (set f.sites.items i no_site)) (count_by (serves_function s.function) f.sites.items) (cond (serves_function s.function no_site) 1 0) (serves_function s.function s) (sum_by-set (λ x. cond (serves_function s.function x) 1 0) f.sites.items i no_site d lt) serves nobody)
   where
     s : Site
     s = get_or f.sites.items i d
@@ -67,7 +74,8 @@ some_in_flight f i d k lt taken =
 -- how many serve the function after the change
 served_now : (sites : List Site) (i : ℕ) (now d : Site) → i < length sites → now.function ≡ (get_or sites i d).function
     → count_by (serves_function now.function) (set sites i now) ≡ (count_by (serves_function now.function) sites + cond (is_taken now.environment.stand.phase) 1 0) - cond (is_taken (get_or sites i d).environment.stand.phase) 1 0
-served_now sites i now d lt same = level _ _ _ _ _ _ (sum_by-set (λ x. cond (serves_function now.function x) 1 0) sites i now d lt) (this (get_or sites i d) same) (this now refl)
+served_now sites i now d lt same =
+    level _ _ _ _ _ _ (sum_by-set (λ x. cond (serves_function now.function x) 1 0) sites i now d lt) (this (get_or sites i d) same) (this now refl)
   where
     this : (s : Site) → now.function ≡ s.function → serves_function now.function s ≡ is_taken s.environment.stand.phase
     this s q = rw (q, eqb-self s.function) refl
@@ -88,7 +96,8 @@ pub record IsChange (before after : Inside) (i : ℕ) (now old : Site) : Type 0 
   pub narrow : length now.environment.stand.members ≤ after.widest
   pub ten : after.widest ≤ 10
 
-pub change_pool : (before after : Inside) (i : ℕ) (now old : Site) → IsFleet before → IsChange before after i now old → after.pool ≡ flown after.sites.items before.pool
+pub change_pool : (before after : Inside) (i : ℕ) (now old : Site) → IsFleet before → IsChange before after i now old
+    → after.pool ≡ flown after.sites.items before.pool
 change_pool before after i now old k c =
     c.pool
     ∙ ap (λ (us : List Usage). record before.pool { functions = us }) functions
@@ -123,8 +132,10 @@ change_pool before after i now old k c =
 
     functions : set us (f - 1) (record (usage_at before.pool f) { in_flight = ((usage_at before.pool f).in_flight + cond (is_taken now.environment.stand.phase) 1 0) - cond (is_taken old.environment.stand.phase) 1 0 }) ≡ flown_from (set sites i now) 1 us
     functions =
-        ap₂ (λ (u : Usage) (n : ℕ). set us (f - 1) (record u { in_flight = n })) (usage_is_at before.pool f no_usage low high ∙ ap (λ (vs : List Usage). get_or vs (f - 1) no_usage) as_flown) count
-        ∙ ap (λ (vs : List Usage). set vs (f - 1) (record (get_or (flown_from sites 1 us) (f - 1) no_usage) { in_flight = count_by (serves_function f) (set sites i now) })) as_flown
+        ap₂ (λ (u : Usage) (n : ℕ). set us (f - 1) (record u { in_flight = n }))
+        (usage_is_at before.pool f no_usage low high ∙ ap (λ (vs : List Usage). get_or vs (f - 1) no_usage) as_flown) count
+        ∙ ap
+        (λ (vs : List Usage). set vs (f - 1) (record (get_or (flown_from sites 1 us) (f - 1) no_usage) { in_flight = count_by (serves_function f) (set sites i now) })) as_flown
         ∙ sym (flown_change sites i now no_site 1 us (f - 1) c.within same (omega (arith, low)) (omega (arith, low, high)))
 
 pub change_kept : (before after : Inside) (i : ℕ) (now old : Site) → IsFleet before → IsChange before after i now old → IsFleet after
@@ -133,7 +144,8 @@ change_kept before after i now old k c = record {
   places = rw (c.sites, c.places, sym here) (ap (λ (ps : List Place). set ps i (site_place now)) k.places ∙ sym (map-set site_place before.sites.items i now));
   pool = pool ∙ again;
   owned = rw (c.sites, as_many) (All-set (IsOwned (length before.pool.functions)) before.sites.items i now own k.owned);
-  narrow = rw c.sites (All-set (λ site. length site.environment.stand.members ≤ after.widest) before.sites.items i now c.narrow (wider before.sites.items k.narrow));
+  narrow =
+      rw c.sites (All-set (λ site. length site.environment.stand.members ≤ after.widest) before.sites.items i now c.narrow (wider before.sites.items k.narrow));
   ten = c.ten;
   few = rw (c.sites, length-set before.sites.items i now) k.few;
 }
@@ -146,15 +158,19 @@ change_kept before after i now old k c = record {
     twice sites a (u ∷ us) = ap (λ vs. record u { in_flight = count_by (serves_function a) sites } ∷ vs) (twice sites (suc a) us)
 
     again : flown after.sites.items before.pool ≡ flown after.sites.items after.pool
-    again = ap (λ (us : List Usage). record before.pool { functions = us }) (twice after.sites.items 1 before.pool.functions) ∙ ap (flown after.sites.items) (sym pool)
+    again =
+        ap (λ (us : List Usage). record before.pool { functions = us }) (twice after.sites.items 1 before.pool.functions)
+        ∙ ap (flown after.sites.items) (sym pool)
 
     as_many : length after.pool.functions ≡ length before.pool.functions
     as_many = ap (λ (p : Numbers). length p.functions) pool ∙ flown_length after.sites.items 1 before.pool.functions
 
     own : IsOwned (length before.pool.functions) now
-    own = let o : IsOwned (length before.pool.functions) old = subst (IsOwned (length before.pool.functions)) c.was (All-get_or (IsOwned (length before.pool.functions)) before.sites.items i no_site c.within k.owned) in rw c.function o
+    own =
+        let o : IsOwned (length before.pool.functions) old = subst (IsOwned (length before.pool.functions)) c.was (All-get_or (IsOwned (length before.pool.functions)) before.sites.items i no_site c.within k.owned) in rw c.function o
 
-    wider : (sites : List Site) → All (λ site. length site.environment.stand.members ≤ before.widest) sites → All (λ site. length site.environment.stand.members ≤ after.widest) sites
+    wider : (sites : List Site) → All (λ site. length site.environment.stand.members ≤ before.widest) sites
+        → All (λ site. length site.environment.stand.members ≤ after.widest) sites
     wider sites all = λ j d lt. omega (arith, all j d lt, c.widest)
 
     placed : i + 1 ≤ length before.places
@@ -165,4 +181,5 @@ change_kept before after i now old k c = record {
         (c.function ∙ sym (ap (λ (p : Place). p.function) (place_is_at before.places (i + 1) placement.no_place (omega arith) placed ∙ index ∙ get_or-map site_place before.sites.items i no_site placement.no_place c.within ∙ ap site_place c.was)))
       where
         index : get_or before.places (i + 1 - 1) placement.no_place ≡ get_or (map site_place before.sites.items) i placement.no_place
-        index = let e : i + 1 - 1 ≡ i = omega arith in ap (λ (n : ℕ). get_or before.places n placement.no_place) e ∙ ap (λ (ps : List Place). get_or ps i placement.no_place) k.places
+        index =
+            let e : i + 1 - 1 ≡ i = omega arith in ap (λ (n : ℕ). get_or before.places n placement.no_place) e ∙ ap (λ (ps : List Place). get_or ps i placement.no_place) k.places

@@ -1,5 +1,6 @@
 -- The text of a history is a script that is replayed to that history.
-use Rattle.std.proofs.Common.{◌≡◌, ℕ, ◌+◌, ◌^◌, ◌≤◌, Bool, true, false, nat_le, nat_lt, if◌then◌else◌, List, [], ◌∷◌, ◌++◌, length, codes, None, Ok, Err, refl, sym, ap, subst, ◌∙◌, arith, append_assoc}
+use Rattle.std.proofs.Common.{◌≡◌, ℕ, ◌+◌, ◌^◌, ◌≤◌, Bool, true, false, nat_le, nat_lt, if◌then◌else◌, List, [], ◌∷◌}
+use Rattle.std.proofs.Common.{◌++◌, length, codes, None, Ok, Err, refl, sym, ap, subst, ◌∙◌, arith, append_assoc}
 use Rattle.std.specs.Str.Lines.{lines}
 use Rattle.std.proofs.lemmas.List.{append-nil}
 use Rattle.std.proofs.lemmas.Bool.{leb-true}
@@ -49,12 +50,16 @@ short_line bytes s e = go (nat_lt 20000000 (length bytes)) refl e
     go true q r = cc
     go false q r = grind (arith, nat_tests)
 
-opened_is : (config : Config) (salt max_entries : ℕ) → first_fault config ≡ None → is_between (length (owners config) + 1) (2 ^ 32) max_entries ≡ true → read_setup (setup_text config salt max_entries) ≡ Ok (setup config salt max_entries)
+opened_is : (config : Config) (salt max_entries : ℕ) → first_fault config ≡ None
+    → is_between (length (owners config) + 1) (2 ^ 32) max_entries ≡ true
+    → read_setup (setup_text config salt max_entries) ≡ Ok (setup config salt max_entries)
     → opened (setup_text config salt max_entries) ≡ Ok (book_with config salt max_entries [])
 unfolding opened
 opened_is config salt max_entries sound within back = rw (back, sound, within) refl
 
-begins : (config : Config) (salt max_entries : ℕ) → first_fault config ≡ None → is_between (length (owners config) + 1) (2 ^ 32) max_entries ≡ true → read_setup (setup_text config salt max_entries) ≡ Ok (setup config salt max_entries)
+begins : (config : Config) (salt max_entries : ℕ) → first_fault config ≡ None
+    → is_between (length (owners config) + 1) (2 ^ 32) max_entries ≡ true
+    → read_setup (setup_text config salt max_entries) ≡ Ok (setup config salt max_entries)
     → Leads (codes "form 2" ∷ setup_text config salt max_entries ∷ []) AtStart (Taking true (book_with config salt max_entries [])) []
 begins config salt max_entries sound within back =
     leads_on (codes "form 2" ∷ []) (setup_text config salt max_entries ∷ []) AtStart AfterForm (Taking true (book_with config salt max_entries [])) [] []
@@ -62,12 +67,19 @@ begins config salt max_entries sound within back =
     (leads_line (setup_text config salt max_entries) AfterForm (Taking true (book_with config salt max_entries [])) [] (λ number. ap (started true) (opened_is config salt max_entries sound within back)))
 
 -- The lines of a history, whatever comes after them.
-reads : (config : Config) (salt max_entries : ℕ) (h : List Entry) → first_fault config ≡ None → is_between (length (owners config) + 1) (2 ^ 32) max_entries ≡ true → read_setup (setup_text config salt max_entries) ≡ Ok (setup config salt max_entries)
-    → IsReached config max_entries h → (AreLines (history_lines config salt max_entries h)) × Leads (history_lines config salt max_entries h) AtStart (Taking true (book_with config salt max_entries h)) (answers_text salt h)
+reads : (config : Config) (salt max_entries : ℕ) (h : List Entry) → first_fault config ≡ None
+    → is_between (length (owners config) + 1) (2 ^ 32) max_entries ≡ true
+    → read_setup (setup_text config salt max_entries) ≡ Ok (setup config salt max_entries)
+    → IsReached config max_entries h
+    → (AreLines (history_lines config salt max_entries h)) × Leads (history_lines config salt max_entries h) AtStart (Taking true (book_with config salt max_entries h)) (answers_text salt h)
 reads config salt max_entries h sound within back r =
-    subst (λ (k : List Entry). (AreLines (history_lines config salt max_entries k)) × Leads (history_lines config salt max_entries k) AtStart (Taking true (book_with config salt max_entries k)) (answers_text salt k)) (sym r.led) (
+    subst
+    (λ (k : List Entry). (AreLines (history_lines config salt max_entries k)) × Leads (history_lines config salt max_entries k) AtStart (Taking true (book_with config salt max_entries k)) (answers_text salt k))
+    (sym r.led) (
       (fits_word 20000000 (codes "form 2") refl, (record { plain = setup_plain config salt max_entries; short = short_line (setup_text config salt max_entries) _ back }, entries_lines_are config salt k k sound short handed)),
-      leads_on (codes "form 2" ∷ setup_text config salt max_entries ∷ []) (entries_lines config salt k k) AtStart (Taking true (book_with config salt max_entries [])) (Taking true (book_with config salt max_entries k)) [] (answers_text salt k)
+      leads_on (codes "form 2" ∷ setup_text config salt max_entries ∷ []) (entries_lines config salt k k) AtStart
+          (Taking true (book_with config salt max_entries [])) (Taking true (book_with config salt max_entries k)) []
+          (answers_text salt k)
           (begins config salt max_entries sound within back) (leads_again config salt max_entries k r.calls sound short r.taken),
     )
   where
@@ -81,12 +93,14 @@ reads config salt max_entries h sound within back r =
     short = short_bodies config k handed
 
 -- how many lines there are
-counted : (config : Config) (salt max_entries : ℕ) (h : List Entry) → AreLines (history_lines config salt max_entries h) → length (lines (history_text config salt max_entries h)) ≡ length (history_lines config salt max_entries h)
+counted : (config : Config) (salt max_entries : ℕ) (h : List Entry) → AreLines (history_lines config salt max_entries h)
+    → length (lines (history_text config salt max_entries h)) ≡ length (history_lines config salt max_entries h)
 counted config salt max_entries h all =
     ap (λ (t : List ℕ). length (lines t)) (text_is config salt max_entries h ∙ sym (append-nil (ended (history_lines config salt max_entries h))))
     ∙ ap length (lines_again (history_lines config salt max_entries h) [] all ∙ append-nil (history_lines config salt max_entries h))
 
-read_again : (config : Config) (salt max_entries : ℕ) → IsBooked config salt max_entries → read_setup (setup_text config salt max_entries) ≡ Ok (setup config salt max_entries)
+read_again : (config : Config) (salt max_entries : ℕ) → IsBooked config salt max_entries
+    → read_setup (setup_text config salt max_entries) ≡ Ok (setup config salt max_entries)
 read_again config salt max_entries b =
     let most = leb-true max_entries (2 ^ 32) (both (nat_le (length (owners config) + 1) max_entries) (nat_le max_entries (2 ^ 32)) b.within).1 in
     setup_read_again config salt max_entries b.sound b.in_range b.salted (omega (arith, most))
@@ -99,7 +113,9 @@ replayed_on config salt max_entries h more b r =
     ap (λ (t : List ℕ). run (t ++ more)) (text_is config salt max_entries h)
     ∙ ap (replay_from 1 AtStart) (lines_again (history_lines config salt max_entries h) more all.0)
     ∙ all.1 1 (lines more)
-    ∙ ap (λ (n : ℕ). before (answers_text salt h) (replay_from (1 + n) (Taking true (book_with config salt max_entries h)) (lines more))) (sym (counted config salt max_entries h all.0))
+    ∙ ap
+    (λ (n : ℕ). before (answers_text salt h) (replay_from (1 + n) (Taking true (book_with config salt max_entries h)) (lines more)))
+    (sym (counted config salt max_entries h all.0))
 
 -- The text alone.
 pub replayed : (config : Config) (salt max_entries : ℕ) (h : List Entry) → IsBooked config salt max_entries → IsReached config max_entries h

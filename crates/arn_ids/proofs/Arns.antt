@@ -1,5 +1,6 @@
 -- The text that names a function reads back as that function.
-use Rattle.std.proofs.Common.{◌≡◌, ℕ, ◌≤◌, Bool, true, false, ◌&&◌, ◌==◌, nat_lt, if◌then◌else◌, List, [], ◌∷◌, ◌++◌, length, codes, Ok, refl, ap, ◌∙◌, arith, All, append_assoc, length-append}
+use Rattle.std.proofs.Common.{◌≡◌, ℕ, ◌≤◌, Bool, true, false, ◌&&◌, ◌==◌, nat_lt, if◌then◌else◌, List, [], ◌∷◌, ◌++◌}
+use Rattle.std.proofs.Common.{length, codes, Ok, refl, ap, ◌∙◌, arith, All, append_assoc, length-append}
 use Rattle.std.specs.List.{list_all}
 use Rattle.std.proofs.lemmas.Bool.{eqb-true, le-ltb}
 use Rattle.std.proofs.lemmas.Cmp.{nat_list_eq_equiv}
@@ -67,7 +68,8 @@ named_parts : (home : Home) (name : List ℕ) (qualified : Bool) → is_account 
 named_parts home name true account region named = rw (named, account, region, nat_list_eq_equiv.refl home.account, nat_list_eq_equiv.refl home.region) refl
 named_parts home name false account region named = rw (named, account, region, nat_list_eq_equiv.refl home.account, nat_list_eq_equiv.refl home.region) refl
 
-cut_to : (home : Home) (text : List ℕ) (pieces : List (List ℕ)) → nat_lt 170 (length text) ≡ false → parts text ≡ pieces → named_in home text ≡ named_by home (shape pieces)
+cut_to : (home : Home) (text : List ℕ) (pieces : List (List ℕ)) → nat_lt 170 (length text) ≡ false → parts text ≡ pieces
+    → named_in home text ≡ named_by home (shape pieces)
 unfolding named_in
 cut_to home text pieces fits cuts = rw (fits, cuts) refl
 

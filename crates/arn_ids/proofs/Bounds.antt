@@ -1,5 +1,7 @@
 -- What a configuration without a fault keeps to: each of its limits, by function number and by environment number.
-use Rattle.std.proofs.Common.{◌≡◌, ℕ, zero, suc, ◌+◌, ◌-◌, ◌<◌, ◌≤◌, Bool, true, false, not, ◌||◌, ◌&&◌, nat_le, nat_lt, ◌==◌, unwrap_or, bytes_eq, List, [], ◌∷◌, length, map, sum_by, Option, Some, None, refl, ap, sym, ◌∙◌, arith, length-append}
+use Rattle.std.proofs.Common.{◌≡◌, ℕ, zero, suc, ◌+◌, ◌-◌, ◌<◌, ◌≤◌, Bool, true, false, not, ◌||◌, ◌&&◌, nat_le, nat_lt}
+use Rattle.std.proofs.Common.{◌==◌, unwrap_or, bytes_eq, List, [], ◌∷◌, length, map, sum_by, Option, Some, None, refl}
+use Rattle.std.proofs.Common.{ap, sym, ◌∙◌, arith, length-append}
 use Rattle.std.specs.List.{list_any, list_all, position_or_len}
 use Rattle.std.proofs.lemmas.List.Sums.{position_or_len_is}
 use Rattle.std.proofs.lemmas.Cmp.{nat_list_eq_equiv}
@@ -7,7 +9,12 @@ use Rattle.std.proofs.lemmas.Bool.{ltb-true, ltb-false, lt-ltb, leb-true, eqb-tr
 use Rattle.std.proofs.lemmas.List.{length-map}
 use Rattle.arn_ids.specs.Words.{is_digit, is_name_byte, is_region_byte, is_printable, is_word, is_account, is_region, is_name, is_label}
 use Rattle.arn_ids.specs.Environments.{at, numbered, no_function, function_at, number_named, owners_from, owners, owner_of, function_of}
-use Rattle.arn_ids.specs.Faults.{first_fault, earliest, is_between, is_namesake, repeats, reservation_of, has_bad_account, has_bad_region, has_bad_account_limit, has_bad_least_remainder, has_too_many_functions, has_bad_name, has_duplicate_name, has_bad_handler, has_bad_timeout, has_function_without_environment, has_too_many_environments, has_bad_port, has_duplicate_port, has_too_many_extensions, has_bad_extension, has_duplicate_extension, has_reservation_above_environments, has_too_small_remainder}
+use Rattle.arn_ids.specs.Faults.{first_fault, earliest, is_between, is_namesake, repeats, reservation_of}
+use Rattle.arn_ids.specs.Faults.{has_bad_account, has_bad_region, has_bad_account_limit, has_bad_least_remainder}
+use Rattle.arn_ids.specs.Faults.{has_too_many_functions, has_bad_name, has_duplicate_name, has_bad_handler}
+use Rattle.arn_ids.specs.Faults.{has_bad_timeout, has_function_without_environment, has_too_many_environments}
+use Rattle.arn_ids.specs.Faults.{has_bad_port, has_duplicate_port, has_too_many_extensions, has_bad_extension}
+use Rattle.arn_ids.specs.Faults.{has_duplicate_extension, has_reservation_above_environments, has_too_small_remainder}
 use Rattle.arn_ids.specs.declared.config.Config.{Config}
 use Rattle.arn_ids.specs.declared.config.Function.{Function}
 use Rattle.arn_ids.specs.declared.faults.ConfigFault.{ConfigFault}
@@ -76,8 +83,10 @@ none_passes p d (x ∷ xs) zero h lt = (either_true (p x) (list_any p xs) h).0
 none_passes p d (x ∷ xs) (suc i) h lt = none_passes p d xs i (either_true (p x) (list_any p xs) h).1 (omega arith)
 
 -- no function passes a test
-none_at : (p : Function → Bool) (config : Config) (f : ℕ) → list_any p config.functions ≡ false → 1 ≤ f → f ≤ length config.functions → p (function_at config f) ≡ false
-none_at p config f h from_one there = rw (numbered_at no_function config.functions f from_one) (none_passes p no_function config.functions (f - 1) h (omega arith))
+none_at : (p : Function → Bool) (config : Config) (f : ℕ) → list_any p config.functions ≡ false → 1 ≤ f
+    → f ≤ length config.functions → p (function_at config f) ≡ false
+none_at p config f h from_one there =
+    rw (numbered_at no_function config.functions f from_one) (none_passes p no_function config.functions (f - 1) h (omega arith))
 
 between : (low high n : ℕ) → not (is_between low high n) ≡ false → (low ≤ n) × (n ≤ high)
 between low high n h = go (nat_le low n) refl (is_true (is_between low high n) h)
@@ -125,7 +134,8 @@ name_is config f none from_one there =
 word_between : (p : ℕ → Bool) (most : ℕ) (text : List ℕ) → is_word p most text ≡ true → (1 ≤ length text) × (length text ≤ most)
 word_between p most text h = go (nat_le 1 (length text)) refl (nat_le (length text) most) refl h
   where
-    go : (a : Bool) → nat_le 1 (length text) ≡ a → (b : Bool) → nat_le (length text) most ≡ b → (a && b && list_all p text) ≡ true → (1 ≤ length text) × (length text ≤ most)
+    go : (a : Bool) → nat_le 1 (length text) ≡ a → (b : Bool) → nat_le (length text) most ≡ b
+        → (a && b && list_all p text) ≡ true → (1 ≤ length text) × (length text ≤ most)
     go true e true k r = (leb-true 1 (length text) e, leb-true (length text) most k)
     go true e false k r = cc
     go false e b k r = cc
@@ -147,23 +157,28 @@ account_12 text h = go (length text == 12) refl h
     go false e r = cc
 
 -- Each function's timeout is between 1 and 900 seconds.
-pub timeout_between : (config : Config) (f : ℕ) → first_fault config ≡ None → 1 ≤ f → f ≤ length config.functions → (1 ≤ (function_at config f).timeout_s) × ((function_at config f).timeout_s ≤ 900)
+pub timeout_between : (config : Config) (f : ℕ) → first_fault config ≡ None → 1 ≤ f → f ≤ length config.functions
+    → (1 ≤ (function_at config f).timeout_s) × ((function_at config f).timeout_s ≤ 900)
 unfolding has_bad_timeout
 timeout_between config f none from_one there =
-    between 1 900 (function_at config f).timeout_s (none_at (λ function. not (is_between 1 900 function.timeout_s)) config f (sound config none).timeouts from_one there)
+    between 1 900 (function_at config f).timeout_s
+    (none_at (λ function. not (is_between 1 900 function.timeout_s)) config f (sound config none).timeouts from_one there)
 
 -- What holds of each function that passes no test, and of a function that isn't there, holds at each number.
-every : {A : Type 0} (p : A → Bool) (P : A → Type 0) → ((x : A) → p x ≡ false → P x) → (d : A) → P d → (xs : List A) (i : ℕ) → list_any p xs ≡ false → P (at d xs i)
+every : {A : Type 0} (p : A → Bool) (P : A → Type 0) → ((x : A) → p x ≡ false → P x) → (d : A) → P d
+    → (xs : List A) (i : ℕ) → list_any p xs ≡ false → P (at d xs i)
 every p P to_P d at_d [] i h = at_d
 every p P to_P d at_d (x ∷ xs) zero h = to_P x (either_true (p x) (list_any p xs) h).0
 every p P to_P d at_d (x ∷ xs) (suc i) h = every p P to_P d at_d xs i (either_true (p x) (list_any p xs) h).1
 
-every_function : (p : Function → Bool) (P : Function → Type 0) → ((x : Function) → p x ≡ false → P x) → P no_function → (functions : List Function) (f : ℕ) → list_any p functions ≡ false → P (numbered no_function functions f)
+every_function : (p : Function → Bool) (P : Function → Type 0) → ((x : Function) → p x ≡ false → P x) → P no_function
+    → (functions : List Function) (f : ℕ) → list_any p functions ≡ false → P (numbered no_function functions f)
 every_function p P to_P at_none functions zero h = at_none
 every_function p P to_P at_none functions (suc i) h = every p P to_P no_function at_none functions i h
 
 -- No reservation is above the function's environments, whatever the number.
-pub reserved_within : (config : Config) (f n : ℕ) → first_fault config ≡ None → (function_at config f).reserved ≡ Some n → n ≤ length (function_at config f).slots
+pub reserved_within : (config : Config) (f n : ℕ) → first_fault config ≡ None → (function_at config f).reserved ≡ Some n
+    → n ≤ length (function_at config f).slots
 unfolding has_reservation_above_environments
 reserved_within config f n none some =
     let within = every_function (λ function. nat_lt (length function.slots) (reservation_of function)) (λ function. reservation_of function ≤ length function.slots)
@@ -185,7 +200,8 @@ owns_later f x xs owner later =
     let e : owner.0 - f ≡ suc (owner.0 - suc f) = omega (arith, later.from) in
     record { from = omega (arith, later.from); below = omega (arith, later.below); same = rw e later.same }
 
-owner_from : (f : ℕ) (functions : List Function) (i : ℕ) → i < length (owners_from f functions) → Owns f functions (at (0, no_function) (owners_from f functions) i)
+owner_from : (f : ℕ) (functions : List Function) (i : ℕ) → i < length (owners_from f functions)
+    → Owns f functions (at (0, no_function) (owners_from f functions) i)
 owner_from f [] i lt = absurd (omega arith)
 owner_from f (x ∷ xs) i lt = go (λ j. owner_from (suc f) xs j) (nat_lt i (length x.slots)) refl
   where
@@ -195,7 +211,9 @@ owner_from f (x ∷ xs) i lt = go (λ j. owner_from (suc f) xs j) (nat_lt i (len
         let own : List (ℕ × Function) = map (λ _. (f, x)) x.slots in
         let as_many : length own ≡ length x.slots = length-map {B = ℕ × Function} x.slots (λ _. (f, x)) in
         let within : i < length x.slots = ltb-true i (length x.slots) e in
-        rw (at_front (0, no_function) own (owners_from (suc f) xs) i (rw as_many within), at_same {B = ℕ × Function} (0, no_function) (f, x) x.slots i within) (owns_here f x xs)
+        rw
+        (at_front (0, no_function) own (owners_from (suc f) xs) i (rw as_many within), at_same {B = ℕ × Function} (0, no_function) (f, x) x.slots i within)
+        (owns_here f x xs)
     go again false e =
         let own : List (ℕ × Function) = map (λ _. (f, x)) x.slots in
         let as_many : length own ≡ length x.slots = length-map {B = ℕ × Function} x.slots (λ _. (f, x)) in
@@ -213,14 +231,16 @@ owner_is_function config (suc i) from_one there =
     (owns.from, omega (arith, owns.below), owns.same ∙ sym (numbered_at no_function config.functions (function_of config (suc i)) owns.from))
 
 -- Of two elements of a list that repeats none, the later isn't the same as the earlier.
-apart : {A : Type 0} (same : A → A → Bool) (d : A) (xs : List A) (k i : ℕ) → repeats same xs ≡ false → k < i → i < length xs → same (at d xs k) (at d xs i) ≡ false
+apart : {A : Type 0} (same : A → A → Bool) (d : A) (xs : List A) (k i : ℕ) → repeats same xs ≡ false → k < i
+    → i < length xs → same (at d xs k) (at d xs i) ≡ false
 apart same d [] k i h lt within = absurd (omega arith)
 apart same d (x ∷ xs) k zero h lt within = absurd (omega arith)
 apart same d (x ∷ xs) zero (suc i) h lt within = none_passes (same x) d xs i (either_true (list_any (same x) xs) (repeats same xs) h).0 (omega arith)
 apart same d (x ∷ xs) (suc k) (suc i) h lt within = apart same d xs k i (either_true (list_any (same x) xs) (repeats same xs) h).1 (omega arith) (omega arith)
 
 -- A function is found by its name.
-pub named_once : (config : Config) (f : ℕ) → first_fault config ≡ None → 1 ≤ f → f ≤ length config.functions → number_named config (function_at config f).name ≡ Some f
+pub named_once : (config : Config) (f : ℕ) → first_fault config ≡ None → 1 ≤ f → f ≤ length config.functions
+    → number_named config (function_at config f).name ≡ Some f
 unfolding has_duplicate_name
 named_once config f none from_one there =
     let functions = config.functions in

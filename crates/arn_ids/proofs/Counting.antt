@@ -1,5 +1,6 @@
 -- Places in a list, and how the environments of the functions from one on follow from those of the next.
-use Rattle.std.proofs.Common.{◌≡◌, ℕ, zero, suc, ◌+◌, ◌-◌, ◌<◌, ◌≤◌, List, [], ◌∷◌, ◌++◌, length, map, get_or, drop, refl, ap, ◌∙◌, arith, add-one, add-suc, drop-cons, length-append}
+use Rattle.std.proofs.Common.{◌≡◌, ℕ, zero, suc, ◌+◌, ◌-◌, ◌<◌, ◌≤◌, List, [], ◌∷◌, ◌++◌, length, map, get_or, drop}
+use Rattle.std.proofs.Common.{refl, ap, ◌∙◌, arith, add-one, add-suc, drop-cons, length-append}
 use Rattle.std.proofs.lemmas.List.{length-map}
 use Rattle.arn_ids.specs.Environments.{at, numbered, no_function, owners_from}
 use Rattle.arn_ids.specs.declared.config.Function.{Function}
@@ -42,7 +43,8 @@ owners_step f functions i function lt is = rw (add-one, add-suc, drop-cons funct
 pub count_step : (f : ℕ) (functions : List Function) (i : ℕ) (function : Function) → i < length functions → function ≡ get_or functions i function
     → length (owners_from (f + i) (drop i functions)) ≡ length function.slots + length (owners_from (f + (i + 1)) (drop (i + 1) functions))
 count_step f functions i function lt is =
-    rw (owners_step f functions i function lt is, length-append (map (λ _. (f + i, function)) function.slots) (owners_from (f + (i + 1)) (drop (i + 1) functions)), length-map {B = ℕ × Function} function.slots (λ _. (f + i, function))) refl
+    rw
+    (owners_step f functions i function lt is, length-append (map (λ _. (f + i, function)) function.slots) (owners_from (f + (i + 1)) (drop (i + 1) functions)), length-map {B = ℕ × Function} function.slots (λ _. (f + i, function))) refl
 
 -- the function of an environment that is one of the first function's
 pub owner_here : (functions : List Function) (i place : ℕ) (function : Function) → i < length functions → function ≡ get_or functions i function

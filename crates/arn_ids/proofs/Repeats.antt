@@ -11,7 +11,8 @@ list_any-map p f [] = refl
 list_any-map p f (x ∷ xs) = ap (λ b. p (f x) || b) (list_any-map p f xs)
 
 -- a test of the ports
-pub any_port : (p : ℕ → Bool) (functions : List Function) → list_any p (environment_ports functions) ≡ list_any (λ function. list_any (λ slot. p slot.port) function.slots) functions
+pub any_port : (p : ℕ → Bool) (functions : List Function)
+    → list_any p (environment_ports functions) ≡ list_any (λ function. list_any (λ slot. p slot.port) function.slots) functions
 any_port p [] = refl
 any_port p (function ∷ functions) =
     list_any-append p (ports_of function) (environment_ports functions)

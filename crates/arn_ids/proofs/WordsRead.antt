@@ -54,7 +54,8 @@ unfolding parts_of identifier_of
 reads_back salt kind number count fits a b =
     let low = low_fits (nibble kind) number count (nibble_fits kind) a b in
     rw (
-      from_be_bytes-to_be_bytes_16 (high_word salt * 2 ^ 64 + low_word kind number count) (pair_fits (high_word salt) (low_word kind number count) (high_fits salt fits) low),
+      from_be_bytes-to_be_bytes_16 (high_word salt * 2 ^ 64 + low_word kind number count)
+          (pair_fits (high_word salt) (low_word kind number count) (high_fits salt fits) low),
       upper (high_word salt) (low_word kind number count) low,
       lower (high_word salt) (low_word kind number count) low,
     )

@@ -1,5 +1,6 @@
 -- How many entries a call adds.
-use Rattle.std.proofs.Common.{◌≡◌, ℕ, suc, ◌+◌, ◌≤◌, false, List, [], ◌∷◌, length, filter_map, Option, Some, None, refl, ap, ◌∙◌, arith, length-append, nat_lt, ◌*◌}
+use Rattle.std.proofs.Common.{◌≡◌, ℕ, suc, ◌+◌, ◌≤◌, false, List, [], ◌∷◌, length, filter_map, Option, Some, None, refl}
+use Rattle.std.proofs.Common.{ap, ◌∙◌, arith, length-append, nat_lt, ◌*◌}
 use Rattle.std.proofs.lemmas.List.{length-map}
 use Rattle.std.specs.List.{cons_option}
 use Rattle.call_types.specs.declared.call.Call.{Call}
@@ -16,7 +17,9 @@ use Rattle.std.proofs.lemmas.Bool.Decides.{nat_tests}
 
 expiries_length : (config : Config) (m : ℕ) (es : List ℕ) (h : List Entry) → length (expiries config m es h) ≡ length es
 expiries_length config m [] h = refl
-expiries_length config m (e ∷ rest) h = length-append (expiries config m rest (entered config h m (Expire e))) (entry_of config h m (Expire e) ∷ []) ∙ one (expiries_length config m rest (entered config h m (Expire e)))
+expiries_length config m (e ∷ rest) h =
+    length-append (expiries config m rest (entered config h m (Expire e))) (entry_of config h m (Expire e) ∷ [])
+    ∙ one (expiries_length config m rest (entered config h m (Expire e)))
   where
     one : {n : ℕ} → n ≡ length rest → n + 1 ≡ suc (length rest)
     one q = omega (arith, q)
@@ -44,11 +47,15 @@ due_length config h m =
 -- So a call adds at most one entry more than there are environments,
 pub next_length : (config : Config) (h : List Entry) (now : ℕ) (call : Call) → length (next config h now call) ≤ length h + most_added config
 unfolding next
-next_length config h now call = rw (length-append (added config h now call) h, added_length config h now call) (omega (arith, due_length config h (moment_at h now)))
+next_length config h now call =
+    rw (length-append (added config h now call) h, added_length config h now call) (omega (arith, due_length config h (moment_at h now)))
 
 -- and after any call but a Stop there is room for a Stop.
-pub room_for_stop : (config : Config) (most : ℕ) (h : List Entry) (now : ℕ) (call : Call) → full config most h call ≡ false → is_stop call ≡ false → full config most (next config h now call) Stop ≡ false
+pub room_for_stop : (config : Config) (most : ℕ) (h : List Entry) (now : ℕ) (call : Call)
+    → full config most h call ≡ false → is_stop call ≡ false → full config most (next config h now call) Stop ≡ false
 room_for_stop config most h now call q s = enough (rw s at q) (next_length config h now call)
   where
-    enough : nat_lt most (length h + 2 * most_added config) ≡ false → length (next config h now call) ≤ length h + most_added config → nat_lt most (length (next config h now call) + most_added config) ≡ false
+    enough : nat_lt most (length h + 2 * most_added config) ≡ false
+        → length (next config h now call) ≤ length h + most_added config
+        → nat_lt most (length (next config h now call) + most_added config) ≡ false
     enough r k = grind (arith, nat_tests, r, k)

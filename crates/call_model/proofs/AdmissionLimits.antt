@@ -1,10 +1,14 @@
 -- No admission takes a reserved function past its reservation, nor the unreserved ones together past the remainder.
-use Rattle.std.proofs.Common.{◌≡◌, ℕ, ◌+◌, ◌<◌, ◌≤◌, Bool, true, false, cond, List, [], ◌∷◌, length, Option, Some, None, sym, refl, ◌∙◌, inl, inr, arith, is_some, is_none, ◌&&◌, ◌||◌, true≢false, count_by, ◌-◌, ap, ap₂, subst, ◌⊎◌, ◌==◌, if◌then◌else◌, nat_le, sum_by}
+use Rattle.std.proofs.Common.{◌≡◌, ℕ, ◌+◌, ◌<◌, ◌≤◌, Bool, true, false, cond, List, [], ◌∷◌, length, Option, Some, None}
+use Rattle.std.proofs.Common.{sym, refl, ◌∙◌, inl, inr, arith, is_some, is_none, ◌&&◌, ◌||◌, true≢false, count_by, ◌-◌}
+use Rattle.std.proofs.Common.{ap, ap₂, subst, ◌⊎◌, ◌==◌, if◌then◌else◌, nat_le, sum_by}
 use Rattle.call_types.specs.declared.call.Entry.{Entry}
 use Rattle.arn_ids.specs.declared.config.Config.{Config}
 use Rattle.call_model.specs.History.{answer_in, pending, with_tickets, is_invoke_of, stopped}
 use Rattle.call_model.specs.Life.{phase}
-use Rattle.call_model.specs.Limits.{is_charged_at, busy_at, is_busy_with, in_flight, place, place_for, verdict, AfterStop, Refuses, admitted_to, by_limits, where_placed, reservation, reserves, remainder, or_zero, unreserved_in_flight}
+use Rattle.call_model.specs.Limits.{is_charged_at, busy_at, is_busy_with, in_flight, place, place_for, verdict}
+use Rattle.call_model.specs.Limits.{AfterStop, Refuses, admitted_to, by_limits, where_placed, reservation, reserves}
+use Rattle.call_model.specs.Limits.{remainder, or_zero, unreserved_in_flight}
 use Rattle.call_model.specs.Next.{IsLegal, Follows}
 use Rattle.call_model.proofs.Once.{pending_cons}
 use Rattle.call_model.proofs.AtHand.{from_entry, busy_at_hand, at_hand_is}
@@ -22,7 +26,9 @@ use Rattle.call_model.specs.Laws.{admits, is_reserve, re_reserved}
 use Rattle.call_model.proofs.Charges.{IsIn, AreIn, entries_in}
 
 -- what is charged after an entry was charged before it, the entry's own Invoke aside
-pub charged_before : (config : Config) (h : List Entry) (entry : Entry) (t : ℕ) (x : Entry) → IsLegal config h → Follows config h entry → t < length h → is_charged_at config (entry ∷ h) t x.place ≡ true → is_charged_at config h t x.place ≡ true
+pub charged_before : (config : Config) (h : List Entry) (entry : Entry) (t : ℕ) (x : Entry) → IsLegal config h
+    → Follows config h entry → t < length h → is_charged_at config (entry ∷ h) t x.place ≡ true
+    → is_charged_at config h t x.place ≡ true
 charged_before config h entry t x l f lt c = go x.place c
   where
     was_pending : (b a : Bool) → (b && a) ≡ true → b ≡ true
@@ -42,16 +48,19 @@ charged_before config h entry t x l f lt c = go x.place c
       ]
     ]
 
-    either : (e : ℕ) (a b : Bool) → pending (entry ∷ h) t ≡ a → is_busy_with (phase config (entry ∷ h) e) t ≡ b → (a || b) ≡ true → (pending h t || is_busy_with (phase config h e) t) ≡ true
+    either : (e : ℕ) (a b : Bool) → pending (entry ∷ h) t ≡ a → is_busy_with (phase config (entry ∷ h) e) t ≡ b
+        → (a || b) ≡ true → (pending h t || is_busy_with (phase config h e) t) ≡ true
     either e true b p q r = rw (was_pending (pending h t) (is_none (answer_in entry.answers t)) (sym (pending_cons entry h t (omega (arith, lt))) ∙ p)) refl
     either e false true p q r = busy e q
     either e false false p q r = absurd (true≢false (sym r))
 
-    go : (o : Option ℕ) → (is_some o && (pending (entry ∷ h) t || busy_at config (entry ∷ h) o t)) ≡ true → (is_some o && (pending h t || busy_at config h o t)) ≡ true
+    go : (o : Option ℕ) → (is_some o && (pending (entry ∷ h) t || busy_at config (entry ∷ h) o t)) ≡ true
+        → (is_some o && (pending h t || busy_at config h o t)) ≡ true
     go None q = q
     go (Some e) q = either e (pending (entry ∷ h) t) (is_busy_with (phase config (entry ∷ h) e) t) refl refl q
 
-count_below : (h : List Entry) (p q : ℕ × Entry → Bool) → ((x : ℕ × Entry) → IsIn h x → p x ≡ true → q x ≡ true) → (xs : List (ℕ × Entry)) → AreIn h xs → count_by p xs ≤ count_by q xs
+count_below : (h : List Entry) (p q : ℕ × Entry → Bool) → ((x : ℕ × Entry) → IsIn h x → p x ≡ true → q x ≡ true)
+    → (xs : List (ℕ × Entry)) → AreIn h xs → count_by p xs ≤ count_by q xs
 count_below h p q f [] o = omega arith
 count_below h p q f (x ∷ xs) o = rw (count_cons p x xs, count_cons q x xs) (go (p x) (q x) (f x o.0) (count_below h p q f xs o.1))
   where
@@ -62,10 +71,12 @@ count_below h p q f (x ∷ xs) o = rw (count_cons p x xs, count_cons q x xs) (go
     go false false g k = omega (arith, k)
 
 -- only the Invoke that an entry admits is charged newly
-pub flight_step : (config : Config) (h : List Entry) (entry : Entry) (d : ℕ) → IsLegal config h → Follows config h entry → in_flight config (entry ∷ h) d ≤ in_flight config h d + cond (admits d entry) 1 0
+pub flight_step : (config : Config) (h : List Entry) (entry : Entry) (d : ℕ) → IsLegal config h → Follows config h entry
+    → in_flight config (entry ∷ h) d ≤ in_flight config h d + cond (admits d entry) 1 0
 unfolding in_flight
 flight_step config h entry d l w =
-    rw (count_cons in_new (length h, entry) (with_tickets h)) (add (head (is_invoke_of d entry.call) (is_some entry.place) _) (count_below h in_new in_old kept (with_tickets h) (entries_in h)))
+    rw (count_cons in_new (length h, entry) (with_tickets h))
+    (add (head (is_invoke_of d entry.call) (is_some entry.place) _) (count_below h in_new in_old kept (with_tickets h) (entries_in h)))
   where
     in_new : ℕ × Entry → Bool
     in_new taken = is_invoke_of d taken.1.call && is_charged_at config (entry ∷ h) taken.0 taken.1.place
@@ -94,7 +105,8 @@ not_reserves (Reserve f count) d q = absurd (true≢false q)
 not_reserves call d q = refl
 
 -- a call that is no Reserve leaves the reservations
-pub reservation_kept : (config : Config) (h : List Entry) (entry : Entry) → is_reserve entry.call ≡ false → (d : ℕ) → reservation config (entry ∷ h) d ≡ reservation config h d
+pub reservation_kept : (config : Config) (h : List Entry) (entry : Entry) → is_reserve entry.call ≡ false → (d : ℕ)
+    → reservation config (entry ∷ h) d ≡ reservation config h d
 unfolding reservation
 reservation_kept config h entry q d = rw (not_reserves entry.call d q) refl
 
@@ -103,7 +115,9 @@ remainder_kept config h entry q = λ i. config.account_limit - sum_by (λ f. or_
 
 sum_more : (g k : ℕ → ℕ) (p : ℕ → Bool) → ((d : ℕ) → g d ≤ k d + cond (p d) 1 0) → (xs : List ℕ) → sum_by g xs ≤ sum_by k xs + count_by p xs
 sum_more g k p f [] = omega arith
-sum_more g k p f (x ∷ xs) = rw (sum_by-cons g x xs, sum_by-cons k x xs, count_cons p x xs) (add (g x) (k x) (cond (p x) 1 0) (sum_by g xs) (sum_by k xs) (count_by p xs) (f x) (sum_more g k p f xs))
+sum_more g k p f (x ∷ xs) =
+    rw (sum_by-cons g x xs, sum_by-cons k x xs, count_cons p x xs)
+    (add (g x) (k x) (cond (p x) 1 0) (sum_by g xs) (sum_by k xs) (count_by p xs) (f x) (sum_more g k p f xs))
   where
     add : (a b c m n r : ℕ) → a ≤ b + c → m ≤ n + r → a + m ≤ (b + n) + (c + r)
     add a b c m n r p q = omega (arith, p, q)
@@ -111,7 +125,10 @@ sum_more g k p f (x ∷ xs) = rw (sum_by-cons g x xs, sum_by-cons k x xs, count_
 -- what an entry that is no Reserve adds to the unreserved sum
 pub unreserved_step : (config : Config) (h : List Entry) (entry : Entry) → IsLegal config h → Follows config h entry → is_reserve entry.call ≡ false
     → unreserved_in_flight config (entry ∷ h) ≤ unreserved_in_flight config h + count_by (λ d. admits d entry && is_none (reservation config h d)) (function_numbers config)
-unreserved_step config h entry l w q = sum_more (λ f. if is_none (reservation config (entry ∷ h) f) then in_flight config (entry ∷ h) f else 0) (λ f. if is_none (reservation config h f) then in_flight config h f else 0) (λ d. admits d entry && is_none (reservation config h d)) each (function_numbers config)
+unreserved_step config h entry l w q =
+    sum_more (λ f. if is_none (reservation config (entry ∷ h) f) then in_flight config (entry ∷ h) f else 0)
+    (λ f. if is_none (reservation config h f) then in_flight config h f else 0)
+    (λ d. admits d entry && is_none (reservation config h d)) each (function_numbers config)
   where
     by_reserved : (b c : Bool) (m n : ℕ) → m ≤ n + cond c 1 0 → (if b then m else 0) ≤ (if b then n else 0) + cond (c && b) 1 0
     by_reserved true true m n k = k
@@ -119,11 +136,15 @@ unreserved_step config h entry l w q = sum_more (λ f. if is_none (reservation c
     by_reserved false true m n k = omega arith
     by_reserved false false m n k = omega arith
 
-    each : (d : ℕ) → (if is_none (reservation config (entry ∷ h) d) then in_flight config (entry ∷ h) d else 0) ≤ (if is_none (reservation config h d) then in_flight config h d else 0) + cond (admits d entry && is_none (reservation config h d)) 1 0
-    each d = rw (reservation_kept config h entry q d) (by_reserved (is_none (reservation config h d)) (admits d entry) (in_flight config (entry ∷ h) d) (in_flight config h d) (flight_step config h entry d l w))
+    each : (d : ℕ)
+        → (if is_none (reservation config (entry ∷ h) d) then in_flight config (entry ∷ h) d else 0) ≤ (if is_none (reservation config h d) then in_flight config h d else 0) + cond (admits d entry && is_none (reservation config h d)) 1 0
+    each d =
+        rw (reservation_kept config h entry q d)
+        (by_reserved (is_none (reservation config h d)) (admits d entry) (in_flight config (entry ∷ h) d) (in_flight config h d) (flight_step config h entry d l w))
 
 -- an entry admits an Invoke of one function at most
-admits_once : (config : Config) (h : List Entry) (entry : Entry) (f n a : ℕ) → admits f entry ≡ true → count_by (λ d. admits d entry && is_none (reservation config h d)) (count_from a n) ≤ cond (is_none (reservation config h f)) 1 0
+admits_once : (config : Config) (h : List Entry) (entry : Entry) (f n a : ℕ) → admits f entry ≡ true
+    → count_by (λ d. admits d entry && is_none (reservation config h d)) (count_from a n) ≤ cond (is_none (reservation config h f)) 1 0
 admits_once config h entry f n a q = go entry.call entry.place q
   where
     less : (s t : Bool) → cond (s && t) 1 0 ≤ cond t 1 0
@@ -135,7 +156,8 @@ admits_once config h entry f n a q = go entry.call entry.place q
     less false true = omega arith
     less false false = omega arith
 
-    regroup : (g : ℕ) (o : Option ℕ) → ◌≡◌ {A = ℕ → Bool} (λ (d : ℕ). ((g == d) && is_some o) && is_none (reservation config h d)) (λ (d : ℕ). (g == d) && (is_some o && is_none (reservation config h d)))
+    regroup : (g : ℕ) (o : Option ℕ)
+        → ◌≡◌ {A = ℕ → Bool} (λ (d : ℕ). ((g == d) && is_some o) && is_none (reservation config h d)) (λ (d : ℕ). (g == d) && (is_some o && is_none (reservation config h d)))
     regroup g o = λ i d. assoc (g == d) (is_some o) (is_none (reservation config h d)) i
       where
         assoc : (a b c : Bool) → ((a && b) && c) ≡ (a && (b && c))
@@ -145,22 +167,28 @@ admits_once config h entry f n a q = go entry.call entry.place q
     le_trans : {a b c : ℕ} → a ≤ b → b ≤ c → a ≤ c
     le_trans p q = omega (arith, p, q)
 
-    go : (call : Call) (o : Option ℕ) → (is_invoke_of f call && is_some o) ≡ true → count_by (λ d. (is_invoke_of d call && is_some o) && is_none (reservation config h d)) (count_from a n) ≤ cond (is_none (reservation config h f)) 1 0
+    go : (call : Call) (o : Option ℕ) → (is_invoke_of f call && is_some o) ≡ true
+        → count_by (λ d. (is_invoke_of d call && is_some o) && is_none (reservation config h d)) (count_from a n) ≤ cond (is_none (reservation config h f)) 1 0
     go (Invoke g qualified trace body) o r =
         let same : g ≡ f = eqb-true g f (and_left (g == f) (is_some o) r) in
-        subst (λ (p : ℕ → Bool). count_by p (count_from a n) ≤ cond (is_none (reservation config h f)) 1 0) (sym (regroup g o)) (subst (λ (k : ℕ). count_by (λ d. (g == d) && (is_some o && is_none (reservation config h d))) (count_from a n) ≤ cond (is_none (reservation config h k)) 1 0) same
+        subst (λ (p : ℕ → Bool). count_by p (count_from a n) ≤ cond (is_none (reservation config h f)) 1 0)
+        (sym (regroup g o))
+        (subst (λ (k : ℕ). count_by (λ d. (g == d) && (is_some o && is_none (reservation config h d))) (count_from a n) ≤ cond (is_none (reservation config h k)) 1 0) same
         (rw (counted_once g (λ d. is_some o && is_none (reservation config h d)) a n) (le_trans (less (list_any (λ d. g == d) (count_from a n)) (is_some o && is_none (reservation config h g))) (less (is_some o) (is_none (reservation config h g))))))
     go call o r = absurd (true≢false (sym r))
 
 -- what the verdict of an admission says
-admitted_below : (config : Config) (h : List Entry) (f : ℕ) → is_some (admitted_to (verdict config h f)) ≡ true → reservation config h f ≡ None → unreserved_in_flight config h < remainder config h
+admitted_below : (config : Config) (h : List Entry) (f : ℕ) → is_some (admitted_to (verdict config h f)) ≡ true
+    → reservation config h f ≡ None → unreserved_in_flight config h < remainder config h
 unfolding verdict
 admitted_below config h f v r = go (stopped h) (rw r at v)
   where
     lt : (a b : ℕ) → nat_le a b ≡ false → b < a
     lt a b k = grind (arith, nat_tests, k)
 
-    tested : (b : Bool) → nat_le (remainder config h) (unreserved_in_flight config h) ≡ b → is_some (admitted_to (if b then Refuses ByAccount else where_placed (place config h f))) ≡ true → unreserved_in_flight config h < remainder config h
+    tested : (b : Bool) → nat_le (remainder config h) (unreserved_in_flight config h) ≡ b
+        → is_some (admitted_to (if b then Refuses ByAccount else where_placed (place config h f))) ≡ true
+        → unreserved_in_flight config h < remainder config h
     tested true t w = absurd (true≢false (sym w))
     tested false t w = lt (remainder config h) (unreserved_in_flight config h) t
 
@@ -168,14 +196,17 @@ admitted_below config h f v r = go (stopped h) (rw r at v)
     go true w = absurd (true≢false (sym w))
     go false w = tested (nat_le (remainder config h) (unreserved_in_flight config h)) refl w
 
-admitted_under : (config : Config) (h : List Entry) (f n : ℕ) → is_some (admitted_to (verdict config h f)) ≡ true → reservation config h f ≡ Some n → in_flight config h f < n
+admitted_under : (config : Config) (h : List Entry) (f n : ℕ) → is_some (admitted_to (verdict config h f)) ≡ true
+    → reservation config h f ≡ Some n → in_flight config h f < n
 unfolding verdict
 admitted_under config h f n v r = go (stopped h) (rw r at v)
   where
     lt : (a b : ℕ) → nat_le a b ≡ false → b < a
     lt a b k = grind (arith, nat_tests, k)
 
-    tested : (b : Bool) → nat_le n (in_flight config h f) ≡ b → is_some (admitted_to (if b then Refuses ByFunction else where_placed (place config h f))) ≡ true → in_flight config h f < n
+    tested : (b : Bool) → nat_le n (in_flight config h f) ≡ b
+        → is_some (admitted_to (if b then Refuses ByFunction else where_placed (place config h f))) ≡ true
+        → in_flight config h f < n
     tested true t w = absurd (true≢false (sym w))
     tested false t w = lt n (in_flight config h f) t
 
@@ -184,15 +215,19 @@ admitted_under config h f n v r = go (stopped h) (rw r at v)
     go false w = tested (nat_le n (in_flight config h f)) refl w
 
 -- an entry that admits an Invoke of f is no Reserve, and its verdict admits
-admission : (config : Config) (h : List Entry) (entry : Entry) (f : ℕ) → Follows config h entry → admits f entry ≡ true → (is_reserve entry.call ≡ false) × (is_some (admitted_to (verdict config h f)) ≡ true)
+admission : (config : Config) (h : List Entry) (entry : Entry) (f : ℕ) → Follows config h entry → admits f entry ≡ true
+    → (is_reserve entry.call ≡ false) × (is_some (admitted_to (verdict config h f)) ≡ true)
 admission config h entry f w q = go entry.call (ap (λ (o : Option ℕ). is_invoke_of f entry.call && is_some o) (sym (w.place)) ∙ q)
   where
-    go : (call : Call) → (is_invoke_of f call && is_some (place_for config h call)) ≡ true → (is_reserve call ≡ false) × (is_some (admitted_to (verdict config h f)) ≡ true)
-    go (Invoke g qualified trace body) r = (refl, ap (λ (d : ℕ). is_some (admitted_to (verdict config h d))) (sym (eqb-true g f (and_left (g == f) (is_some (admitted_to (verdict config h g))) r))) ∙ and_right (g == f) (is_some (admitted_to (verdict config h g))) r)
+    go : (call : Call) → (is_invoke_of f call && is_some (place_for config h call)) ≡ true
+        → (is_reserve call ≡ false) × (is_some (admitted_to (verdict config h f)) ≡ true)
+    go (Invoke g qualified trace body) r =
+        (refl, ap (λ (d : ℕ). is_some (admitted_to (verdict config h d))) (sym (eqb-true g f (and_left (g == f) (is_some (admitted_to (verdict config h g))) r))) ∙ and_right (g == f) (is_some (admitted_to (verdict config h g))) r)
     go call r = absurd (true≢false (sym (and_left (is_invoke_of f call) (is_some (place_for config h call)) r)))
 
 -- After an entry that admits an Invoke of a reserved function, it has no more in flight than its reservation.
-pub within_reservation : (config : Config) (h : List Entry) (entry : Entry) (f n : ℕ) → IsLegal config (entry ∷ h) → admits f entry ≡ true → reservation config (entry ∷ h) f ≡ Some n → in_flight config (entry ∷ h) f ≤ n
+pub within_reservation : (config : Config) (h : List Entry) (entry : Entry) (f n : ℕ) → IsLegal config (entry ∷ h)
+    → admits f entry ≡ true → reservation config (entry ∷ h) f ≡ Some n → in_flight config (entry ∷ h) f ≤ n
 within_reservation config h entry f n l q r =
     let a : (is_reserve entry.call ≡ false) × (is_some (admitted_to (verdict config h f)) ≡ true) = admission config h entry f l.1 q in
     add (admitted_under config h f n a.1 (sym (reservation_kept config h entry a.0 f) ∙ r)) (rw q at (flight_step config h entry f l.0 l.1))
@@ -201,7 +236,9 @@ within_reservation config h entry f n l q r =
     add p q = omega (arith, p, q)
 
 -- After an entry that admits an Invoke of an unreserved function, the unreserved ones have no more in flight than the remainder.
-pub within_remainder : (config : Config) (h : List Entry) (entry : Entry) (f : ℕ) → IsLegal config (entry ∷ h) → admits f entry ≡ true → reservation config (entry ∷ h) f ≡ None → unreserved_in_flight config (entry ∷ h) ≤ remainder config (entry ∷ h)
+pub within_remainder : (config : Config) (h : List Entry) (entry : Entry) (f : ℕ) → IsLegal config (entry ∷ h)
+    → admits f entry ≡ true → reservation config (entry ∷ h) f ≡ None
+    → unreserved_in_flight config (entry ∷ h) ≤ remainder config (entry ∷ h)
 within_remainder config h entry f l q r =
     let a : (is_reserve entry.call ≡ false) × (is_some (admitted_to (verdict config h f)) ≡ true) = admission config h entry f l.1 q in
     let none : reservation config h f ≡ None = sym (reservation_kept config h entry a.0 f) ∙ r in
@@ -227,7 +264,8 @@ or_last true b q = absurd (true≢false q)
 or_last false b q = (refl, q)
 
 -- Without a Reserve a reserved function never has more in flight than its reservation.
-pub ever_within_reservation : (config : Config) (h : List Entry) (f n : ℕ) → IsLegal config h → re_reserved h ≡ false → reservation config h f ≡ Some n → in_flight config h f ≤ n
+pub ever_within_reservation : (config : Config) (h : List Entry) (f n : ℕ) → IsLegal config h → re_reserved h ≡ false
+    → reservation config h f ≡ Some n → in_flight config h f ≤ n
 unfolding in_flight
 ever_within_reservation config [] f n l q r = omega arith
 ever_within_reservation config (entry ∷ h) f n l q r = go (admits f entry) refl (ever_within_reservation config h f n l.0)
@@ -238,12 +276,15 @@ ever_within_reservation config (entry ∷ h) f n l q r = go (admits f entry) ref
     add : {a b n : ℕ} → a ≤ n → b ≤ a + 0 → b ≤ n
     add p q = omega (arith, p, q)
 
-    go : (b : Bool) → admits f entry ≡ b → (re_reserved h ≡ false → reservation config h f ≡ Some n → in_flight config h f ≤ n) → in_flight config (entry ∷ h) f ≤ n
+    go : (b : Bool) → admits f entry ≡ b
+        → (re_reserved h ≡ false → reservation config h f ≡ Some n → in_flight config h f ≤ n)
+        → in_flight config (entry ∷ h) f ≤ n
     go true k ih = within_reservation config h entry f n l k r
     go false k ih = add (ih none.1 (sym (reservation_kept config h entry none.0 f) ∙ r)) (rw k at (flight_step config h entry f l.0 l.1))
 
 -- whether an entry admits an Invoke of an unreserved function
-unreserved_admitted : (config : Config) (h : List Entry) (entry : Entry) → ((f : ℕ) × ((admits f entry ≡ true) × (reservation config h f ≡ None))) ⊎ ((d : ℕ) → (admits d entry && is_none (reservation config h d)) ≡ false)
+unreserved_admitted : (config : Config) (h : List Entry) (entry : Entry)
+    → ((f : ℕ) × ((admits f entry ≡ true) × (reservation config h f ≡ None))) ⊎ ((d : ℕ) → (admits d entry && is_none (reservation config h d)) ≡ false)
 unreserved_admitted config h entry = go entry.call entry.place
   where
     not_both : (a b c : Bool) → c ≡ false → ((a && b) && c) ≡ false
@@ -261,11 +302,13 @@ unreserved_admitted config h entry = go entry.call entry.place
     no_and true b = refl
     no_and false b = refl
 
-    by_reservation : (g : ℕ) (r : Option ℕ) → reservation config h g ≡ r → ((f : ℕ) × ((((g == f) && true) ≡ true) × (reservation config h f ≡ None))) ⊎ ((d : ℕ) → (((g == d) && true) && is_none (reservation config h d)) ≡ false)
+    by_reservation : (g : ℕ) (r : Option ℕ) → reservation config h g ≡ r
+        → ((f : ℕ) × ((((g == f) && true) ≡ true) × (reservation config h f ≡ None))) ⊎ ((d : ℕ) → (((g == d) && true) && is_none (reservation config h d)) ≡ false)
     by_reservation g None q = inl (g, (rw (eqb-self g) refl, q))
     by_reservation g (Some n) q = inr (λ d. at_one g d (ap is_none q))
 
-    go : (call : Call) (o : Option ℕ) → ((f : ℕ) × (((is_invoke_of f call && is_some o) ≡ true) × (reservation config h f ≡ None))) ⊎ ((d : ℕ) → ((is_invoke_of d call && is_some o) && is_none (reservation config h d)) ≡ false)
+    go : (call : Call) (o : Option ℕ)
+        → ((f : ℕ) × (((is_invoke_of f call && is_some o) ≡ true) × (reservation config h f ≡ None))) ⊎ ((d : ℕ) → ((is_invoke_of d call && is_some o) && is_none (reservation config h d)) ≡ false)
     go (Invoke g qualified trace body) (Some e) = by_reservation g (reservation config h g) refl
     go (Invoke g qualified trace body) None = inr (λ d. no_and (g == d) (is_none (reservation config h d)))
     go call o = inr (λ d. refl)
@@ -286,6 +329,10 @@ ever_within_remainder config (entry ∷ h) l q = go (unreserved_admitted config 
     add : {a b c n : ℕ} → a ≤ n → b ≤ a + c → c ≡ 0 → b ≤ n
     add p q r = omega (arith, p, q, r)
 
-    go : ((f : ℕ) × ((admits f entry ≡ true) × (reservation config h f ≡ None))) ⊎ ((d : ℕ) → (admits d entry && is_none (reservation config h d)) ≡ false) → (re_reserved h ≡ false → unreserved_in_flight config h ≤ remainder config h) → unreserved_in_flight config (entry ∷ h) ≤ remainder config (entry ∷ h)
+    go : ((f : ℕ) × ((admits f entry ≡ true) × (reservation config h f ≡ None))) ⊎ ((d : ℕ) → (admits d entry && is_none (reservation config h d)) ≡ false)
+        → (re_reserved h ≡ false → unreserved_in_flight config h ≤ remainder config h)
+        → unreserved_in_flight config (entry ∷ h) ≤ remainder config (entry ∷ h)
     go (inl k) ih = within_remainder config h entry k.0 l (k.1.0) (reservation_kept config h entry none.0 k.0 ∙ k.1.1)
-    go (inr k) ih = rw (remainder_kept config h entry none.0) (add (ih none.1) (unreserved_step config h entry l.0 l.1 none.0) (count_never (λ d. admits d entry && is_none (reservation config h d)) k (function_numbers config)))
+    go (inr k) ih =
+        rw (remainder_kept config h entry none.0)
+        (add (ih none.1) (unreserved_step config h entry l.0 l.1 none.0) (count_never (λ d. admits d entry && is_none (reservation config h d)) k (function_numbers config)))

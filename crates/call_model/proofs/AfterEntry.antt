@@ -27,8 +27,10 @@ pub place_of_old : (entry : Entry) (h : List Entry) (t : ℕ) → t < length h �
 place_of_old entry h t lt = rw (eqb-other t (length h) (omega (arith, lt))) refl
 
 -- The new ticket waits where its call is no expiry and has no answer in its own entry.
-pub pending_new : (config : Config) (entry : Entry) (h : List Entry) → IsLegal config h → pending (entry ∷ h) (length h) ≡ (not (is_expiry entry.call) && is_none (answer_in entry.answers (length h)))
-pending_new config entry h l = rw (eqb-self (length h), fresh config h (length h) l (omega arith)) (go (not (is_expiry entry.call)) (answer_in entry.answers (length h)))
+pub pending_new : (config : Config) (entry : Entry) (h : List Entry) → IsLegal config h
+    → pending (entry ∷ h) (length h) ≡ (not (is_expiry entry.call) && is_none (answer_in entry.answers (length h)))
+pending_new config entry h l =
+    rw (eqb-self (length h), fresh config h (length h) l (omega arith)) (go (not (is_expiry entry.call)) (answer_in entry.answers (length h)))
   where
     go : (b : Bool) (o : Option Answer) → (b && not (is_some (or_else o None))) ≡ (b && is_none o)
     go b None = refl
@@ -54,7 +56,8 @@ calls_cons entry h = count_cons (λ (x : Entry). not (is_expiry x.call)) entry h
 pub admitted_cons : (entry : Entry) (h : List Entry) → admitted (entry ∷ h) ≡ cond (is_some entry.place) 1 0 + admitted h
 admitted_cons entry h = count_cons (λ (x : Entry). is_some x.place) entry h
 
-pub answers_that_cons : (passes : Answer → Bool) (entry : Entry) (h : List Entry) → answers_that passes (entry ∷ h) ≡ count_by (λ a. passes a.1) entry.answers + answers_that passes h
+pub answers_that_cons : (passes : Answer → Bool) (entry : Entry) (h : List Entry)
+    → answers_that passes (entry ∷ h) ≡ count_by (λ a. passes a.1) entry.answers + answers_that passes h
 answers_that_cons passes entry h = sum_by-cons (λ (x : Entry). count_by (λ a. passes a.1) x.answers) entry h
 
 -- and part by part.

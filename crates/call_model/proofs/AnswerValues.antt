@@ -16,7 +16,8 @@ seen_by q none None = none
 seen_by q none (Some a) = q a
 
 -- numbering keeps what doesn't depend on the event's number
-pub numbered_keeps : {B : Type 0} (q : Answer → B) → ((n : ℕ) (a : Answer) → q (with_event n a) ≡ q a) → (none : B) (h : List Entry) (entry : Entry) (before pairs : List (ℕ × Answer)) (t : ℕ)
+pub numbered_keeps : {B : Type 0} (q : Answer → B) → ((n : ℕ) (a : Answer) → q (with_event n a) ≡ q a)
+    → (none : B) (h : List Entry) (entry : Entry) (before pairs : List (ℕ × Answer)) (t : ℕ)
     → seen_by q none (answer_in (numbered h entry before pairs) t) ≡ seen_by q none (answer_in pairs t)
 numbered_keeps q keeps none h entry before [] t = refl
 numbered_keeps q keeps none h entry before (a ∷ rest) t =
@@ -42,7 +43,8 @@ strip_again n (Ending reason until event) = refl
 strip_again n a = refl
 
 -- the answer of a ticket in the entry that a call makes
-pub valued : (config : Config) (h : List Entry) (now : ℕ) (call : Call) (t : ℕ) → t ≤ length h → plain (answer_in (answers config h now call) t) ≡ plain (or_else (first_answer config h now call t) (second_answer config h (first_entry config h now call) t))
+pub valued : (config : Config) (h : List Entry) (now : ℕ) (call : Call) (t : ℕ) → t ≤ length h
+    → plain (answer_in (answers config h now call) t) ≡ plain (or_else (first_answer config h now call t) (second_answer config h (first_entry config h now call) t))
 unfolding answers answer_to first_answers
 valued config h now call t le =
     numbered_keeps stripped strip_again None h entry [] (each_from 0 (suc (length h)) (answer_to config h entry)) t

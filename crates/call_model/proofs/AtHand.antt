@@ -1,11 +1,15 @@
 -- The invocation that an environment has at hand was placed there.
-use Rattle.std.proofs.Common.{◌≡◌, ℕ, ◌<◌, Bool, true, false, List, [], ◌∷◌, length, Option, Some, None, sym, refl, ap, ◌∙◌, subst, inl, inr, arith, ◌≢◌, ◌⊎◌, ◌||◌, true≢false, if◌then◌else◌}
+use Rattle.std.proofs.Common.{◌≡◌, ℕ, ◌<◌, Bool, true, false, List, [], ◌∷◌, length, Option, Some, None, sym, refl, ap}
+use Rattle.std.proofs.Common.{◌∙◌, subst, inl, inr, arith, ◌≢◌, ◌⊎◌, ◌||◌, true≢false, if◌then◌else◌}
 use Rattle.std.proofs.lemmas.Bool.Decides.{nat_tests}
 use Rattle.call_types.specs.declared.answer.Reason.{Reason}
 use Rattle.call_types.specs.declared.answer.Phase.{Phase}
 use Rattle.call_types.specs.declared.answer.Phase.TheVariants.{Starting, Idle, Busy, Closing, Off}
 use Rattle.call_types.specs.declared.call.Call.{Call}
-use Rattle.call_types.specs.declared.call.Call.TheVariants.{Invoke, RuntimeNext, Response, ResponseTooLarge, Failure, InitFailure, Register, ExtNext, ExtInitFailure, ExtExitFailure, Tick, Withdraw, Spindown, Stop, Expire, Reserve}
+use Rattle.call_types.specs.declared.call.Call.TheVariants.{Invoke, RuntimeNext, Response, ResponseTooLarge, Failure}
+use Rattle.call_types.specs.declared.call.Call.TheVariants.{InitFailure, Register, ExtNext, ExtInitFailure}
+use Rattle.call_types.specs.declared.call.Call.TheVariants.{ExtExitFailure, Tick, Withdraw, Spindown, Stop, Expire}
+use Rattle.call_types.specs.declared.call.Call.TheVariants.{Reserve}
 use Rattle.call_types.specs.declared.call.Entry.{Entry}
 use Rattle.arn_ids.specs.declared.config.Config.{Config}
 use Rattle.call_model.specs.History.{call_of, place_of}
@@ -80,12 +84,14 @@ choice P Q true p f e = f e
 choice P Q false p f e = e
 
 -- what is at hand after the table's cell was at hand, or is the Invoke that is placed
-pub from_kept : (now limit n : ℕ) (s : Stand) (call : Call) (p : ℕ) → at_hand (kept now limit n s call) ≡ Some p → ((n ≡ p) × (is_invoke call ≡ true)) ⊎ (at_hand s.phase ≡ Some p)
+pub from_kept : (now limit n : ℕ) (s : Stand) (call : Call) (p : ℕ) → at_hand (kept now limit n s call) ≡ Some p
+    → ((n ≡ p) × (is_invoke call ≡ true)) ⊎ (at_hand s.phase ≡ Some p)
 unfolding kept
 from_kept now limit n s (Invoke f qualified trace body) p e = elim (from_placed now limit n s.phase p e) [ inl q ↦ inl (q, refl) | inr q ↦ inr q ]
 from_kept now limit n s (RuntimeNext d) p e = inr (from_clock now s.phase p e)
 from_kept now limit n s (ExtNext d x) p e = inr (choice (clock_started now s.phase) s.phase (is_known s x) p (from_clock now s.phase p) e)
-from_kept now limit n s (Register d name invoke shutdown account) p e = inr (choice (clock_started now s.phase) s.phase (is_registered (own_answer s (Register d name invoke shutdown account))) p (from_clock now s.phase p) e)
+from_kept now limit n s (Register d name invoke shutdown account) p e =
+    inr (choice (clock_started now s.phase) s.phase (is_registered (own_answer s (Register d name invoke shutdown account))) p (from_clock now s.phase p) e)
 from_kept now limit n s Stop p e = inr (two s.stopped e)
   where
     two : (b : Bool) → at_hand (if b then s.phase else unbound s.phase) ≡ Some p → at_hand s.phase ≡ Some p
@@ -103,12 +109,14 @@ from_kept now limit n s (Spindown d) p e = inr e
 from_kept now limit n s (Expire d) p e = inr e
 from_kept now limit n s (Reserve f count) p e = inr e
 
-pub from_after : (b over r w : Bool) (now limit : ℕ) (cell : Phase) (p : ℕ) → at_hand (if b then reborn over now (bound_of cell) else settled limit r w cell) ≡ Some p → at_hand cell ≡ Some p
+pub from_after : (b over r w : Bool) (now limit : ℕ) (cell : Phase) (p : ℕ)
+    → at_hand (if b then reborn over now (bound_of cell) else settled limit r w cell) ≡ Some p → at_hand cell ≡ Some p
 from_after true over r w now limit cell p e = bound_at_hand cell p (from_reborn over now (bound_of cell) p e)
 from_after false over r w now limit cell p e = from_settled limit r w cell p e
 
 -- what is at hand after an entry
-pub from_entry_by : (rule : Rule) (config : Config) (h : List Entry) (entry : Entry) (e p : ℕ) → IsLegalBy rule config h → FollowsBy rule config h entry → at_hand (phase config (entry ∷ h) e) ≡ Some p
+pub from_entry_by : (rule : Rule) (config : Config) (h : List Entry) (entry : Entry) (e p : ℕ) → IsLegalBy rule config h
+    → FollowsBy rule config h entry → at_hand (phase config (entry ∷ h) e) ≡ Some p
     → ((length h ≡ p) × (is_invoke entry.call ≡ true) × (concerns h e entry ≡ true)) ⊎ (at_hand (phase config h e) ≡ Some p)
 unfolding seen
 from_entry_by rule config h entry e p l f q = go (concerns h e entry) refl
@@ -117,13 +125,20 @@ from_entry_by rule config h entry e p l f q = go (concerns h e entry) refl
     cell = cell_of config e entry (length h) (stand config h e)
 
     at_cell : at_hand cell ≡ Some p → ((length h ≡ p) × (is_invoke entry.call ≡ true)) ⊎ (at_hand (phase config h e) ≡ Some p)
-    at_cell w = from_kept entry.moment (limit_of config e entry.moment) (length h) (stand config h e) entry.call p (from_closing entry.moment (closes (stand config h e) entry.call) (kept entry.moment (limit_of config e entry.moment) (length h) (stand config h e) entry.call) p w).1
+    at_cell w =
+        from_kept entry.moment (limit_of config e entry.moment) (length h) (stand config h e) entry.call p
+        (from_closing entry.moment (closes (stand config h e) entry.call) (kept entry.moment (limit_of config e entry.moment) (length h) (stand config h e) entry.call) p w).1
 
-    go : (c : Bool) → concerns h e entry ≡ c → ((length h ≡ p) × (is_invoke entry.call ≡ true) × (concerns h e entry ≡ true)) ⊎ (at_hand (phase config h e) ≡ Some p)
+    go : (c : Bool) → concerns h e entry ≡ c
+        → ((length h ≡ p) × (is_invoke entry.call ≡ true) × (concerns h e entry ≡ true)) ⊎ (at_hand (phase config h e) ≡ Some p)
     go false w = inr (ap (λ (x : Lifecycle). at_hand x.phase) (sym (life_elsewhere config h entry e w)) ∙ q)
-    go true w = elim (at_cell (from_after _ _ _ _ entry.moment (limit_of config e entry.moment) cell p (sym (ap at_hand (phase_step config h entry e w (fresh_by rule config h (length h) l (omega arith)) (silent_by rule config h entry f))) ∙ q))) [ inl x ↦ inl (x.0, x.1, w) | inr x ↦ inr x ]
+    go true w =
+        elim
+        (at_cell (from_after _ _ _ _ entry.moment (limit_of config e entry.moment) cell p (sym (ap at_hand (phase_step config h entry e w (fresh_by rule config h (length h) l (omega arith)) (silent_by rule config h entry f))) ∙ q)))
+        [ inl x ↦ inl (x.0, x.1, w) | inr x ↦ inr x ]
 
-pub from_entry : (config : Config) (h : List Entry) (entry : Entry) (e p : ℕ) → IsLegal config h → Follows config h entry → at_hand (phase config (entry ∷ h) e) ≡ Some p
+pub from_entry : (config : Config) (h : List Entry) (entry : Entry) (e p : ℕ) → IsLegal config h
+    → Follows config h entry → at_hand (phase config (entry ∷ h) e) ≡ Some p
     → ((length h ≡ p) × (is_invoke entry.call ≡ true) × (concerns h e entry ≡ true)) ⊎ (at_hand (phase config h e) ≡ Some p)
 from_entry config h entry e p l f q = from_entry_by IsTimely config h entry e p l f q
 
@@ -156,7 +171,9 @@ held_by rule config (entry ∷ h) e p l q =
     ]
   where
     newly : length h ≡ p → is_invoke entry.call ≡ true → concerns h e entry ≡ true → IsHeld (entry ∷ h) e p
-    newly at i c = subst (λ n. IsHeld (entry ∷ h) e n) at (record { older = omega arith; invoke = rw (eqb-self (length h)) i; placed = rw (eqb-self (length h)) (placed_here h entry e i c) })
+    newly at i c =
+        subst (λ n. IsHeld (entry ∷ h) e n) at
+        (record { older = omega arith; invoke = rw (eqb-self (length h)) i; placed = rw (eqb-self (length h)) (placed_here h entry e i c) })
 
 pub held : (config : Config) (h : List Entry) (e p : ℕ) → IsLegal config h → at_hand (phase config h e) ≡ Some p → IsHeld h e p
 held config h e p l q = held_by IsTimely config h e p l q

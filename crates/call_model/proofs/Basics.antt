@@ -1,5 +1,7 @@
 -- Facts of Booleans, options, lists and counts.
-use Rattle.std.proofs.Common.{◌≡◌, ℕ, ◌+◌, Bool, true, false, cond, eqb, List, [], ◌∷◌, Option, Some, None, sym, refl, ap, ap₂, ◌∙◌, arith, inl, inr, ◌&&◌, ◌==◌, ◌<◌, zero, suc, map, true≢false, count_by, ◌||◌}
+use Rattle.std.proofs.Common.{◌≡◌, ℕ, ◌+◌, Bool, true, false, cond, eqb, List, [], ◌∷◌, Option, Some, None, sym, refl}
+use Rattle.std.proofs.Common.{ap, ap₂, ◌∙◌, arith, inl, inr, ◌&&◌, ◌==◌, ◌<◌, zero, suc, map, true≢false, count_by}
+use Rattle.std.proofs.Common.{◌||◌}
 use Rattle.std.proofs.lemmas.Bool.{eqb-true}
 use Rattle.std.specs.List.{list_any}
 use Rattle.std.proofs.lemmas.Bool.Decides.{eqb_tells, nat_tests}
@@ -54,7 +56,8 @@ not_behind e a (suc n) lt =
     let other : (e == a) ≡ false = grind (arith, nat_tests, lt) in
     rw other (not_behind e (suc a) n (omega (arith, lt)))
 
-pub counted_once : (e : ℕ) (p : ℕ → Bool) (a n : ℕ) → count_by (λ d. (e == d) && p d) (count_from a n) ≡ cond (list_any (λ d. e == d) (count_from a n) && p e) 1 0
+pub counted_once : (e : ℕ) (p : ℕ → Bool) (a n : ℕ)
+    → count_by (λ d. (e == d) && p d) (count_from a n) ≡ cond (list_any (λ d. e == d) (count_from a n) && p e) 1 0
 counted_once e p a zero = refl
 counted_once e p a (suc n) = count_cons (λ (d : ℕ). (e == d) && p d) a (count_from (suc a) n) ∙ elim (eqb_tells e a) [
   | inl q ↦ here q.0 q.1 (counted_once e p (suc a) n)

@@ -1,17 +1,23 @@
 -- A bound invocation is pending.
-use Rattle.std.proofs.Common.{◌≡◌, ℕ, ◌<◌, Bool, true, false, List, [], ◌∷◌, length, Option, Some, None, sym, refl, ap, ◌∙◌, subst, inl, inr, arith, ◌≢◌, ◌⊎◌, not, ◌&&◌, map, true≢false, if◌then◌else◌}
+use Rattle.std.proofs.Common.{◌≡◌, ℕ, ◌<◌, Bool, true, false, List, [], ◌∷◌, length, Option, Some, None, sym, refl, ap}
+use Rattle.std.proofs.Common.{◌∙◌, subst, inl, inr, arith, ◌≢◌, ◌⊎◌, not, ◌&&◌, map, true≢false, if◌then◌else◌}
 use Rattle.std.specs.List.{find}
 use Rattle.call_types.specs.declared.answer.Reason.{Reason}
 use Rattle.call_types.specs.declared.answer.Phase.{Phase}
 use Rattle.call_types.specs.declared.answer.Phase.TheVariants.{Starting, Idle, Busy, Closing, Off}
 use Rattle.call_types.specs.declared.call.Call.{Call}
-use Rattle.call_types.specs.declared.call.Call.TheVariants.{Invoke, RuntimeNext, Response, ResponseTooLarge, Failure, InitFailure, Register, ExtNext, ExtInitFailure, ExtExitFailure, Tick, Withdraw, Spindown, Stop, Expire, Reserve}
+use Rattle.call_types.specs.declared.call.Call.TheVariants.{Invoke, RuntimeNext, Response, ResponseTooLarge, Failure}
+use Rattle.call_types.specs.declared.call.Call.TheVariants.{InitFailure, Register, ExtNext, ExtInitFailure}
+use Rattle.call_types.specs.declared.call.Call.TheVariants.{ExtExitFailure, Tick, Withdraw, Spindown, Stop, Expire}
+use Rattle.call_types.specs.declared.call.Call.TheVariants.{Reserve}
 use Rattle.call_types.specs.declared.call.Entry.{Entry}
 use Rattle.arn_ids.specs.declared.config.Config.{Config}
 use Rattle.call_model.specs.History.{answer_in, pending, call_of, place_of, is_stop, is_expiry}
-use Rattle.call_model.specs.Generation.{Generation, Actor, TheRuntime, TheExtension, Extension, asks, last_next, parked, if_pending, member, members, extensions}
+use Rattle.call_model.specs.Generation.{Generation, Actor, TheRuntime, TheExtension, Extension, asks, last_next, parked}
+use Rattle.call_model.specs.Generation.{if_pending, member, members, extensions}
 use Rattle.call_model.specs.Stand.{Stand, bound_of, is_number, is_known, role, NoRole, Waiting, waits_as}
-use Rattle.call_model.specs.Table.{reborn, settled, kept, closes, or_closing, placed, clock_started, unbound, is_registered, own_answer, to_waiting, Cell, row, nothing, stops, tells_stopped}
+use Rattle.call_model.specs.Table.{reborn, settled, kept, closes, or_closing, placed, clock_started, unbound}
+use Rattle.call_model.specs.Table.{is_registered, own_answer, to_waiting, Cell, row, nothing, stops, tells_stopped}
 use Rattle.call_model.specs.Polls.{delivered, begun, by_role}
 use Rattle.call_model.specs.Life.{Lifecycle, life, lived, after, phase, stand, seen, concerns, names, limit_of, ends_here}
 use Rattle.call_model.specs.Limits.{place_for, Verdict, AfterStop, Refuses, Admits, admitted_to, verdict}
@@ -36,7 +42,8 @@ IsPart h (taken ∷ g) = ((taken.0 < length h) × (call_of h taken.0 ≡ taken.1
 
 part_older : (entry : Entry) (h : List Entry) (g : Generation) → IsPart h g → IsPart (entry ∷ h) g
 part_older entry h [] p = tt
-part_older entry h (taken ∷ g) p = let ne : taken.0 ≢ length h = omega (arith, p.0.0) in ((omega (arith, p.0.0), rw (eqb-other taken.0 (length h) ne) (p.0.1)), part_older entry h g p.1)
+part_older entry h (taken ∷ g) p =
+    let ne : taken.0 ≢ length h = omega (arith, p.0.0) in ((omega (arith, p.0.0), rw (eqb-other taken.0 (length h) ne) (p.0.1)), part_older entry h g p.1)
 
 pub generation_part : (config : Config) (h : List Entry) (e : ℕ) → IsPart h (life config h e).generation
 unfolding life lived after
@@ -56,7 +63,8 @@ pub last_asks : (h : List Entry) (g : Generation) (actor : Actor) (t : ℕ) → 
 last_asks h [] actor t p q = absurd (some-none (sym q))
 last_asks h (taken ∷ g) actor t p q = go (asks actor taken.1.call) refl (last_asks h g actor t p.1) q
   where
-    go : (c : Bool) → asks actor taken.1.call ≡ c → (last_next g actor ≡ Some t → asks actor (call_of h t) ≡ true) → (if c then Some taken.0 else last_next g actor) ≡ Some t → asks actor (call_of h t) ≡ true
+    go : (c : Bool) → asks actor taken.1.call ≡ c → (last_next g actor ≡ Some t → asks actor (call_of h t) ≡ true)
+        → (if c then Some taken.0 else last_next g actor) ≡ Some t → asks actor (call_of h t) ≡ true
     go true a ih r = let at : taken.0 ≡ t = cc in ap (λ (n : ℕ). asks actor (call_of h n)) (sym at) ∙ ap (asks actor) p.0.1 ∙ a
     go false a ih r = ih r
 
@@ -65,7 +73,8 @@ invoke_asks TheRuntime (Invoke f qualified trace body) i a = true≢false (sym a
 invoke_asks (TheExtension x) (Invoke f qualified trace body) i a = true≢false (sym a)
 invoke_asks actor call i a = true≢false (sym i)
 
-pub not_parked : (h : List Entry) (g : Generation) (actor : Actor) (t : ℕ) → IsPart h g → is_invoke (call_of h t) ≡ true → is_number (parked h g actor) t ≡ false
+pub not_parked : (h : List Entry) (g : Generation) (actor : Actor) (t : ℕ) → IsPart h g → is_invoke (call_of h t) ≡ true
+    → is_number (parked h g actor) t ≡ false
 not_parked h g actor t p i = go (last_next g actor) refl
   where
     go : (o : Option ℕ) → last_next g actor ≡ o → is_number (if_pending h o) t ≡ false
@@ -76,18 +85,22 @@ not_parked h g actor t p i = go (last_next g actor) refl
         both false = refl
         both true = eqb-other u t (λ same. invoke_asks actor (call_of h t) i (ap (λ (n : ℕ). asks actor (call_of h n)) (sym same) ∙ last_asks h g actor u p q))
 
-no_member_at : (h : List Entry) (g : Generation) (t : ℕ) → IsPart h g → is_invoke (call_of h t) ≡ true → (xs : List Extension) → find (λ x. is_number x.next t) (map (member h g) xs) ≡ None
+no_member_at : (h : List Entry) (g : Generation) (t : ℕ) → IsPart h g → is_invoke (call_of h t) ≡ true
+    → (xs : List Extension) → find (λ x. is_number x.next t) (map (member h g) xs) ≡ None
 no_member_at h g t p i [] = refl
 no_member_at h g t p i (x ∷ xs) = rw (not_parked h g (TheExtension x.count) t p i) (no_member_at h g t p i xs)
 
 -- an invocation is no poll: it is the waiting call or nothing
-pub invoke_role : (config : Config) (h : List Entry) (e t : ℕ) → is_invoke (call_of h t) ≡ true → role (stand config h e) t ≡ (if waits_as (stand config h e) t then Waiting else NoRole)
+pub invoke_role : (config : Config) (h : List Entry) (e t : ℕ) → is_invoke (call_of h t) ≡ true
+    → role (stand config h e) t ≡ (if waits_as (stand config h e) t then Waiting else NoRole)
 unfolding role seen members
 invoke_role config h e t i =
-    rw (not_parked h (life config h e).generation TheRuntime t (generation_part config h e) i, no_member_at h (life config h e).generation t (generation_part config h e) i (extensions (life config h e).generation)) refl
+    rw
+    (not_parked h (life config h e).generation TheRuntime t (generation_part config h e) i, no_member_at h (life config h e).generation t (generation_part config h e) i (extensions (life config h e).generation)) refl
 
 -- so no Busy that begins answers it
-pub invoke_second : (config : Config) (h : List Entry) (entry : Entry) (t : ℕ) → is_invoke (call_of (entry ∷ h) t) ≡ true → second_answer config h entry t ≡ None
+pub invoke_second : (config : Config) (h : List Entry) (entry : Entry) (t : ℕ)
+    → is_invoke (call_of (entry ∷ h) t) ≡ true → second_answer config h entry t ≡ None
 unfolding second_answer
 invoke_second config h entry t i = go (home (entry ∷ h) t)
   where
@@ -98,7 +111,9 @@ invoke_second config h entry t i = go (home (entry ∷ h) t)
 
     go : (d : Option ℕ) → second_at config h entry t d ≡ None
     go None = refl
-    go (Some d) = ap (delivered (begun (phase config h d) (phase config (entry ∷ h) d))) (invoke_role config (entry ∷ h) d t i) ∙ nothing (begun (phase config h d) (phase config (entry ∷ h) d)) (waits_as (stand config (entry ∷ h) d) t)
+    go (Some d) =
+        ap (delivered (begun (phase config h d) (phase config (entry ∷ h) d))) (invoke_role config (entry ∷ h) d t i)
+        ∙ nothing (begun (phase config h d) (phase config (entry ∷ h) d)) (waits_as (stand config (entry ∷ h) d) t)
 
 from_settled : (limit : ℕ) (r w : Bool) (P : Phase) (p : ℕ) → bound_of (settled limit r w P) ≡ Some p → bound_of P ≡ Some p
 from_settled limit true w (Starting d None) p e = e
@@ -119,7 +134,8 @@ from_reborn true now b p e = absurd (some-none (sym e))
 from_reborn false now None p e = e
 from_reborn false now (Some q) p e = e
 
-pub from_after : (b over r w : Bool) (now limit : ℕ) (cell : Phase) (p : ℕ) → bound_of (if b then reborn over now (bound_of cell) else settled limit r w cell) ≡ Some p → bound_of cell ≡ Some p
+pub from_after : (b over r w : Bool) (now limit : ℕ) (cell : Phase) (p : ℕ)
+    → bound_of (if b then reborn over now (bound_of cell) else settled limit r w cell) ≡ Some p → bound_of cell ≡ Some p
 from_after true over r w now limit cell p e = from_reborn over now (bound_of cell) p e
 from_after false over r w now limit cell p e = from_settled limit r w cell p e
 
@@ -152,15 +168,22 @@ Stays s call p = (bound_of s.phase ≡ Some p) × (is_stop call ≡ true → clo
 starting_closes : (s : Stand) (p : ℕ) → bound_of (unbound s.phase) ≡ Some p → s.stopped ≡ false → closes s Stop ≡ None → ⊥
 unfolding closes
 starting_closes s p e q k =
-    in_row (λ P (cell : Cell). bound_of (unbound P) ≡ Some p → cell.close ≡ None → ⊥) s _ _ _ _ _ _ (λ d b x y. some-none y) (λ x y. some-none y) (λ n d x y. some-none y) (λ n d x y. some-none y) (λ reason until b x y. some-none (sym x)) (λ x y. some-none (sym x)) e
+    in_row (λ P (cell : Cell). bound_of (unbound P) ≡ Some p → cell.close ≡ None → ⊥) s _ _ _ _ _ _
+    (λ d b x y. some-none y) (λ x y. some-none y) (λ n d x y. some-none y) (λ n d x y. some-none y)
+    (λ reason until b x y. some-none (sym x)) (λ x y. some-none (sym x)) e
     (sym (ap (λ (cell : Cell). cell.close) (first_stop s q)) ∙ k)
 
-pub from_kept : (now limit n : ℕ) (s : Stand) (call : Call) (p : ℕ) → bound_of (kept now limit n s call) ≡ Some p → ((n ≡ p) × (is_invoke call ≡ true)) ⊎ Stays s call p
+pub from_kept : (now limit n : ℕ) (s : Stand) (call : Call) (p : ℕ) → bound_of (kept now limit n s call) ≡ Some p
+    → ((n ≡ p) × (is_invoke call ≡ true)) ⊎ Stays s call p
 unfolding kept
-from_kept now limit n s (Invoke f qualified trace body) p e = elim (from_placed now limit n s.phase p e) [ inl q ↦ inl (q, refl) | inr q ↦ inr (q, λ x _. absurd (true≢false (sym x))) ]
+from_kept now limit n s (Invoke f qualified trace body) p e =
+    elim (from_placed now limit n s.phase p e) [ inl q ↦ inl (q, refl) | inr q ↦ inr (q, λ x _. absurd (true≢false (sym x))) ]
 from_kept now limit n s (RuntimeNext d) p e = inr (from_clock now s.phase p e, λ x _. absurd (true≢false (sym x)))
-from_kept now limit n s (ExtNext d x) p e = inr (choice (clock_started now s.phase) s.phase (is_known s x) p (from_clock now s.phase p) e, λ x _. absurd (true≢false (sym x)))
-from_kept now limit n s (Register d name invoke shutdown account) p e = inr (choice (clock_started now s.phase) s.phase (is_registered (own_answer s (Register d name invoke shutdown account))) p (from_clock now s.phase p) e, λ x _. absurd (true≢false (sym x)))
+from_kept now limit n s (ExtNext d x) p e =
+    inr (choice (clock_started now s.phase) s.phase (is_known s x) p (from_clock now s.phase p) e, λ x _. absurd (true≢false (sym x)))
+from_kept now limit n s (Register d name invoke shutdown account) p e =
+    inr
+    (choice (clock_started now s.phase) s.phase (is_registered (own_answer s (Register d name invoke shutdown account))) p (from_clock now s.phase p) e, λ x _. absurd (true≢false (sym x)))
 from_kept now limit n s Stop p e = inr (two s.stopped refl e)
   where
     two : (b : Bool) → s.stopped ≡ b → bound_of (if b then s.phase else unbound s.phase) ≡ Some p → Stays s Stop p
@@ -201,30 +224,38 @@ pub held_home : (h : List Entry) (e p : ℕ) → IsHeld h e p → home h p ≡ S
 held_home h e p k = rw (number_some (place_of h p) e k.placed) refl
 
 -- a call gives nothing to an invocation at hand, where the table gives the waiting call nothing
-pub quiet_at : (config : Config) (h : List Entry) (entry : Entry) (e p : ℕ) → Follows config h entry → IsHeld h e p → (names h e entry.call ≡ true → to_waiting (length h) (stand config h e) entry.call ≡ None) → answer_in entry.answers p ≡ None
+pub quiet_at : (config : Config) (h : List Entry) (entry : Entry) (e p : ℕ) → Follows config h entry → IsHeld h e p
+    → (names h e entry.call ≡ true → to_waiting (length h) (stand config h e) entry.call ≡ None)
+    → answer_in entry.answers p ≡ None
 unfolding first_answer
 quiet_at config h entry e p f k nothing =
-    rw (f.answers) (is_some_none _ (answers_at config h entry.moment entry.call p (omega (arith, k.older)) ∙ rw (first, invoke_second config h (first_entry config h entry.moment entry.call) p (rw (eqb-other p (length h) ne) (k.invoke))) refl))
+    rw (f.answers)
+    (is_some_none _ (answers_at config h entry.moment entry.call p (omega (arith, k.older)) ∙ rw (first, invoke_second config h (first_entry config h entry.moment entry.call) p (rw (eqb-other p (length h) ne) (k.invoke))) refl))
   where
     ne : p ≢ length h
     ne = omega (arith, k.older)
 
-    by_waiting : (c : Bool) → to_waiting (length h) (stand config h e) entry.call ≡ None → by_role (length h) entry.moment (stand config h e) entry.call p (if c then Waiting else NoRole) ≡ None
+    by_waiting : (c : Bool) → to_waiting (length h) (stand config h e) entry.call ≡ None
+        → by_role (length h) entry.moment (stand config h e) entry.call p (if c then Waiting else NoRole) ≡ None
     by_waiting true q = q
     by_waiting false q = refl
 
     at_env : (b : Bool) → names h e entry.call ≡ b → answer_at config h entry.moment e entry.call p b ≡ None
     at_env false q = refl
-    at_env true q = ap (by_role (length h) entry.moment (stand config h e) entry.call p) (invoke_role config h e p (k.invoke)) ∙ by_waiting (waits_as (stand config h e) p) (nothing q)
+    at_env true q =
+        ap (by_role (length h) entry.moment (stand config h e) entry.call p) (invoke_role config h e p (k.invoke))
+        ∙ by_waiting (waits_as (stand config h e) p) (nothing q)
 
     first : first_answer config h entry.moment entry.call p ≡ None
     first = rw (eqb-other p (length h) ne, held_home h e p k) (at_env (names h e entry.call) refl)
 
 -- an Invoke that is placed has no answer of its own
-own_placed : (config : Config) (h : List Entry) (entry : Entry) (e : ℕ) → Follows config h entry → is_invoke entry.call ≡ true → is_number entry.place e ≡ true → answer_in entry.answers (length h) ≡ None
+own_placed : (config : Config) (h : List Entry) (entry : Entry) (e : ℕ) → Follows config h entry
+    → is_invoke entry.call ≡ true → is_number entry.place e ≡ true → answer_in entry.answers (length h) ≡ None
 unfolding first_answer own_first
 own_placed config h entry e f i at =
-    rw (f.answers) (is_some_none _ (answers_at config h entry.moment entry.call (length h) (omega arith) ∙ rw (first, invoke_second config h (first_entry config h entry.moment entry.call) (length h) (rw (eqb-self (length h)) i)) refl))
+    rw (f.answers)
+    (is_some_none _ (answers_at config h entry.moment entry.call (length h) (omega arith) ∙ rw (first, invoke_second config h (first_entry config h entry.moment entry.call) (length h) (rw (eqb-self (length h)) i)) refl))
   where
     admitted : (v : Verdict) → is_number (admitted_to v) e ≡ true → verdict_answer v ≡ None
     admitted (Admits d) q = refl
@@ -250,13 +281,16 @@ bound_waits config (entry ∷ h) e p l q = go (concerns h e entry) refl (bound_w
     cell : Phase
     cell = cell_of config e entry (length h) s
 
-    older_waits : bound_of (phase config h e) ≡ Some p → pending h p ≡ true → (names h e entry.call ≡ true → to_waiting (length h) s entry.call ≡ None) → pending (entry ∷ h) p ≡ true
+    older_waits : bound_of (phase config h e) ≡ Some p → pending h p ≡ true
+        → (names h e entry.call ≡ true → to_waiting (length h) s entry.call ≡ None) → pending (entry ∷ h) p ≡ true
     older_waits b w n =
         let k : IsHeld h e p = held config h e p l.0 (bound_at_hand (phase config h e) p b) in
         pending_cons entry h p (omega (arith, k.older)) ∙ rw (w, quiet_at config h entry e p l.1 k n) refl
 
     newly : length h ≡ p → is_invoke entry.call ≡ true → concerns h e entry ≡ true → pending (entry ∷ h) p ≡ true
-    newly at i c = subst (λ n. pending (entry ∷ h) n ≡ true) at (rw (eqb-self (length h), own_placed config h entry e l.1 i (placed_here h entry e i c), fresh config h (length h) l.0 (omega arith)) (no_expiry entry.call i))
+    newly at i c =
+        subst (λ n. pending (entry ∷ h) n ≡ true) at
+        (rw (eqb-self (length h), own_placed config h entry e l.1 i (placed_here h entry e i c), fresh config h (length h) l.0 (omega arith)) (no_expiry entry.call i))
       where
         no_expiry : (call : Call) → is_invoke call ≡ true → (not (is_expiry call) && true) ≡ true
         no_expiry (Invoke g qualified trace body) a = refl

@@ -1,5 +1,6 @@
 -- Lists by deadline: that they are in order, what is left out of one, and that it has what was put into it.
-use Rattle.std.proofs.Common.{◌≡◌, ℕ, ◌≤◌, Bool, true, false, List, [], ◌∷◌, sym, refl, ap, ◌∙◌, arith, cond, suc, length, count_by, ◌+◌, ◌&&◌, filter, if◌then◌else◌, nat_le}
+use Rattle.std.proofs.Common.{◌≡◌, ℕ, ◌≤◌, Bool, true, false, List, [], ◌∷◌, sym, refl, ap, ◌∙◌, arith, cond, suc}
+use Rattle.std.proofs.Common.{length, count_by, ◌+◌, ◌&&◌, filter, if◌then◌else◌, nat_le}
 use Rattle.std.proofs.lemmas.Bool.Decides.{nat_tests}
 use Rattle.std.specs.List.{list_all}
 use Rattle.call_model.specs.Next.{in_order, by_deadline}
@@ -60,7 +61,8 @@ in_front a (x ∷ xs) o = rw (le (o.0)) refl
     le k = grind (arith, nat_tests, k)
 
 -- what is left out of a list by deadlines
-pub filter_order : (p : ℕ × ℕ → Bool) (a : ℕ × ℕ) (xs : List (ℕ × ℕ)) → IsSorted xs → filter p (in_order a xs) ≡ (if p a then in_order a (filter p xs) else filter p xs)
+pub filter_order : (p : ℕ × ℕ → Bool) (a : ℕ × ℕ) (xs : List (ℕ × ℕ)) → IsSorted xs
+    → filter p (in_order a xs) ≡ (if p a then in_order a (filter p xs) else filter p xs)
 filter_order p a [] s = go (p a)
   where
     go : (b : Bool) → (if b then a ∷ [] else []) ≡ (if b then a ∷ [] else [])
@@ -70,7 +72,8 @@ filter_order p a (x ∷ xs) s = go (nat_le a.0 x.0) refl (filter_order p a xs s.
     le : nat_le a.0 x.0 ≡ true → a.0 ≤ x.0
     le q = grind (arith, nat_tests, q)
 
-    front : nat_le a.0 x.0 ≡ true → (b c : Bool) → p x ≡ c → (if b then a ∷ (if c then x ∷ filter p xs else filter p xs) else (if c then x ∷ filter p xs else filter p xs)) ≡ (if b then in_order a (if c then x ∷ filter p xs else filter p xs) else (if c then x ∷ filter p xs else filter p xs))
+    front : nat_le a.0 x.0 ≡ true → (b c : Bool) → p x ≡ c
+        → (if b then a ∷ (if c then x ∷ filter p xs else filter p xs) else (if c then x ∷ filter p xs else filter p xs)) ≡ (if b then in_order a (if c then x ∷ filter p xs else filter p xs) else (if c then x ∷ filter p xs else filter p xs))
     front q true true r = sym (in_front a (x ∷ filter p xs) (le q, all_filter a.0 p xs (all_less a.0 x.0 xs (le q) s.0)))
     front q true false r = sym (in_front a (filter p xs) (all_filter a.0 p xs (all_less a.0 x.0 xs (le q) s.0)))
     front q false c r = refl
@@ -82,7 +85,9 @@ filter_order p a (x ∷ xs) s = go (nat_le a.0 x.0) refl (filter_order p a xs s.
     back q false true ih = ap (λ (ys : List (ℕ × ℕ)). x ∷ ys) ih
     back q false false ih = ih
 
-    go : (t : Bool) → nat_le a.0 x.0 ≡ t → filter p (in_order a xs) ≡ (if p a then in_order a (filter p xs) else filter p xs) → filter p (if t then a ∷ x ∷ xs else x ∷ in_order a xs) ≡ (if p a then in_order a (filter p (x ∷ xs)) else filter p (x ∷ xs))
+    go : (t : Bool) → nat_le a.0 x.0 ≡ t
+        → filter p (in_order a xs) ≡ (if p a then in_order a (filter p xs) else filter p xs)
+        → filter p (if t then a ∷ x ∷ xs else x ∷ in_order a xs) ≡ (if p a then in_order a (filter p (x ∷ xs)) else filter p (x ∷ xs))
     go true q ih = front q (p a) (p x) refl
     go false q ih = back q (p a) (p x) ih
 
@@ -90,9 +95,14 @@ pub filter_deadline : (p : ℕ × ℕ → Bool) (xs : List (ℕ × ℕ)) → by_
 filter_deadline p [] = refl
 filter_deadline p (x ∷ xs) = go (p x) refl (filter_deadline p xs)
   where
-    go : (b : Bool) → p x ≡ b → by_deadline (filter p xs) ≡ filter p (by_deadline xs) → by_deadline (if b then x ∷ filter p xs else filter p xs) ≡ filter p (in_order x (by_deadline xs))
-    go true q ih = ap (in_order x) ih ∙ sym (filter_order p x (by_deadline xs) (sorted xs) ∙ ap (λ (b : Bool). if b then in_order x (filter p (by_deadline xs)) else filter p (by_deadline xs)) q)
-    go false q ih = ih ∙ sym (filter_order p x (by_deadline xs) (sorted xs) ∙ ap (λ (b : Bool). if b then in_order x (filter p (by_deadline xs)) else filter p (by_deadline xs)) q)
+    go : (b : Bool) → p x ≡ b → by_deadline (filter p xs) ≡ filter p (by_deadline xs)
+        → by_deadline (if b then x ∷ filter p xs else filter p xs) ≡ filter p (in_order x (by_deadline xs))
+    go true q ih =
+        ap (in_order x) ih
+        ∙ sym (filter_order p x (by_deadline xs) (sorted xs) ∙ ap (λ (b : Bool). if b then in_order x (filter p (by_deadline xs)) else filter p (by_deadline xs)) q)
+    go false q ih =
+        ih
+        ∙ sym (filter_order p x (by_deadline xs) (sorted xs) ∙ ap (λ (b : Bool). if b then in_order x (filter p (by_deadline xs)) else filter p (by_deadline xs)) q)
 
 -- what is counted, and what holds of each, is that of the list as it was
 count_order : (q : ℕ × ℕ → Bool) (a : ℕ × ℕ) (xs : List (ℕ × ℕ)) → count_by q (in_order a xs) ≡ cond (q a) 1 0 + count_by q xs
@@ -102,9 +112,11 @@ count_order q a (x ∷ xs) = go (nat_le a.0 x.0) (count_order q a xs)
     swap : (k l m n : ℕ) → n ≡ l + m → k + n ≡ l + (k + m)
     swap k l m n e = omega (arith, e)
 
-    go : (b : Bool) → count_by q (in_order a xs) ≡ cond (q a) 1 0 + count_by q xs → count_by q (if b then a ∷ x ∷ xs else x ∷ in_order a xs) ≡ cond (q a) 1 0 + count_by q (x ∷ xs)
+    go : (b : Bool) → count_by q (in_order a xs) ≡ cond (q a) 1 0 + count_by q xs
+        → count_by q (if b then a ∷ x ∷ xs else x ∷ in_order a xs) ≡ cond (q a) 1 0 + count_by q (x ∷ xs)
     go true ih = count_cons q a (x ∷ xs)
-    go false ih = rw (count_cons q x (in_order a xs), count_cons q x xs) (swap (cond (q x) 1 0) (cond (q a) 1 0) (count_by q xs) (count_by q (in_order a xs)) ih)
+    go false ih =
+        rw (count_cons q x (in_order a xs), count_cons q x xs) (swap (cond (q x) 1 0) (cond (q a) 1 0) (count_by q xs) (count_by q (in_order a xs)) ih)
 
 pub count_deadline : (q : ℕ × ℕ → Bool) (xs : List (ℕ × ℕ)) → count_by q (by_deadline xs) ≡ count_by q xs
 count_deadline q [] = refl
@@ -131,7 +143,8 @@ list_all_order q a (x ∷ xs) = go (nat_le a.0 x.0) (list_all_order q a xs)
     swap false true m = refl
     swap false false m = refl
 
-    go : (b : Bool) → list_all q (in_order a xs) ≡ (q a && list_all q xs) → list_all q (if b then a ∷ x ∷ xs else x ∷ in_order a xs) ≡ (q a && (q x && list_all q xs))
+    go : (b : Bool) → list_all q (in_order a xs) ≡ (q a && list_all q xs)
+        → list_all q (if b then a ∷ x ∷ xs else x ∷ in_order a xs) ≡ (q a && (q x && list_all q xs))
     go true ih = refl
     go false ih = ap (λ (b : Bool). q x && b) ih ∙ swap (q x) (q a) (list_all q xs)
 

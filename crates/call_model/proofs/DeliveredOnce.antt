@@ -1,6 +1,8 @@
 -- An invocation is delivered at most once.
 use Rattle.call_model.proofs.BoundWaits as W
-use Rattle.std.proofs.Common.{◌≡◌, ℕ, true, false, List, length, Option, Some, None, sym, ap, ◌∙◌, true≢false, inl, inr, arith, ◌∷◌, refl, Bool, if◌then◌else◌, subst, suc, ◌+◌, ◌<◌, ◌≤◌, [], count_by, ◌⊎◌, zero, cond, nat_le}
+use Rattle.std.proofs.Common.{◌≡◌, ℕ, true, false, List, length, Option, Some, None, sym, ap, ◌∙◌, true≢false, inl, inr}
+use Rattle.std.proofs.Common.{arith, ◌∷◌, refl, Bool, if◌then◌else◌, subst, suc, ◌+◌, ◌<◌, ◌≤◌, [], count_by, ◌⊎◌, zero}
+use Rattle.std.proofs.Common.{cond, nat_le}
 use Rattle.std.specs.List.{find}
 use Rattle.call_types.specs.declared.answer.Answer.{Answer}
 use Rattle.call_types.specs.declared.answer.Answer.TheVariants.{Told}
@@ -31,7 +33,9 @@ use Rattle.call_model.proofs.FirstAnswers.{second, first_first}
 use Rattle.call_model.proofs.GivenCounts.{gives, gives_second, count_numbered, given_each, count_each}
 
 -- a ticket is given an invocation only by a second answer
-to_second : (config : Config) (h : List Entry) (now : ℕ) (call : Call) (p t : ℕ) → gives p (answer_to config h (first_entry config h now call) t) ≡ true → gives p (second_answer config h (first_entry config h now call) t) ≡ true
+to_second : (config : Config) (h : List Entry) (now : ℕ) (call : Call) (p t : ℕ)
+    → gives p (answer_to config h (first_entry config h now call) t) ≡ true
+    → gives p (second_answer config h (first_entry config h now call) t) ≡ true
 unfolding answer_to
 to_second config h now call p t k = go (answer_in (first_answers config h now call) t) first k
   where
@@ -41,7 +45,9 @@ to_second config h now call p t k = go (answer_in (first_answers config h now ca
       | inr ge ↦ ap second (first_in config h now call t (omega (arith, ge))) ∙ first_first config h now call t
     ]
 
-    go : (a : Option Answer) → second a ≡ false → gives p (or_else a (second_answer config h (first_entry config h now call) t)) ≡ true → gives p (second_answer config h (first_entry config h now call) t) ≡ true
+    go : (a : Option Answer) → second a ≡ false
+        → gives p (or_else a (second_answer config h (first_entry config h now call) t)) ≡ true
+        → gives p (second_answer config h (first_entry config h now call) t) ≡ true
     go None q r = r
     go (Some a) q r = absurd (true≢false (sym (gives_second p (Some a) r) ∙ q))
 
@@ -71,7 +77,9 @@ poll_number s t q = go (waits_as s t) (is_number s.runtime t) refl q
     no_member None q = cc
     no_member (Some x) q = cc
 
-    go : (a b : Bool) → is_number s.runtime t ≡ b → (if a then Waiting else if b then RuntimePoll else member_role (find (λ x. is_number x.next t) s.members)) ≡ RuntimePoll → s.runtime ≡ Some t
+    go : (a b : Bool) → is_number s.runtime t ≡ b
+        → (if a then Waiting else if b then RuntimePoll else member_role (find (λ x. is_number x.next t) s.members)) ≡ RuntimePoll
+        → s.runtime ≡ Some t
     go true b k r = absurd (no_waiting r)
     go false true k r = number_some s.runtime t k
     go false false k r = absurd (no_member (find (λ x. is_number x.next t) s.members) r)
@@ -92,11 +100,15 @@ second_gives : (config : Config) (h : List Entry) (entry : Entry) (p t : ℕ) �
 unfolding second_answer
 second_gives config h entry p t q = go (home (entry ∷ h) t) q
   where
-    at_env : (e : ℕ) → (role (stand config (entry ∷ h) e) t ≡ RuntimePoll) × ((b : ℕ × ℕ) × ((begun (phase config h e) (phase config (entry ∷ h) e) ≡ Some b) × (b.0 ≡ p))) → IsBegun config h entry p t
+    at_env : (e : ℕ)
+        → (role (stand config (entry ∷ h) e) t ≡ RuntimePoll) × ((b : ℕ × ℕ) × ((begun (phase config h e) (phase config (entry ∷ h) e) ≡ Some b) × (b.0 ≡ p)))
+        → IsBegun config h entry p t
     at_env e k = record {
       env = e;
       before = (from_begun (phase config h e) (phase config (entry ∷ h) e) (k.1.0) (k.1.1.0)).0;
-      busy = subst (λ (n : ℕ). is_busy_with (phase config (entry ∷ h) e) n ≡ true) (k.1.1.1) (from_begun (phase config h e) (phase config (entry ∷ h) e) (k.1.0) (k.1.1.0)).1;
+      busy =
+          subst (λ (n : ℕ). is_busy_with (phase config (entry ∷ h) e) n ≡ true) (k.1.1.1)
+          (from_begun (phase config h e) (phase config (entry ∷ h) e) (k.1.0) (k.1.1.0)).1;
       runtime = poll_number (stand config (entry ∷ h) e) t (k.0);
     }
 
@@ -105,7 +117,9 @@ second_gives config h entry p t q = go (home (entry ∷ h) t) q
     go (Some e) r = at_env e (gives_poll p (begun (phase config h e) (phase config (entry ∷ h) e)) (role (stand config (entry ∷ h) e) t) r)
 
 -- an entry that delivers an invocation begins its Busy
-pub entry_gives : (config : Config) (h : List Entry) (entry : Entry) (p : ℕ) → Follows config h entry → 1 ≤ count_by (λ a. delivers p a.1) entry.answers → (e : ℕ) × ((is_busy (phase config h e) ≡ false) × (is_busy_with (phase config (entry ∷ h) e) p ≡ true))
+pub entry_gives : (config : Config) (h : List Entry) (entry : Entry) (p : ℕ) → Follows config h entry
+    → 1 ≤ count_by (λ a. delivers p a.1) entry.answers
+    → (e : ℕ) × ((is_busy (phase config h e) ≡ false) × (is_busy_with (phase config (entry ∷ h) e) p ≡ true))
 unfolding answers
 entry_gives config h entry p w k =
     (b.env, (b.before, ap (λ (P : Phase). is_busy_with P p) (sym (phase_first config h entry b.env w)) ∙ b.busy))
@@ -114,7 +128,9 @@ entry_gives config h entry p w k =
     first = first_entry config h entry.moment entry.call
 
     made : 1 ≤ count_by (λ b. delivers p b.1) (each_from 0 (suc (length h)) (answer_to config h first))
-    made = subst (λ (n : ℕ). 1 ≤ n) (ap (λ (xs : List (ℕ × Answer)). count_by (λ b. delivers p b.1) xs) (w.answers) ∙ count_numbered h first [] (each_from 0 (suc (length h)) (answer_to config h first)) p) k
+    made =
+        subst (λ (n : ℕ). 1 ≤ n)
+        (ap (λ (xs : List (ℕ × Answer)). count_by (λ b. delivers p b.1) xs) (w.answers) ∙ count_numbered h first [] (each_from 0 (suc (length h)) (answer_to config h first)) p) k
 
     found : (u : ℕ) × ((u < 0 + suc (length h)) × (gives p (answer_to config h first u) ≡ true))
     found = given_each 0 (suc (length h)) p (answer_to config h first) made
@@ -123,7 +139,9 @@ entry_gives config h entry p w k =
     b = second_gives config h first p (found.0) (to_second config h entry.moment entry.call p (found.0) (found.1.1))
 
 -- an invocation whose Busy begins was new or bound
-pub begun_bound : (config : Config) (h : List Entry) (entry : Entry) (e p : ℕ) → IsLegal config (entry ∷ h) → is_busy (phase config h e) ≡ false → is_busy_with (phase config (entry ∷ h) e) p ≡ true → (length h ≡ p) ⊎ (bound_of (phase config h e) ≡ Some p)
+pub begun_bound : (config : Config) (h : List Entry) (entry : Entry) (e p : ℕ) → IsLegal config (entry ∷ h)
+    → is_busy (phase config h e) ≡ false → is_busy_with (phase config (entry ∷ h) e) p ≡ true
+    → (length h ≡ p) ⊎ (bound_of (phase config h e) ≡ Some p)
 begun_bound config h entry e p l n b = elim (from_entry config h entry e p l.0 l.1 (busy_at_hand (phase config (entry ∷ h) e) p b)) [
   | inl new ↦ inl (new.0)
   | inr old ↦ elim (at_hand_is (phase config h e) p old) [
@@ -137,7 +155,8 @@ begun_bound config h entry e p l n b = elim (from_entry config h entry e p l.0 l
     is_it P p k = absurd (true≢false (sym k))
 
 -- a bound invocation was bound or is new
-pub bound_before : (config : Config) (h : List Entry) (entry : Entry) (e p : ℕ) → IsLegal config (entry ∷ h) → bound_of (phase config (entry ∷ h) e) ≡ Some p → (length h ≡ p) ⊎ (bound_of (phase config h e) ≡ Some p)
+pub bound_before : (config : Config) (h : List Entry) (entry : Entry) (e p : ℕ) → IsLegal config (entry ∷ h)
+    → bound_of (phase config (entry ∷ h) e) ≡ Some p → (length h ≡ p) ⊎ (bound_of (phase config h e) ≡ Some p)
 unfolding seen
 bound_before config h entry e p l q = go (concerns h e entry) refl
   where
@@ -162,7 +181,8 @@ none_or_some zero = inl refl
 none_or_some (suc n) = inr (omega arith)
 
 -- a delivered invocation is old and bound nowhere
-pub delivered_done : (config : Config) (h : List Entry) (p : ℕ) → IsLegal config h → 1 ≤ deliveries h p → (p < length h) × ((e : ℕ) → bound_of (phase config h e) ≡ Some p → ⊥)
+pub delivered_done : (config : Config) (h : List Entry) (p : ℕ) → IsLegal config h → 1 ≤ deliveries h p
+    → (p < length h) × ((e : ℕ) → bound_of (phase config h e) ≡ Some p → ⊥)
 delivered_done config [] p l k = absurd (omega (arith, k))
 delivered_done config (entry ∷ h) p l k = elim (none_or_some here) [
   | inl none ↦ older (delivered_done config h p l.0 (drop none k))
@@ -175,7 +195,8 @@ delivered_done config (entry ∷ h) p l k = elim (none_or_some here) [
     drop : here ≡ 0 → 1 ≤ here + deliveries h p → 1 ≤ deliveries h p
     drop a b = omega (arith, a, b)
 
-    older : (p < length h) × ((e : ℕ) → bound_of (phase config h e) ≡ Some p → ⊥) → (p < suc (length h)) × ((e : ℕ) → bound_of (phase config (entry ∷ h) e) ≡ Some p → ⊥)
+    older : (p < length h) × ((e : ℕ) → bound_of (phase config h e) ≡ Some p → ⊥)
+        → (p < suc (length h)) × ((e : ℕ) → bound_of (phase config (entry ∷ h) e) ≡ Some p → ⊥)
     older x = (
       omega (arith, x.0),
       λ e q. elim (bound_before config h entry e p l q) [
@@ -188,7 +209,8 @@ delivered_done config (entry ∷ h) p l k = elim (none_or_some here) [
     number_same None d e a b = absurd (true≢false (sym a))
     number_same (Some n) d e a b = sym (eqb-true n d a) ∙ eqb-true n e b
 
-    newly : (d : ℕ) × ((is_busy (phase config h d) ≡ false) × (is_busy_with (phase config (entry ∷ h) d) p ≡ true)) → (p < suc (length h)) × ((e : ℕ) → bound_of (phase config (entry ∷ h) e) ≡ Some p → ⊥)
+    newly : (d : ℕ) × ((is_busy (phase config h d) ≡ false) × (is_busy_with (phase config (entry ∷ h) d) p ≡ true))
+        → (p < suc (length h)) × ((e : ℕ) → bound_of (phase config (entry ∷ h) e) ≡ Some p → ⊥)
     newly x =
         let k : IsHeld (entry ∷ h) (x.0) p = held config (entry ∷ h) (x.0) p l (busy_at_hand (phase config (entry ∷ h) (x.0)) p (x.1.1)) in (
           k.older,
@@ -201,7 +223,8 @@ delivered_done config (entry ∷ h) p l k = elim (none_or_some here) [
 pub entry_once : (config : Config) (h : List Entry) (entry : Entry) (p : ℕ) → IsLegal config (entry ∷ h) → count_by (λ a. delivers p a.1) entry.answers ≤ 1
 unfolding answers
 entry_once config h entry p l =
-    subst (λ (n : ℕ). n ≤ 1) (sym (ap (λ (xs : List (ℕ × Answer)). count_by (λ b. delivers p b.1) xs) (l.1.answers) ∙ count_numbered h first [] (each_from 0 (suc (length h)) (answer_to config h first)) p))
+    subst (λ (n : ℕ). n ≤ 1)
+    (sym (ap (λ (xs : List (ℕ × Answer)). count_by (λ b. delivers p b.1) xs) (l.1.answers) ∙ count_numbered h first [] (each_from 0 (suc (length h)) (answer_to config h first)) p))
     (le_one (nat_le 0 poll) (count_each 0 (suc (length h)) p poll (answer_to config h first) one))
   where
     first : Entry
@@ -238,7 +261,8 @@ delivered_once config (entry ∷ h) p l = go (none_or_some here) (none_or_some (
     twice : 1 ≤ here → 1 ≤ deliveries h p → ⊥
     twice a b = both (entry_gives config h entry p l.1 a) (delivered_done config h p l.0 b)
       where
-        both : (d : ℕ) × ((is_busy (phase config h d) ≡ false) × (is_busy_with (phase config (entry ∷ h) d) p ≡ true)) → (p < length h) × ((e : ℕ) → bound_of (phase config h e) ≡ Some p → ⊥) → ⊥
+        both : (d : ℕ) × ((is_busy (phase config h d) ≡ false) × (is_busy_with (phase config (entry ∷ h) d) p ≡ true))
+            → (p < length h) × ((e : ℕ) → bound_of (phase config h e) ≡ Some p → ⊥) → ⊥
         both x y = elim (begun_bound config h entry (x.0) p l (x.1.0) (x.1.1)) [
           | inl new ↦ omega (arith, y.0, new)
           | inr old ↦ y.1 (x.0) old

@@ -1,5 +1,7 @@
 -- What the list of what is due says: each environment whose deadline has come, once, in order.
-use Rattle.std.proofs.Common.{◌≡◌, ℕ, zero, suc, ◌+◌, ◌<◌, Bool, true, false, cond, List, [], ◌∷◌, length, Option, Some, None, sym, refl, ap, ap₂, ◌∙◌, arith, ◌&&◌, ◌==◌, map, filter_map, if◌then◌else◌, count_by, nat_le, nat_lt}
+use Rattle.std.proofs.Common.{◌≡◌, ℕ, zero, suc, ◌+◌, ◌<◌, Bool, true, false, cond, List, [], ◌∷◌, length, Option, Some}
+use Rattle.std.proofs.Common.{None, sym, refl, ap, ap₂, ◌∙◌, arith, ◌&&◌, ◌==◌, map, filter_map, if◌then◌else◌}
+use Rattle.std.proofs.Common.{count_by, nat_le, nat_lt}
 use Rattle.std.proofs.lemmas.Bool.Decides.{nat_tests}
 use Rattle.std.specs.List.{cons_option, list_all}
 use Rattle.call_types.specs.declared.call.Entry.{Entry}
@@ -15,7 +17,8 @@ use Rattle.call_model.proofs.Basics.{count_cons, count_map, counted_once, eqb-se
 -- ---- each once
 
 -- how often an environment stands among the deadlines that have come
-count_due : (e m : ℕ) (D : ℕ → Option ℕ) (xs : List ℕ) → count_by (λ a. e == a.1) (filter_map (λ d. due_at m d (D d)) xs) ≡ count_by (λ d. (e == d) && has_come m (D d)) xs
+count_due : (e m : ℕ) (D : ℕ → Option ℕ) (xs : List ℕ)
+    → count_by (λ a. e == a.1) (filter_map (λ d. due_at m d (D d)) xs) ≡ count_by (λ d. (e == d) && has_come m (D d)) xs
 count_due e m D [] = refl
 count_due e m D (x ∷ xs) = go (D x) (count_due e m D xs) ∙ sym (count_cons (λ (d : ℕ). (e == d) && has_come m (D d)) x xs)
   where
@@ -30,16 +33,21 @@ count_due e m D (x ∷ xs) = go (D x) (count_due e m D xs) ∙ sym (count_cons (
     one true = refl
     one false = refl
 
-    go : (o : Option ℕ) → count_by (λ a. e == a.1) rest ≡ count_by (λ d. (e == d) && has_come m (D d)) xs → count_by (λ a. e == a.1) (cons_option (due_at m x o) rest) ≡ cond ((e == x) && has_come m o) 1 0 + count_by (λ d. (e == d) && has_come m (D d)) xs
+    go : (o : Option ℕ) → count_by (λ a. e == a.1) rest ≡ count_by (λ d. (e == d) && has_come m (D d)) xs
+        → count_by (λ a. e == a.1) (cons_option (due_at m x o) rest) ≡ cond ((e == x) && has_come m o) 1 0 + count_by (λ d. (e == d) && has_come m (D d)) xs
     go None ih = both (e == x) _ _ ih
     go (Some d) ih = tested (nat_le d m)
       where
-        tested : (b : Bool) → count_by (λ a. e == a.1) (cons_option (if b then Some (d, x) else None) rest) ≡ cond ((e == x) && b) 1 0 + count_by (λ d. (e == d) && has_come m (D d)) xs
+        tested : (b : Bool)
+            → count_by (λ a. e == a.1) (cons_option (if b then Some (d, x) else None) rest) ≡ cond ((e == x) && b) 1 0 + count_by (λ d. (e == d) && has_come m (D d)) xs
         tested true = count_cons (λ (a : ℕ × ℕ). e == a.1) (d, x) rest ∙ ap₂ (λ (k n : ℕ). k + n) (one (e == x)) ih
         tested false = both (e == x) _ _ ih
 
-pub come_once : (config : Config) (h : List Entry) (m e : ℕ) → count_by (λ a. e == a.1) (filter_map (λ d. due_at m d (deadline_of (phase config h d))) (environments config)) ≡ cond (is_due config h m e) 1 0
-come_once config h m e = count_due e m (λ d. deadline_of (phase config h d)) (environments config) ∙ counted_once e (λ d. has_come m (deadline_of (phase config h d))) 1 (length (owners config))
+pub come_once : (config : Config) (h : List Entry) (m e : ℕ)
+    → count_by (λ a. e == a.1) (filter_map (λ d. due_at m d (deadline_of (phase config h d))) (environments config)) ≡ cond (is_due config h m e) 1 0
+come_once config h m e =
+    count_due e m (λ d. deadline_of (phase config h d)) (environments config)
+    ∙ counted_once e (λ d. has_come m (deadline_of (phase config h d))) 1 (length (owners config))
 
 -- Exactly what is due stands in the list, each environment once.
 pub listed_once : (config : Config) (h : List Entry) (m e : ℕ) → count_by (λ d. e == d) (due config h m) ≡ cond (is_due config h m e) 1 0
@@ -58,7 +66,8 @@ all_pass p q f (x ∷ xs) k = rw (f x (and_left (p x) (list_all p xs) k)) (all_p
 stays_in_order : (a : ℕ × ℕ) (xs : List (ℕ × ℕ)) → list_all (λ x. nat_lt a.1 x.1) xs ≡ true → are_in_order xs ≡ true → are_in_order (in_order a xs) ≡ true
 stays_in_order a [] low o = refl
 stays_in_order a (x ∷ xs) low o =
-    go (nat_le a.0 x.0) refl (stays_in_order a xs (and_right (nat_lt a.1 x.1) (list_all (λ y. nat_lt a.1 y.1) xs) low) (and_right (list_all (comes_before x) xs) (are_in_order xs) o))
+    go (nat_le a.0 x.0) refl
+    (stays_in_order a xs (and_right (nat_lt a.1 x.1) (list_all (λ y. nat_lt a.1 y.1) xs) low) (and_right (list_all (comes_before x) xs) (are_in_order xs) o))
   where
     first : list_all (comes_before x) xs ≡ true
     first = and_left (list_all (comes_before x) xs) (are_in_order xs) o
@@ -90,7 +99,8 @@ come_from m e D a (suc n) lt = go (D a) (come_from m e D (suc a) n (omega (arith
     lower : nat_lt e a ≡ true
     lower = grind (arith, nat_tests, lt)
 
-    tested : (d : ℕ) (b : Bool) → list_all (λ x. nat_lt e x.1) rest ≡ true → list_all (λ x. nat_lt e x.1) (cons_option (if b then Some (d, a) else None) rest) ≡ true
+    tested : (d : ℕ) (b : Bool) → list_all (λ x. nat_lt e x.1) rest ≡ true
+        → list_all (λ x. nat_lt e x.1) (cons_option (if b then Some (d, a) else None) rest) ≡ true
     tested d true ih = rw lower ih
     tested d false ih = ih
 
@@ -105,7 +115,8 @@ come_in_order m D a (suc n) = go (D a) (come_in_order m D (suc a) n)
     rest : List (ℕ × ℕ)
     rest = filter_map (λ d. due_at m d (D d)) (count_from (suc a) n)
 
-    tested : (d : ℕ) (b : Bool) → are_in_order (by_deadline rest) ≡ true → are_in_order (by_deadline (cons_option (if b then Some (d, a) else None) rest)) ≡ true
+    tested : (d : ℕ) (b : Bool) → are_in_order (by_deadline rest) ≡ true
+        → are_in_order (by_deadline (cons_option (if b then Some (d, a) else None) rest)) ≡ true
     tested d true ih = stays_in_order (d, a) (by_deadline rest) (list_all_deadline (λ x. nat_lt a x.1) rest ∙ come_from m a D (suc a) n (omega arith)) ih
     tested d false ih = ih
 
@@ -121,15 +132,18 @@ come_with m D (x ∷ xs) = go (D x) refl (come_with m D xs)
     rest : List (ℕ × ℕ)
     rest = filter_map (λ d. due_at m d (D d)) xs
 
-    tested : (d : ℕ) (b : Bool) → D x ≡ Some d → list_all (λ a. is_number (D a.1) a.0) rest ≡ true → list_all (λ a. is_number (D a.1) a.0) (cons_option (if b then Some (d, x) else None) rest) ≡ true
+    tested : (d : ℕ) (b : Bool) → D x ≡ Some d → list_all (λ a. is_number (D a.1) a.0) rest ≡ true
+        → list_all (λ a. is_number (D a.1) a.0) (cons_option (if b then Some (d, x) else None) rest) ≡ true
     tested d true q ih = rw (q, eqb-self d) ih
     tested d false q ih = ih
 
-    go : (o : Option ℕ) → D x ≡ o → list_all (λ a. is_number (D a.1) a.0) rest ≡ true → list_all (λ a. is_number (D a.1) a.0) (cons_option (due_at m x o) rest) ≡ true
+    go : (o : Option ℕ) → D x ≡ o → list_all (λ a. is_number (D a.1) a.0) rest ≡ true
+        → list_all (λ a. is_number (D a.1) a.0) (cons_option (due_at m x o) rest) ≡ true
     go None q ih = ih
     go (Some d) q ih = tested d (nat_le d m) q ih
 
-with_deadlines : (D : ℕ → Option ℕ) (xs : List (ℕ × ℕ)) → list_all (λ a. is_number (D a.1) a.0) xs ≡ true → filter_map (λ e. with_number e (D e)) (map (λ a. a.1) xs) ≡ xs
+with_deadlines : (D : ℕ → Option ℕ) (xs : List (ℕ × ℕ)) → list_all (λ a. is_number (D a.1) a.0) xs ≡ true
+    → filter_map (λ e. with_number e (D e)) (map (λ a. a.1) xs) ≡ xs
 with_deadlines D [] q = refl
 with_deadlines D (x ∷ xs) q =
     let own : D x.1 ≡ Some x.0 = number_some (D x.1) x.0 (and_left (is_number (D x.1) x.0) (list_all (λ a. is_number (D a.1) a.0) xs) q) in

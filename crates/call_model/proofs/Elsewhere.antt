@@ -28,7 +28,8 @@ unfolding life lived
 life_elsewhere config h entry e c = rw c refl
 
 -- a call gives nothing to an older ticket of an environment that its entry doesn't concern
-pub elsewhere : (config : Config) (h : List Entry) (now : ℕ) (call : Call) (t e : ℕ) → t < length h → home h t ≡ Some e → concerns h e (first_entry config h now call) ≡ false → answer_in (answers config h now call) t ≡ None
+pub elsewhere : (config : Config) (h : List Entry) (now : ℕ) (call : Call) (t e : ℕ) → t < length h → home h t ≡ Some e
+    → concerns h e (first_entry config h now call) ≡ false → answer_in (answers config h now call) t ≡ None
 unfolding first_answer second_answer
 elsewhere config h now call t e lt at c =
     is_some_none _ (answers_at config h now call t (omega arith) ∙ rw (first, second) refl)
@@ -37,7 +38,8 @@ elsewhere config h now call t e lt at c =
     ne = omega arith
 
     still_same : begun (phase config h e) (phase config (first_entry config h now call ∷ h) e) ≡ None
-    still_same = ap (λ (l : Lifecycle). begun (phase config h e) l.phase) (life_elsewhere config h (first_entry config h now call) e c) ∙ begun_same (phase config h e)
+    still_same =
+        ap (λ (l : Lifecycle). begun (phase config h e) l.phase) (life_elsewhere config h (first_entry config h now call) e c) ∙ begun_same (phase config h e)
 
     first : first_answer config h now call t ≡ None
     first = rw (eqb-other t (length h) ne, at, (or_parts (is_number (first_entry config h now call).place e) (names h e call) c).1) refl
@@ -46,7 +48,8 @@ elsewhere config h now call t e lt at c =
     second = rw (eqb-other t (length h) ne, at, still_same) refl
 
 -- a ticket with no environment gets nothing
-pub nowhere : (config : Config) (h : List Entry) (now : ℕ) (call : Call) (t : ℕ) → t < length h → home h t ≡ None → answer_in (answers config h now call) t ≡ None
+pub nowhere : (config : Config) (h : List Entry) (now : ℕ) (call : Call) (t : ℕ) → t < length h → home h t ≡ None
+    → answer_in (answers config h now call) t ≡ None
 unfolding first_answer second_answer
 nowhere config h now call t lt at =
     is_some_none _ (answers_at config h now call t (omega arith) ∙ rw (first, second) refl)

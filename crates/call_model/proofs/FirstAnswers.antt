@@ -1,7 +1,9 @@
 -- What the table answers by itself is no answer of a Busy that begins, and one that only a Busy gives is the waiting call's.
-use Rattle.std.proofs.Common.{Bool, true, false, Option, Some, ◌≡◌, refl, ℕ, ◌+◌, ◌-◌, List, length, None, ◌||◌, if◌then◌else◌, nat_lt, not, ◌&&◌, ◌==◌, sym, ◌∙◌, true≢false, ap}
+use Rattle.std.proofs.Common.{Bool, true, false, Option, Some, ◌≡◌, refl, ℕ, ◌+◌, ◌-◌, List, length, None, ◌||◌}
+use Rattle.std.proofs.Common.{if◌then◌else◌, nat_lt, not, ◌&&◌, ◌==◌, sym, ◌∙◌, true≢false, ap}
 use Rattle.call_types.specs.declared.answer.Answer.{Answer}
-use Rattle.call_types.specs.declared.answer.Answer.TheVariants.{Delivered, Told, Output, TimedOut, OutputTooLarge, Stopped, Refused, Reserved, Ending, Withdrawn}
+use Rattle.call_types.specs.declared.answer.Answer.TheVariants.{Delivered, Told, Output, TimedOut, OutputTooLarge}
+use Rattle.call_types.specs.declared.answer.Answer.TheVariants.{Stopped, Refused, Reserved, Ending, Withdrawn}
 use Rattle.call_types.specs.declared.answer.Rejection.TheVariants.{BadReservation}
 use Rattle.call_types.specs.declared.answer.Reason.{Reason}
 use Rattle.call_types.specs.declared.call.Call.{Call}
@@ -53,7 +55,9 @@ own_first_plain config h (Reserve f c) = go (stopped h) c
     go : (b : Bool) (c : Option ℕ) → special (Some (if b then Stopped else reserve_answer config h f c)) ≡ false
     go true c = refl
     go false None = refl
-    go false (Some k) = two (nat_lt (length (function_at config f).slots) k || nat_lt config.account_limit (((reserved_in_all config h - or_zero (reservation config h f)) + k) + config.least_remainder)) k
+    go false (Some k) =
+        two
+        (nat_lt (length (function_at config f).slots) k || nat_lt config.account_limit (((reserved_in_all config h - or_zero (reservation config h f)) + k) + config.least_remainder)) k
 own_first_plain config h call = at_env (env_of call)
   where
     at_env : (o : Option ℕ) → special (own_at config h call o) ≡ false
@@ -67,7 +71,8 @@ or_plain (Some a) b p q = p
 close_plain : (now : ℕ) (c : Option Reason) (call : Call) (r : Role) → special (at_close now c call r) ≡ false
 close_plain now (Some reason) call (ExtensionPoll x) = go (hears_end x && not (reports_exit x.extension.count call))
   where
-    go : (b : Bool) → special (if b then Some (Ending reason (now + 2000) 0) else Some (Refused Rattle.call_types.specs.declared.answer.Rejection.TheVariants.Container)) ≡ false
+    go : (b : Bool)
+        → special (if b then Some (Ending reason (now + 2000) 0) else Some (Refused Rattle.call_types.specs.declared.answer.Rejection.TheVariants.Container)) ≡ false
     go true = refl
     go false = refl
 close_plain now (Some reason) call RuntimePoll = refl
@@ -98,8 +103,12 @@ replaced_plain t call r = refl
 pub poll_plain : (own now : ℕ) (s : Stand) (call : Call) (t : ℕ) (r : Role) → special (by_role own now s call t r) ≡ true → r ≡ Waiting
 poll_plain own now s call t NoRole q = absurd (true≢false (sym q))
 poll_plain own now s call t Waiting q = refl
-poll_plain own now s call t RuntimePoll q = absurd (true≢false (sym q ∙ or_plain (at_close now (closes s call) call RuntimePoll) (replaced t call RuntimePoll) (close_plain now (closes s call) call RuntimePoll) (replaced_plain t call RuntimePoll)))
-poll_plain own now s call t (ExtensionPoll x) q = absurd (true≢false (sym q ∙ or_plain (at_close now (closes s call) call (ExtensionPoll x)) (replaced t call (ExtensionPoll x)) (close_plain now (closes s call) call (ExtensionPoll x)) (replaced_plain t call (ExtensionPoll x))))
+poll_plain own now s call t RuntimePoll q =
+    absurd
+    (true≢false (sym q ∙ or_plain (at_close now (closes s call) call RuntimePoll) (replaced t call RuntimePoll) (close_plain now (closes s call) call RuntimePoll) (replaced_plain t call RuntimePoll)))
+poll_plain own now s call t (ExtensionPoll x) q =
+    absurd
+    (true≢false (sym q ∙ or_plain (at_close now (closes s call) call (ExtensionPoll x)) (replaced t call (ExtensionPoll x)) (close_plain now (closes s call) call (ExtensionPoll x)) (replaced_plain t call (ExtensionPoll x))))
 
 abbrev pub second : Option Answer → Bool
 second (Some (Delivered p d)) = true
@@ -129,7 +138,9 @@ first_first config h now call t = go (t == length h)
 
     at_env : (e : ℕ) (b : Bool) → second (answer_at config h now e call t b) ≡ false
     at_env e false = refl
-    at_env e true = not_true (second (by_role (length h) now (stand config h e) call t (role (stand config h e) t))) (λ q. by_waiting (stand config h e) (role (stand config h e) t) (poll_plain (length h) now (stand config h e) call t (role (stand config h e) t) (second_special (by_role (length h) now (stand config h e) call t (role (stand config h e) t)) q)) q)
+    at_env e true =
+        not_true (second (by_role (length h) now (stand config h e) call t (role (stand config h e) t)))
+        (λ q. by_waiting (stand config h e) (role (stand config h e) t) (poll_plain (length h) now (stand config h e) call t (role (stand config h e) t) (second_special (by_role (length h) now (stand config h e) call t (role (stand config h e) t)) q)) q)
 
     other : (o : Option ℕ) → second (other_answer config h now call t o) ≡ false
     other None = refl

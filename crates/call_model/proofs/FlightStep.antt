@@ -1,5 +1,7 @@
 -- What an entry adds to what a function has in flight.
-use Rattle.std.proofs.Common.{◌≡◌, ℕ, zero, suc, ◌+◌, ◌<◌, ◌≤◌, Bool, true, false, cond, eqb, List, [], ◌∷◌, length, Option, Some, None, sym, refl, ap, ap₂, ◌∙◌, inl, inr, arith, is_some, is_none, not, ◌&&◌, ◌==◌, true≢false, count_by, nat_le, nat_lt}
+use Rattle.std.proofs.Common.{◌≡◌, ℕ, zero, suc, ◌+◌, ◌<◌, ◌≤◌, Bool, true, false, cond, eqb, List, [], ◌∷◌, length}
+use Rattle.std.proofs.Common.{Option, Some, None, sym, refl, ap, ap₂, ◌∙◌, inl, inr, arith, is_some, is_none, not, ◌&&◌}
+use Rattle.std.proofs.Common.{◌==◌, true≢false, count_by, nat_le, nat_lt}
 use Rattle.std.proofs.lemmas.Bool.Decides.{nat_tests}
 use Rattle.call_types.specs.declared.answer.Answer.{Answer}
 use Rattle.call_types.specs.declared.call.Call.{Call}
@@ -25,13 +27,15 @@ use Rattle.call_model.proofs.Flight.{placed_silent, placed_invoke, flight, serve
 use Rattle.call_model.proofs.Basics.{eqb-self, count_cons, number_some}
 
 -- the new ticket of a placed Invoke waits
-new_waits : (config : Config) (h : List Entry) (entry : Entry) (e : ℕ) → IsLegal config (entry ∷ h) → is_number entry.place e ≡ true → pending (entry ∷ h) (length h) ≡ true
+new_waits : (config : Config) (h : List Entry) (entry : Entry) (e : ℕ) → IsLegal config (entry ∷ h)
+    → is_number entry.place e ≡ true → pending (entry ∷ h) (length h) ≡ true
 new_waits config h entry e l q =
     pending_new config entry h l.0
     ∙ ap₂ (λ (x : Bool) (o : Option Answer). not x && is_none o) (no_expiry entry.call invoked)
     (ap (λ (pairs : List (ℕ × Answer)). answer_in pairs (length h)) l.1.answers ∙ is_some_none (answer_in (answers config h entry.moment entry.call) (length h))
     (answers_at config h entry.moment entry.call (length h) (omega arith)
-    ∙ ap₂ (λ (a b : Option Answer). is_some (or_else a b)) (placed_silent config h entry e l.1 invoked q) (invoke_second config h (first_entry config h entry.moment entry.call) (length h) (ap is_invoke (call_of_new (first_entry config h entry.moment entry.call) h) ∙ invoked))))
+    ∙ ap₂ (λ (a b : Option Answer). is_some (or_else a b)) (placed_silent config h entry e l.1 invoked q)
+    (invoke_second config h (first_entry config h entry.moment entry.call) (length h) (ap is_invoke (call_of_new (first_entry config h entry.moment entry.call) h) ∙ invoked))))
   where
     invoked : is_invoke entry.call ≡ true
     invoked = placed_invoke config h entry.call e (sym l.1.place ∙ number_some entry.place e q)
@@ -60,7 +64,9 @@ one_step config h entry e l = go (is_number entry.place e) refl (at_hand (phase 
     none : {p : ℕ} → Some p ≡ None → ⊥
     none q = cc
 
-    go : (n : Bool) → is_number entry.place e ≡ n → (a : Option ℕ) → at_hand (phase config h e) ≡ a → (b : Option ℕ) → at_hand (phase config (entry ∷ h) e) ≡ b → cond (is_some b) 1 0 + cond (is_some (no_longer a b)) 1 0 ≡ cond (is_some a) 1 0 + cond n 1 0
+    go : (n : Bool) → is_number entry.place e ≡ n → (a : Option ℕ) → at_hand (phase config h e) ≡ a → (b : Option ℕ)
+        → at_hand (phase config (entry ∷ h) e) ≡ b
+        → cond (is_some b) 1 0 + cond (is_some (no_longer a b)) 1 0 ≡ cond (is_some a) 1 0 + cond n 1 0
     go true q None u (Some p) v = refl
     go true q None u None v = absurd (none (sym (taken q) ∙ v))
     go true q (Some p) u b v = absurd (none (sym u ∙ free q))
@@ -73,9 +79,12 @@ one_step config h entry e l = go (is_number entry.place e) refl (at_hand (phase 
         same_one p r k = let e : r ≡ p = cc in rw e (eqb-self p)
 
 -- two counts over a list that add up, item by item, to two others
-count_two : (p q r s : ℕ → Bool) → ((x : ℕ) → cond (p x) 1 0 + cond (q x) 1 0 ≡ cond (r x) 1 0 + cond (s x) 1 0) → (xs : List ℕ) → count_by p xs + count_by q xs ≡ count_by r xs + count_by s xs
+count_two : (p q r s : ℕ → Bool) → ((x : ℕ) → cond (p x) 1 0 + cond (q x) 1 0 ≡ cond (r x) 1 0 + cond (s x) 1 0)
+    → (xs : List ℕ) → count_by p xs + count_by q xs ≡ count_by r xs + count_by s xs
 count_two p q r s f [] = refl
-count_two p q r s f (x ∷ xs) = rw (count_cons p x xs, count_cons q x xs, count_cons r x xs, count_cons s x xs) (add (cond (p x) 1 0) (cond (q x) 1 0) (cond (r x) 1 0) (cond (s x) 1 0) (count_by p xs) (count_by q xs) (count_by r xs) (count_by s xs) (f x) (count_two p q r s f xs))
+count_two p q r s f (x ∷ xs) =
+    rw (count_cons p x xs, count_cons q x xs, count_cons r x xs, count_cons s x xs)
+    (add (cond (p x) 1 0) (cond (q x) 1 0) (cond (r x) 1 0) (cond (s x) 1 0) (count_by p xs) (count_by q xs) (count_by r xs) (count_by s xs) (f x) (count_two p q r s f xs))
   where
     add : (a b c d k l m n : ℕ) → a + b ≡ c + d → k + l ≡ m + n → (a + k) + (b + l) ≡ (c + m) + (d + n)
     add a b c d k l m n u v = omega (arith, u, v)
@@ -87,7 +96,9 @@ count_number e b a zero = empty (b e)
     empty : (x : Bool) → ◌≡◌ {A = ℕ} 0 (cond (x && (nat_le a e && nat_lt e (a + 0))) 1 0)
     empty true = grind (arith, nat_tests)
     empty false = refl
-count_number e b a (suc n) = count_cons (λ (d : ℕ). b d && (e == d)) a (count_from (suc a) n) ∙ ap (λ (m : ℕ). cond (b a && (e == a)) 1 0 + m) (count_number e b (suc a) n) ∙ go (b a) (b e) (λ q. ap b (sym q))
+count_number e b a (suc n) =
+    count_cons (λ (d : ℕ). b d && (e == d)) a (count_from (suc a) n)
+    ∙ ap (λ (m : ℕ). cond (b a && (e == a)) 1 0 + m) (count_number e b (suc a) n) ∙ go (b a) (b e) (λ q. ap b (sym q))
   where
     both : cond (e == a) 1 0 + cond (nat_le (suc a) e && nat_lt e (suc a + n)) 1 0 ≡ cond (nat_le a e && nat_lt e (a + suc n)) 1 0
     both = grind (arith, nat_tests)
@@ -98,14 +109,16 @@ count_number e b a (suc n) = count_cons (λ (d : ℕ). b d && (e == d)) a (count
     later : (e ≡ a → ⊥) → 0 + cond (nat_le (suc a) e && nat_lt e (suc a + n)) 1 0 ≡ cond (nat_le a e && nat_lt e (a + suc n)) 1 0
     later ne = grind (arith, nat_tests, ne)
 
-    go : (x y : Bool) → (e ≡ a → x ≡ y) → cond (x && (e == a)) 1 0 + cond (y && (nat_le (suc a) e && nat_lt e (suc a + n))) 1 0 ≡ cond (y && (nat_le a e && nat_lt e (a + suc n))) 1 0
+    go : (x y : Bool) → (e ≡ a → x ≡ y)
+        → cond (x && (e == a)) 1 0 + cond (y && (nat_le (suc a) e && nat_lt e (suc a + n))) 1 0 ≡ cond (y && (nat_le a e && nat_lt e (a + suc n))) 1 0
     go true true f = both
     go false false f = refl
     go true false f = not_it (λ q. true≢false (f q))
     go false true f = later (λ q. true≢false (sym (f q)))
 
 -- the environments of a function in which an entry places its Invoke
-placed_count : (config : Config) (h : List Entry) (entry : Entry) (f : ℕ) → Follows config h entry → count_by (λ e. (function_of config e == f) && is_number entry.place e) (environments config) ≡ cond (admits f entry) 1 0
+placed_count : (config : Config) (h : List Entry) (entry : Entry) (f : ℕ) → Follows config h entry
+    → count_by (λ e. (function_of config e == f) && is_number entry.place e) (environments config) ≡ cond (admits f entry) 1 0
 placed_count config h entry f w = go entry.place refl
   where
     n : ℕ
@@ -127,7 +140,8 @@ placed_count config h entry f w = go entry.place refl
     no_place true = refl
     no_place false = refl
 
-    go : (o : Option ℕ) → entry.place ≡ o → count_by (λ e. (function_of config e == f) && is_number o e) (environments config) ≡ cond (is_invoke_of f entry.call && is_some o) 1 0
+    go : (o : Option ℕ) → entry.place ≡ o
+        → count_by (λ e. (function_of config e == f) && is_number o e) (environments config) ≡ cond (is_invoke_of f entry.call && is_some o) 1 0
     go None q = all_false (environments config) ∙ no_place (is_invoke_of f entry.call)
     go (Some e) q =
         count_number e (λ d. function_of config d == f) 1 n
@@ -142,9 +156,14 @@ flight_step config h entry f l =
     (count_two (serves config (entry ∷ h) f) (λ e. (function_of config e == f) && is_some (ended_by (phase config h e) (phase config (entry ∷ h) e))) (serves config h f) (λ e. (function_of config e == f) && is_number entry.place e) each (environments config)
     ∙ ap (λ (m : ℕ). count_by (serves config h f) (environments config) + m) (placed_count config h entry f l.1))
   where
-    of_function : (b x y z w : Bool) → cond x 1 0 + cond y 1 0 ≡ cond z 1 0 + cond w 1 0 → cond (b && x) 1 0 + cond (b && y) 1 0 ≡ cond (b && z) 1 0 + cond (b && w) 1 0
+    of_function : (b x y z w : Bool) → cond x 1 0 + cond y 1 0 ≡ cond z 1 0 + cond w 1 0
+        → cond (b && x) 1 0 + cond (b && y) 1 0 ≡ cond (b && z) 1 0 + cond (b && w) 1 0
     of_function true x y z w k = k
     of_function false x y z w k = refl
 
-    each : (e : ℕ) → cond (serves config (entry ∷ h) f e) 1 0 + cond ((function_of config e == f) && is_some (ended_by (phase config h e) (phase config (entry ∷ h) e))) 1 0 ≡ cond (serves config h f e) 1 0 + cond ((function_of config e == f) && is_number entry.place e) 1 0
-    each e = of_function (function_of config e == f) (is_some (at_hand (phase config (entry ∷ h) e))) (is_some (ended_by (phase config h e) (phase config (entry ∷ h) e))) (is_some (at_hand (phase config h e))) (is_number entry.place e) (one_step config h entry e l)
+    each : (e : ℕ)
+        → cond (serves config (entry ∷ h) f e) 1 0 + cond ((function_of config e == f) && is_some (ended_by (phase config h e) (phase config (entry ∷ h) e))) 1 0 ≡ cond (serves config h f e) 1 0 + cond ((function_of config e == f) && is_number entry.place e) 1 0
+    each e =
+        of_function (function_of config e == f) (is_some (at_hand (phase config (entry ∷ h) e)))
+        (is_some (ended_by (phase config h e) (phase config (entry ∷ h) e))) (is_some (at_hand (phase config h e)))
+        (is_number entry.place e) (one_step config h entry e l)

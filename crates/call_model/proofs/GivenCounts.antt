@@ -1,5 +1,7 @@
 -- How many of an entry's answers give an invocation.
-use Rattle.std.proofs.Common.{ℕ, Bool, false, Option, Some, None, ◌≡◌, true, sym, refl, true≢false, List, ◌+◌, ◌∙◌, cond, [], ◌∷◌, ap₂, count_by, arith, suc, zero, ◌≤◌, nat_le, ◌<◌, subst, ap, inl, inr, ◌≢◌}
+use Rattle.std.proofs.Common.{ℕ, Bool, false, Option, Some, None, ◌≡◌, true, sym, refl, true≢false, List, ◌+◌, ◌∙◌}
+use Rattle.std.proofs.Common.{cond, [], ◌∷◌, ap₂, count_by, arith, suc, zero, ◌≤◌, nat_le, ◌<◌, subst, ap, inl, inr}
+use Rattle.std.proofs.Common.{◌≢◌}
 use Rattle.call_types.specs.declared.answer.Answer.{Answer}
 use Rattle.call_types.specs.declared.answer.Answer.TheVariants.{Delivered, Told, Ending}
 use Rattle.call_types.specs.declared.call.Entry.{Entry}
@@ -21,20 +23,25 @@ gives_second p None k = absurd (true≢false (sym k))
 gives_second p (Some a) k = absurd (true≢false (sym k))
 
 -- numbering the events keeps what is delivered
-delivers_event : (h : List Entry) (entry : Entry) (before : List (ℕ × Answer)) (o : Option ℕ) (a : Answer) (p : ℕ) → delivers p (event_at h entry before o a) ≡ delivers p a
+delivers_event : (h : List Entry) (entry : Entry) (before : List (ℕ × Answer)) (o : Option ℕ) (a : Answer) (p : ℕ)
+    → delivers p (event_at h entry before o a) ≡ delivers p a
 delivers_event h entry before None a p = refl
 delivers_event h entry before (Some e) (Told q d event) p = refl
 delivers_event h entry before (Some e) (Ending reason until event) p = refl
 delivers_event h entry before (Some e) a p = refl
 
-pub count_numbered : (h : List Entry) (entry : Entry) (before pairs : List (ℕ × Answer)) (p : ℕ) → count_by (λ a. delivers p a.1) (numbered h entry before pairs) ≡ count_by (λ a. delivers p a.1) pairs
+pub count_numbered : (h : List Entry) (entry : Entry) (before pairs : List (ℕ × Answer)) (p : ℕ)
+    → count_by (λ a. delivers p a.1) (numbered h entry before pairs) ≡ count_by (λ a. delivers p a.1) pairs
 count_numbered h entry before [] p = refl
 count_numbered h entry before (a ∷ rest) p =
     count_cons (λ (a : ℕ × Answer). delivers p a.1) (a.0, event_at h entry before (env_of (call_of (entry ∷ h) a.0)) a.1) (numbered h entry (a ∷ before) rest)
-    ∙ ap₂ (λ (b : Bool) (n : ℕ). cond b 1 0 + n) (delivers_event h entry before (env_of (call_of (entry ∷ h) a.0)) a.1 p) (count_numbered h entry (a ∷ before) rest p)
+    ∙ ap₂ (λ (b : Bool) (n : ℕ). cond b 1 0 + n)
+    (delivers_event h entry before (env_of (call_of (entry ∷ h) a.0)) a.1 p)
+    (count_numbered h entry (a ∷ before) rest p)
     ∙ sym (count_cons (λ (a : ℕ × Answer). delivers p a.1) a rest)
 
-pub with_count : (t p : ℕ) (a : Option Answer) (rest : List (ℕ × Answer)) → count_by (λ b. delivers p b.1) (with_answer t a rest) ≡ cond (gives p a) 1 0 + count_by (λ b. delivers p b.1) rest
+pub with_count : (t p : ℕ) (a : Option Answer) (rest : List (ℕ × Answer))
+    → count_by (λ b. delivers p b.1) (with_answer t a rest) ≡ cond (gives p a) 1 0 + count_by (λ b. delivers p b.1) rest
 with_count t p None rest = add (count_by (λ (b : ℕ × Answer). delivers p b.1) rest)
   where
     add : (n : ℕ) → n ≡ 0 + n
@@ -42,7 +49,8 @@ with_count t p None rest = add (count_by (λ (b : ℕ × Answer). delivers p b.1
 with_count t p (Some a) rest = count_cons (λ (b : ℕ × Answer). delivers p b.1) (t, a) rest
 
 -- where one ticket at most is given the invocation
-pub count_each : (t n p r : ℕ) (f : ℕ → Option Answer) → ((u : ℕ) → gives p (f u) ≡ true → u ≡ r) → count_by (λ b. delivers p b.1) (each_from t n f) ≤ cond (nat_le t r) 1 0
+pub count_each : (t n p r : ℕ) (f : ℕ → Option Answer) → ((u : ℕ) → gives p (f u) ≡ true → u ≡ r)
+    → count_by (λ b. delivers p b.1) (each_from t n f) ≤ cond (nat_le t r) 1 0
 count_each t zero p r f one = omega arith
 count_each t (suc n) p r f one = rw (with_count t p (f t) (each_from (suc t) n f)) (go (gives p (f t)) refl (count_each (suc t) n p r f one))
   where
@@ -73,7 +81,9 @@ given_each t (suc n) p f k = go (gives p (f t)) refl (subst (λ (m : ℕ). 1 ≤
     rest : ℕ
     rest = count_by (λ b. delivers p b.1) (each_from (suc t) n f)
 
-    go : (b : Bool) → gives p (f t) ≡ b → 1 ≤ cond b 1 0 + rest → (1 ≤ rest → (u : ℕ) × ((u < suc t + n) × (gives p (f u) ≡ true))) → (u : ℕ) × ((u < t + suc n) × (gives p (f u) ≡ true))
+    go : (b : Bool) → gives p (f t) ≡ b → 1 ≤ cond b 1 0 + rest
+        → (1 ≤ rest → (u : ℕ) × ((u < suc t + n) × (gives p (f u) ≡ true)))
+        → (u : ℕ) × ((u < t + suc n) × (gives p (f u) ≡ true))
     go true q k ih = (t, (omega arith, q))
     go false q k ih = let x : (u : ℕ) × ((u < suc t + n) × (gives p (f u) ≡ true)) = ih (drop k) in (x.0, (omega (arith, x.1.0), x.1.1))
       where

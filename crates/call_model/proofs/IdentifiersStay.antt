@@ -20,5 +20,6 @@ request_old salt e h p lt =
     ap (λ (c : Call). id_word salt Request (unwrap_or (invoked c) 0) (request_count (upto (e ∷ h) p) c)) (call_of_old e h p lt)
     ∙ ap (λ (k : List Entry). id_word salt Request (unwrap_or (invoked (call_of h p)) 0) (request_count k (call_of h p))) (upto_old e h p lt)
 
-pub env_old : (salt : ℕ) (kind : IdKind) (e : Entry) (h : List Entry) (t count : ℕ) → t < length h → env_word salt kind (e ∷ h) t count ≡ env_word salt kind h t count
+pub env_old : (salt : ℕ) (kind : IdKind) (e : Entry) (h : List Entry) (t count : ℕ) → t < length h
+    → env_word salt kind (e ∷ h) t count ≡ env_word salt kind h t count
 env_old salt kind e h t count lt = ap (λ (c : Call). id_word salt kind (unwrap_or (env_of c) 0) count) (call_of_old e h t lt)

@@ -38,12 +38,14 @@ event_keeps h entry before (Some e) a = keeps_named _ a
 
 numbered_bounded : (n : ℕ) (h : List Entry) (entry : Entry) (before pairs : List (ℕ × Answer)) → IsBounded n pairs → IsBounded n (numbered h entry before pairs)
 numbered_bounded n h entry before [] w = tt
-numbered_bounded n h entry before (a ∷ rest) w = (w.0, λ p e. w.1 p (sym (event_keeps h entry before _ a.1) ∙ e), numbered_bounded n h entry (a ∷ before) rest w.2)
+numbered_bounded n h entry before (a ∷ rest) w =
+    (w.0, λ p e. w.1 p (sym (event_keeps h entry before _ a.1) ∙ e), numbered_bounded n h entry (a ∷ before) rest w.2)
 
 pub entry_bounded : (config : Config) (h : List Entry) (entry : Entry) → IsLegal config (entry ∷ h) → IsBounded (length h) entry.answers
 unfolding answers answer_to second_answer
 entry_bounded config h entry l =
-    subst (IsBounded (length h)) (sym (l.1.answers)) (numbered_bounded (length h) h y [] (each_from 0 (suc (length h)) (answer_to config h y)) (each_bounded (length h) 0 (suc (length h)) (answer_to config h y) (omega arith) made))
+    subst (IsBounded (length h)) (sym (l.1.answers))
+    (numbered_bounded (length h) h y [] (each_from 0 (suc (length h)) (answer_to config h y)) (each_bounded (length h) 0 (suc (length h)) (answer_to config h y) (omega arith) made))
   where
     y : Entry
     y = first_entry config h entry.moment entry.call
@@ -60,7 +62,8 @@ entry_bounded config h entry l =
     either t (Some a) b p q = p
 
     first : (t : ℕ) → t ≤ length h → IsMadeUpTo (length h) (answer_in y.answers t)
-    first t le p q = let own = of_first config h entry.moment entry.call t p (sym (ap names_of (first_in config h entry.moment entry.call t le)) ∙ q) in omega (arith, own)
+    first t le p q =
+        let own = of_first config h entry.moment entry.call t p (sym (ap names_of (first_in config h entry.moment entry.call t le)) ∙ q) in omega (arith, own)
 
     made : (t : ℕ) → t ≤ length h → IsMadeUpTo (length h) (answer_to config h y t)
     made t le = either t (answer_in y.answers t) (second_answer config h y t) (first t le) (second t (home (y ∷ h) t))

@@ -43,7 +43,8 @@ asks_env h e call (TheExtension y) a n = absurd (true≢false (sym a))
 pub nexts_home : (config : Config) (h : List Entry) (e : ℕ) → IsLegal config h → AreHome h e (life config h e).generation
 unfolding life lived after
 nexts_home config [] e l = tt
-nexts_home config (entry ∷ h) e l = go (concerns h e entry) refl (home_older entry h e (life config h e).generation (generation_part config h e) (nexts_home config h e l.0))
+nexts_home config (entry ∷ h) e l =
+    go (concerns h e entry) refl (home_older entry h e (life config h e).generation (generation_part config h e) (nexts_home config h e l.0))
   where
     no_place : (o : Option ℕ) → o ≡ None → (is_number o e || names h e entry.call) ≡ true → names h e entry.call ≡ true
     no_place None q c = c
@@ -58,11 +59,13 @@ nexts_home config (entry ∷ h) e l = go (concerns h e entry) refl (home_older e
         let none : entry.place ≡ None = l.1.place ∙ asks_place config h entry.call actor a in
         rw (eqb-self (length h)) (or_none entry.place none ∙ asks_env h e entry.call actor a (no_place entry.place none c))
 
-    at_end : (b : Bool) → concerns h e entry ≡ true → AreHome (entry ∷ h) e (life config h e).generation → AreHome (entry ∷ h) e (if_ended b (visit config h e entry)).generation
+    at_end : (b : Bool) → concerns h e entry ≡ true → AreHome (entry ∷ h) e (life config h e).generation
+        → AreHome (entry ∷ h) e (if_ended b (visit config h e entry)).generation
     at_end true c k = tt
     at_end false c k = (new c, k)
 
-    go : (b : Bool) → concerns h e entry ≡ b → AreHome (entry ∷ h) e (life config h e).generation → AreHome (entry ∷ h) e (if_concerned b (visit config h e entry)).generation
+    go : (b : Bool) → concerns h e entry ≡ b → AreHome (entry ∷ h) e (life config h e).generation
+        → AreHome (entry ∷ h) e (if_concerned b (visit config h e entry)).generation
     go false c k = k
     go true c k = at_end (ends_here (visit config h e entry)) c k
 
@@ -70,10 +73,12 @@ last_home : (h : List Entry) (e : ℕ) (g : Generation) (actor : Actor) (t : ℕ
 last_home h e [] actor t o q = absurd (some-none (sym q))
 last_home h e (taken ∷ g) actor t o q = go (asks actor taken.1.call) refl (last_home h e g actor t o.1) q
   where
-    go : (b : Bool) → asks actor taken.1.call ≡ b → (last_next g actor ≡ Some t → home h t ≡ Some e) → (if b then Some taken.0 else last_next g actor) ≡ Some t → home h t ≡ Some e
+    go : (b : Bool) → asks actor taken.1.call ≡ b → (last_next g actor ≡ Some t → home h t ≡ Some e)
+        → (if b then Some taken.0 else last_next g actor) ≡ Some t → home h t ≡ Some e
     go true a ih r = let same : taken.0 ≡ t = cc in ap (home h) (sym same) ∙ o.0 actor a
     go false a ih r = ih r
 
 -- the environment of an actor's last Next
-pub next_home : (config : Config) (h : List Entry) (e : ℕ) (actor : Actor) (t : ℕ) → IsLegal config h → last_next (life config h e).generation actor ≡ Some t → home h t ≡ Some e
+pub next_home : (config : Config) (h : List Entry) (e : ℕ) (actor : Actor) (t : ℕ) → IsLegal config h
+    → last_next (life config h e).generation actor ≡ Some t → home h t ≡ Some e
 next_home config h e actor t l q = last_home h e (life config h e).generation actor t (nexts_home config h e l) q

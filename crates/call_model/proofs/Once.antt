@@ -1,6 +1,8 @@
 -- No ticket is answered twice, nor before its own entry.
 use Rattle.std.proofs.lemmas.Bool.{cases_lt}
-use Rattle.std.proofs.Common.{◌≡◌, ℕ, suc, ◌+◌, ◌<◌, ◌≤◌, Bool, true, false, List, [], ◌∷◌, length, Option, Some, None, sym, refl, ap, ◌∙◌, inl, inr, arith, ◌≢◌, is_some, is_none, not, ◌&&◌, ◌==◌, map, true≢false, if◌then◌else◌}
+use Rattle.std.proofs.Common.{◌≡◌, ℕ, suc, ◌+◌, ◌<◌, ◌≤◌, Bool, true, false, List, [], ◌∷◌, length, Option, Some, None}
+use Rattle.std.proofs.Common.{sym, refl, ap, ◌∙◌, inl, inr, arith, ◌≢◌, is_some, is_none, not, ◌&&◌, ◌==◌, map}
+use Rattle.std.proofs.Common.{true≢false, if◌then◌else◌}
 use Rattle.call_types.specs.declared.answer.Answer.{Answer}
 use Rattle.call_types.specs.declared.call.Call.{Call}
 use Rattle.call_types.specs.declared.call.Entry.{Entry}
@@ -12,7 +14,8 @@ use Rattle.call_model.specs.Life.{life, Lifecycle, names, phase, seen, request_a
 use Rattle.call_model.specs.Stand.{role, NoRole, is_number, at_hand}
 use Rattle.call_model.specs.Polls.{delivered, begun}
 use Rattle.call_model.specs.Generation.{Generation, Extension, Actor, TheRuntime, TheExtension, parked, if_pending, last_next, extensions, member, members}
-use Rattle.call_model.specs.Answers.{each_from, first_answer, other_answer, answer_at, home, second_answer, second_at, answer_to, answers, first_entry, first_answers}
+use Rattle.call_model.specs.Answers.{each_from, first_answer, other_answer, answer_at, home, second_answer, second_at}
+use Rattle.call_model.specs.Answers.{answer_to, answers, first_entry, first_answers}
 use Rattle.call_model.specs.Next.{IsLegal, IsLegalBy, IsTimely, Rule}
 use Rattle.call_model.proofs.Pairs.{in_each, past_each, numbered_same, eqb-other, is_some_none, times_in, times_each, numbered_times, times_none}
 use Rattle.call_model.proofs.Basics.{and_false, some-none}
@@ -47,7 +50,8 @@ no_wait config h d (Some p) t e = at_one (pending h p) refl
     at_one false q = refl
     at_one true q = eqb-other p t (λ same. true≢false (sym q ∙ ap (pending h) same ∙ e))
 
-no_member : (h : List Entry) (g : Generation) (t : ℕ) → pending h t ≡ false → (xs : List Extension) → find (λ x. is_number x.next t) (map (member h g) xs) ≡ None
+no_member : (h : List Entry) (g : Generation) (t : ℕ) → pending h t ≡ false → (xs : List Extension)
+    → find (λ x. is_number x.next t) (map (member h g) xs) ≡ None
 no_member h g t e [] = refl
 no_member h g t e (x ∷ xs) = rw (no_parked h g (TheExtension x.count) t e) (no_member h g t e xs)
 
@@ -55,10 +59,12 @@ no_member h g t e (x ∷ xs) = rw (no_parked h g (TheExtension x.count) t e) (no
 pub no_role : (config : Config) (h : List Entry) (d : ℕ) (life : Lifecycle) (t : ℕ) → pending h t ≡ false → role (seen config h d life) t ≡ NoRole
 unfolding role seen members
 no_role config h d life t e =
-    rw (no_wait config h d (at_hand life.phase) t e, no_parked h life.generation TheRuntime t e, no_member h life.generation t e (extensions life.generation)) refl
+    rw
+    (no_wait config h d (at_hand life.phase) t e, no_parked h life.generation TheRuntime t e, no_member h life.generation t e (extensions life.generation)) refl
 
 -- a call gives nothing to a ticket that isn't pending, its own aside
-pub silent_first : (config : Config) (h : List Entry) (now : ℕ) (call : Call) (t : ℕ) → t ≢ length h → pending h t ≡ false → first_answer config h now call t ≡ None
+pub silent_first : (config : Config) (h : List Entry) (now : ℕ) (call : Call) (t : ℕ) → t ≢ length h
+    → pending h t ≡ false → first_answer config h now call t ≡ None
 unfolding first_answer
 silent_first config h now call t ne e = rw (eqb-other t (length h) ne) (go (home h t))
   where
@@ -86,7 +92,8 @@ silent_second config h entry t ne e = go (home (entry ∷ h) t)
     go (Some d) = rw (no_role config (entry ∷ h) d (life config (entry ∷ h) d) t no) (nothing (begun (phase config h d) (phase config (entry ∷ h) d)))
 
 -- the answer of a ticket in the entry that a call makes, up to its event's number
-pub answers_at : (config : Config) (h : List Entry) (now : ℕ) (call : Call) (t : ℕ) → t ≤ length h → is_some (answer_in (answers config h now call) t) ≡ is_some (or_else (first_answer config h now call t) (second_answer config h (first_entry config h now call) t))
+pub answers_at : (config : Config) (h : List Entry) (now : ℕ) (call : Call) (t : ℕ) → t ≤ length h
+    → is_some (answer_in (answers config h now call) t) ≡ is_some (or_else (first_answer config h now call t) (second_answer config h (first_entry config h now call) t))
 unfolding answers answer_to first_answers
 answers_at config h now call t le =
     numbered_same h entry [] (each_from 0 (suc (length h)) (answer_to config h entry)) t
@@ -103,7 +110,8 @@ answers_past config h now call t lt =
     ∙ ap is_some (past_each 0 (suc (length h)) t (answer_to config h (first_entry config h now call)) (omega arith)))
 
 -- a call answers no older ticket that isn't pending
-pub silent : (config : Config) (h : List Entry) (now : ℕ) (call : Call) (t : ℕ) → t ≢ length h → pending h t ≡ false → answer_in (answers config h now call) t ≡ None
+pub silent : (config : Config) (h : List Entry) (now : ℕ) (call : Call) (t : ℕ) → t ≢ length h → pending h t ≡ false
+    → answer_in (answers config h now call) t ≡ None
 silent config h now call t ne e =
     elim (cases_lt t (length h)) [
       | inl lt ↦ is_some_none _ (answers_at config h now call t (omega (arith, lt)) ∙ rw (silent_first config h now call t ne e, silent_second config h (first_entry config h now call) t ne e) refl)
@@ -132,7 +140,9 @@ fresh config h t l le = fresh_by IsTimely config h t l le
 
 times_zero : (h : List Entry) (t : ℕ) → answer_of h t ≡ None → times h t ≡ 0
 times_zero [] t e = refl
-times_zero (entry ∷ h) t e = rw (times_none entry.answers t (first (answer_in entry.answers t) (answer_of h t) e), times_zero h t (second (answer_in entry.answers t) (answer_of h t) e)) refl
+times_zero (entry ∷ h) t e =
+    rw
+    (times_none entry.answers t (first (answer_in entry.answers t) (answer_of h t) e), times_zero h t (second (answer_in entry.answers t) (answer_of h t) e)) refl
   where
     first : (a b : Option Answer) → or_else a b ≡ None → a ≡ None
     first None b q = refl
@@ -158,7 +168,9 @@ once config (entry ∷ h) t l = go (answer_of h t) refl (once config h t l.0)
         ne q = absurd (some-none (sym e ∙ fresh config h t l.0 (omega (arith, q))))
 
         none_now : times_in entry.answers t ≡ 0
-        none_now = times_none entry.answers t (rw (l.1.answers) (silent config h entry.moment entry.call t ne (ap (λ x. not (is_expiry (call_of h t)) && not (is_some x)) e ∙ and_false (not (is_expiry (call_of h t))))))
+        none_now =
+            times_none entry.answers t
+            (rw (l.1.answers) (silent config h entry.moment entry.call t ne (ap (λ x. not (is_expiry (call_of h t)) && not (is_some x)) e ∙ and_false (not (is_expiry (call_of h t))))))
 
 -- what is pending after an entry has no answer of it
 pub none_given : (entry : Entry) (h : List Entry) (t : ℕ) → pending (entry ∷ h) t ≡ true → answer_in entry.answers t ≡ None

@@ -37,7 +37,8 @@ unfolding kept
 on_kept now limit n s (Invoke f qualified trace body) e = on_placed now limit n s.phase e
 on_kept now limit n s (RuntimeNext d) e = on_clock now s.phase e
 on_kept now limit n s (ExtNext d x) e = on_choice (clock_started now s.phase) s.phase (is_known s x) (on_clock now s.phase e) e
-on_kept now limit n s (Register d name invoke shutdown account) e = on_choice (clock_started now s.phase) s.phase (is_registered (own_answer s (Register d name invoke shutdown account))) (on_clock now s.phase e) e
+on_kept now limit n s (Register d name invoke shutdown account) e =
+    on_choice (clock_started now s.phase) s.phase (is_registered (own_answer s (Register d name invoke shutdown account))) (on_clock now s.phase e) e
 on_kept now limit n s Stop e = on_choice s.phase (unbound s.phase) s.stopped e (on_unbound s.phase e)
 on_kept now limit n s call e = e
 
@@ -66,7 +67,8 @@ abbrev IsGoing : Generation → Lifecycle → Type 0
 IsGoing g x = (is_open x.phase ≡ true) × (x.generation ≡ g)
 
 -- where nothing closes, an open environment stays so, and its generation goes on
-pub open_step : (config : Config) (h : List Entry) (entry : Entry) (e : ℕ) → concerns h e entry ≡ true → is_open (phase config h e) ≡ true → closes (stand config h e) entry.call ≡ None
+pub open_step : (config : Config) (h : List Entry) (entry : Entry) (e : ℕ) → concerns h e entry ≡ true
+    → is_open (phase config h e) ≡ true → closes (stand config h e) entry.call ≡ None
     → (is_open (phase config (entry ∷ h) e) ≡ true) × ((life config (entry ∷ h) e).generation ≡ ((length h, entry) ∷ (life config h e).generation))
 unfolding life lived after seen
 open_step config h entry e c o k =

@@ -1,5 +1,6 @@
 -- An invocation is answered with an output, or that it timed out, only after its delivery.
-use Rattle.std.proofs.Common.{Bool, false, Option, Some, None, ◌≡◌, true, sym, refl, true≢false, ℕ, is_some, ◌&&◌, if◌then◌else◌, ◌≤◌, List, ◌∷◌, length, ap, ◌∙◌, inl, inr, arith, ◌==◌}
+use Rattle.std.proofs.Common.{Bool, false, Option, Some, None, ◌≡◌, true, sym, refl, true≢false, ℕ, is_some, ◌&&◌}
+use Rattle.std.proofs.Common.{if◌then◌else◌, ◌≤◌, List, ◌∷◌, length, ap, ◌∙◌, inl, inr, arith, ◌==◌}
 use Rattle.std.proofs.lemmas.Bool.{cases_lt}
 use Rattle.std.specs.List.{find}
 use Rattle.call_types.specs.declared.answer.Answer.{Answer}
@@ -81,13 +82,16 @@ waiting_number s t q = go (is_number (at_hand s.phase) t) refl (is_some s.reques
     no_poll false None r = cc
     no_poll false (Some x) r = cc
 
-    go : (b : Bool) → is_number (at_hand s.phase) t ≡ b → (a : Bool) → (if a && b then Waiting else if is_number s.runtime t then RuntimePoll else member_role (find (λ x. is_number x.next t) s.members)) ≡ Waiting → is_number (at_hand s.phase) t ≡ true
+    go : (b : Bool) → is_number (at_hand s.phase) t ≡ b → (a : Bool)
+        → (if a && b then Waiting else if is_number s.runtime t then RuntimePoll else member_role (find (λ x. is_number x.next t) s.members)) ≡ Waiting
+        → is_number (at_hand s.phase) t ≡ true
     go true k a r = k
     go false k true r = absurd (no_poll (is_number s.runtime t) (find (λ x. is_number x.next t) s.members) r)
     go false k false r = absurd (no_poll (is_number s.runtime t) (find (λ x. is_number x.next t) s.members) r)
 
 -- An invocation is answered so only in an entry after its delivery.
-pub outcome_delivered : (config : Config) (h : List Entry) (entry : Entry) (p : ℕ) (a : Answer) → IsLegal config (entry ∷ h) → answer_in entry.answers p ≡ Some a → is_outcome a ≡ true → 1 ≤ deliveries h p
+pub outcome_delivered : (config : Config) (h : List Entry) (entry : Entry) (p : ℕ) (a : Answer)
+    → IsLegal config (entry ∷ h) → answer_in entry.answers p ≡ Some a → is_outcome a ≡ true → 1 ≤ deliveries h p
 unfolding first_answer seen
 outcome_delivered config h entry p a l q k = elim (cases_lt (length h) p) [
   | inl lt ↦ absurd (some-none (sym q ∙ ap (λ (xs : List (ℕ × Answer)). answer_in xs p) (l.1.answers) ∙ answers_past config h entry.moment entry.call p lt))
@@ -104,16 +108,24 @@ outcome_delivered config h entry p a l q k = elim (cases_lt (length h) p) [
 
     at_env : (e : ℕ) (b : Bool) → outcome (answer_at config h entry.moment e entry.call p b) ≡ true → 1 ≤ deliveries h p
     at_env e false o = absurd (true≢false (sym o))
-    at_env e true o = by_waiting e (poll_plain (length h) entry.moment (s e) entry.call p (role (s e) p) (outcome_special (by_role (length h) entry.moment (s e) entry.call p (role (s e) p)) o)) o
+    at_env e true o =
+        by_waiting e
+        (poll_plain (length h) entry.moment (s e) entry.call p (role (s e) p) (outcome_special (by_role (length h) entry.moment (s e) entry.call p (role (s e) p)) o)) o
 
     other : (o : Option ℕ) → outcome (other_answer config h entry.moment entry.call p o) ≡ true → 1 ≤ deliveries h p
     other None o = absurd (true≢false (sym o))
     other (Some e) o = at_env e (names h e entry.call) o
 
-    by_ticket : (b : Bool) → outcome (if b then own_first config h entry.call else other_answer config h entry.moment entry.call p (home h p)) ≡ true → 1 ≤ deliveries h p
+    by_ticket : (b : Bool)
+        → outcome (if b then own_first config h entry.call else other_answer config h entry.moment entry.call p (home h p)) ≡ true
+        → 1 ≤ deliveries h p
     by_ticket true o = absurd (true≢false (sym (outcome_special (own_first config h entry.call) o) ∙ own_first_plain config h entry.call))
     by_ticket false o = other (home h p) o
 
-    by_first : (b : Option Answer) → first_answer config h entry.moment entry.call p ≡ b → outcome (or_else b (second_answer config h (first_entry config h entry.moment entry.call) p)) ≡ true → 1 ≤ deliveries h p
-    by_first None f o = absurd (true≢false (sym o ∙ outcome_strip (second_answer config h (first_entry config h entry.moment entry.call) p) (strip_second config h (first_entry config h entry.moment entry.call) p)))
+    by_first : (b : Option Answer) → first_answer config h entry.moment entry.call p ≡ b
+        → outcome (or_else b (second_answer config h (first_entry config h entry.moment entry.call) p)) ≡ true
+        → 1 ≤ deliveries h p
+    by_first None f o =
+        absurd
+        (true≢false (sym o ∙ outcome_strip (second_answer config h (first_entry config h entry.moment entry.call) p) (strip_second config h (first_entry config h entry.moment entry.call) p)))
     by_first (Some x) f o = by_ticket (p == length h) (ap outcome f ∙ o)

@@ -1,9 +1,14 @@
 -- The function's own history counts the same events and registrations at an environment of the function.
-use Rattle.std.proofs.Common.{◌≡◌, ℕ, true, false, List, Some, sym, refl, ap, ◌∙◌, arith, ◌≢◌, ◌==◌, true≢false, ◌<◌, [], ◌∷◌, length, inl, inr, ◌+◌, Bool, cond, ◌&&◌, filter, if◌then◌else◌, Option, None, ap₂}
+use Rattle.std.proofs.Common.{◌≡◌, ℕ, true, false, List, Some, sym, refl, ap, ◌∙◌, arith, ◌≢◌, ◌==◌, true≢false, ◌<◌}
+use Rattle.std.proofs.Common.{[], ◌∷◌, length, inl, inr, ◌+◌, Bool, cond, ◌&&◌, filter, if◌then◌else◌, Option, None}
+use Rattle.std.proofs.Common.{ap₂}
 use Rattle.std.proofs.lemmas.Bool.Decides.{nat_tests, eqb_tells}
 use Rattle.call_types.specs.declared.answer.Answer.{Answer}
 use Rattle.call_types.specs.declared.call.Call.{Call}
-use Rattle.call_types.specs.declared.call.Call.TheVariants.{Invoke, RuntimeNext, Response, ResponseTooLarge, Failure, InitFailure, Register, ExtNext, ExtInitFailure, ExtExitFailure, Tick, Withdraw, Spindown, Stop, Expire, Reserve}
+use Rattle.call_types.specs.declared.call.Call.TheVariants.{Invoke, RuntimeNext, Response, ResponseTooLarge, Failure}
+use Rattle.call_types.specs.declared.call.Call.TheVariants.{InitFailure, Register, ExtNext, ExtInitFailure}
+use Rattle.call_types.specs.declared.call.Call.TheVariants.{ExtExitFailure, Tick, Withdraw, Spindown, Stop, Expire}
+use Rattle.call_types.specs.declared.call.Call.TheVariants.{Reserve}
 use Rattle.call_types.specs.declared.call.Entry.{Entry}
 use Rattle.arn_ids.specs.declared.config.Config.{Config}
 use Rattle.arn_ids.specs.Environments.{function_of}
@@ -21,7 +26,8 @@ use Rattle.call_model.proofs.TicketsWithin.{IsWithin, legal_fit}
 use Rattle.call_model.proofs.OwnHistory.{own_cons, others_silent}
 
 -- a call of others names no environment of the function
-pub env_foreign : (config : Config) (h : List Entry) (f e : ℕ) (call : Call) → function_of config e ≡ f → is_own config h f call ≡ false → is_number (env_of call) e ≡ false
+pub env_foreign : (config : Config) (h : List Entry) (f e : ℕ) (call : Call) → function_of config e ≡ f
+    → is_own config h f call ≡ false → is_number (env_of call) e ≡ false
 env_foreign config h f e call at q = go call q
   where
     is_theirs : (function_of config e == f) ≡ true
@@ -48,7 +54,8 @@ env_foreign config h f e call at q = go call q
     go (Spindown d) p = no_env d p
     go (Expire d) p = no_env d p
 
-ticket_foreign : (config : Config) (h : List Entry) (f e t : ℕ) → function_of config e ≡ f → t < length h → own_ticket config h f t ≡ false → is_number (env_of (call_of h t)) e ≡ false
+ticket_foreign : (config : Config) (h : List Entry) (f e t : ℕ) → function_of config e ≡ f → t < length h
+    → own_ticket config h f t ≡ false → is_number (env_of (call_of h t)) e ≡ false
 ticket_foreign config [] f e t at lt q = absurd (omega (arith, lt))
 ticket_foreign config (entry ∷ h) f e t at lt q = elim (eqb_tells t (length h)) [
   | inl p ↦ rw p.0 (env_foreign config h f e entry.call at (rw p.0 at q))
@@ -59,7 +66,8 @@ ticket_foreign config (entry ∷ h) f e t at lt q = elim (eqb_tells t (length h)
 pub own_events_in : (config : Config) (h : List Entry) (f e n : ℕ) → function_of config e ≡ f → n < length h → (pairs : List (ℕ × Answer)) → IsWithin n pairs
     → events_in (own config h f) e (filter (λ a. own_ticket config h f a.0) pairs) ≡ events_in h e pairs
 own_events_in config h f e n at lt [] w = refl
-own_events_in config h f e n at lt (a ∷ rest) w = go (own_ticket config h f a.0) refl (own_events_in config h f e n at lt rest w.1) ∙ sym (count_cons (tells h) a rest)
+own_events_in config h f e n at lt (a ∷ rest) w =
+    go (own_ticket config h f a.0) refl (own_events_in config h f e n at lt rest w.1) ∙ sym (count_cons (tells h) a rest)
   where
     tells : List Entry → ℕ × Answer → Bool
     tells k c = is_event c.1 && is_number (env_of (call_of k c.0)) e
@@ -70,7 +78,9 @@ own_events_in config h f e n at lt (a ∷ rest) w = go (own_ticket config h f a.
     go : (b : Bool) → own_ticket config h f a.0 ≡ b → events_in (own config h f) e kept ≡ events_in h e rest
         → events_in (own config h f) e (if b then a ∷ kept else kept) ≡ cond (tells h a) 1 0 + events_in h e rest
     go true q ih = count_cons (tells (own config h f)) a kept ∙ (λ i. cond (is_event a.1 && is_number (env_of (own_call config h f a.0 q i)) e) 1 0 + ih i)
-    go false q ih = ih ∙ omega arith ∙ sym (ap (λ (b : Bool). cond b 1 0 + events_in h e rest) (ap (λ (b : Bool). is_event a.1 && b) (ticket_foreign config h f e a.0 at (omega (arith, w.0, lt)) q) ∙ and_false (is_event a.1)))
+    go false q ih =
+        ih ∙ omega arith
+        ∙ sym (ap (λ (b : Bool). cond b 1 0 + events_in h e rest) (ap (λ (b : Bool). is_event a.1 && b) (ticket_foreign config h f e a.0 at (omega (arith, w.0, lt)) q) ∙ and_false (is_event a.1)))
 
 -- how many extensions were registered
 pub own_registrations : (config : Config) (h : List Entry) (f e : ℕ) → function_of config e ≡ f → registrations (own config h f) e ≡ registrations h e
@@ -107,9 +117,12 @@ filter_empty p (a ∷ rest) e = go (p a.0) refl (filter_empty p rest (λ t k. la
     go true k ih = absurd (some-none (sym here ∙ e a.0 k))
     go false k ih = ih
 
-pub events_step : (config : Config) (h : List Entry) (entry : Entry) (f e : ℕ) → function_of config e ≡ f → IsWithin (length h) entry.answers → is_own config h f entry.call ≡ true → events (own config h f) e ≡ events h e → events (own_entry true config h f entry ∷ own config h f) e ≡ events (entry ∷ h) e
+pub events_step : (config : Config) (h : List Entry) (entry : Entry) (f e : ℕ) → function_of config e ≡ f
+    → IsWithin (length h) entry.answers → is_own config h f entry.call ≡ true → events (own config h f) e ≡ events h e
+    → events (own_entry true config h f entry ∷ own config h f) e ≡ events (entry ∷ h) e
 events_step config h entry f e at w k ih =
-    ap₂ ◌+◌ (ap (λ o. events_in o e (own_entry true config h f entry).answers) (sym (own_cons config h entry f k)) ∙ own_events_in config (entry ∷ h) f e (length h) at (omega arith) entry.answers w) ih
+    ap₂ ◌+◌
+    (ap (λ o. events_in o e (own_entry true config h f entry).answers) (sym (own_cons config h entry f k)) ∙ own_events_in config (entry ∷ h) f e (length h) at (omega arith) entry.answers w) ih
 
 pub own_events : (config : Config) (h : List Entry) (f e : ℕ) → IsLegal config h → function_of config e ≡ f → events (own config h f) e ≡ events h e
 unfolding own
@@ -121,8 +134,10 @@ own_events config (entry ∷ h) f e l at = go (is_own config h f entry.call) ref
 
     nothing : is_own config h f entry.call ≡ false → events_in (entry ∷ h) e entry.answers ≡ 0
     nothing q = sym (own_events_in config (entry ∷ h) f e (length h) at (omega arith) entry.answers within)
-        ∙ ap (events_in (own config (entry ∷ h) f) e) (filter_empty (own_ticket config (entry ∷ h) f) entry.answers (λ t k. others_silent config h entry f t l q k))
+        ∙ ap (events_in (own config (entry ∷ h) f) e)
+        (filter_empty (own_ticket config (entry ∷ h) f) entry.answers (λ t k. others_silent config h entry f t l q k))
 
-    go : (b : Bool) → is_own config h f entry.call ≡ b → events (own config h f) e ≡ events h e → events (own_entry b config h f entry ∷ own config h f) e ≡ events (entry ∷ h) e
+    go : (b : Bool) → is_own config h f entry.call ≡ b → events (own config h f) e ≡ events h e
+        → events (own_entry b config h f entry ∷ own config h f) e ≡ events (entry ∷ h) e
     go true q ih = events_step config h entry f e at within q ih
     go false q ih = ap₂ ◌+◌ (sym (nothing q)) ih

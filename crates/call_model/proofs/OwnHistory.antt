@@ -1,6 +1,8 @@
 -- The function's own history says the same as the whole one of the function's tickets: calls, answers, polls, requests, the Stop.
 use Rattle.std.proofs.lemmas.Bool.{cases_lt}
-use Rattle.std.proofs.Common.{◌≡◌, ℕ, ◌<◌, Bool, List, length, ◌∷◌, refl, ◌∙◌, arith, true, sym, inl, inr, false, [], ap, ◌||◌, is_some, not, ◌&&◌, suc, ◌==◌, if◌then◌else◌, filter, true≢false, ◌+◌, cond, nat_lt, None}
+use Rattle.std.proofs.Common.{◌≡◌, ℕ, ◌<◌, Bool, List, length, ◌∷◌, refl, ◌∙◌, arith, true, sym, inl, inr, false, []}
+use Rattle.std.proofs.Common.{ap, ◌||◌, is_some, not, ◌&&◌, suc, ◌==◌, if◌then◌else◌, filter, true≢false, ◌+◌, cond}
+use Rattle.std.proofs.Common.{nat_lt, None}
 use Rattle.std.proofs.lemmas.Bool.Decides.{eqb_tells}
 use Rattle.call_types.specs.declared.answer.Answer.{Answer}
 use Rattle.call_types.specs.declared.call.Call.{Call}
@@ -26,7 +28,8 @@ Agrees config h f P = (t : ℕ) → t < length h → P t ≡ own_ticket config h
 pub agrees_older : (config : Config) (entry : Entry) (h : List Entry) (f : ℕ) (P : ℕ → Bool) → Agrees config (entry ∷ h) f P → Agrees config h f P
 agrees_older config entry h f P a t lt = a t (omega (arith, lt)) ∙ rw (eqb-other t (length h) (omega (arith, lt))) refl
 
-pub agrees_now : (config : Config) (entry : Entry) (h : List Entry) (f : ℕ) (P : ℕ → Bool) → Agrees config (entry ∷ h) f P → P (length h) ≡ is_own config h f entry.call
+pub agrees_now : (config : Config) (entry : Entry) (h : List Entry) (f : ℕ) (P : ℕ → Bool)
+    → Agrees config (entry ∷ h) f P → P (length h) ≡ is_own config h f entry.call
 agrees_now config entry h f P a = a (length h) (omega arith) ∙ rw (eqb-self (length h)) refl
 
 -- the function's tickets have the same calls and answers
@@ -36,7 +39,8 @@ old_call config h f P t a k = elim (cases_lt t (length h)) [
   | inr ge ↦ call_past (own config h f) t (rw (own_length config h f) (omega (arith, ge))) ∙ sym (call_past h t (omega (arith, ge)))
 ]
 
-old_answer : (config : Config) (h : List Entry) (f : ℕ) (P : ℕ → Bool) (t : ℕ) → IsLegal config h → Agrees config h f P → P t ≡ true → answer_of (own config h f) t ≡ answer_of h t
+old_answer : (config : Config) (h : List Entry) (f : ℕ) (P : ℕ → Bool) (t : ℕ) → IsLegal config h → Agrees config h f P
+    → P t ≡ true → answer_of (own config h f) t ≡ answer_of h t
 old_answer config h f P t l a k = elim (cases_lt t (length h)) [
   | inl lt ↦ own_answer_of config h f t l (sym (a t lt) ∙ k)
   | inr ge ↦ own_past config h f t l (omega (arith, ge)) ∙ sym (fresh config h t l (omega (arith, ge)))
@@ -55,7 +59,8 @@ unfolding own
 own_stopped config [] f = refl
 own_stopped config (entry ∷ h) f = go (is_own config h f entry.call) refl (own_stopped config h f)
   where
-    go : (b : Bool) → is_own config h f entry.call ≡ b → stopped (own config h f) ≡ stopped h → (is_stop (own_entry b config h f entry).call || stopped (own config h f)) ≡ (is_stop entry.call || stopped h)
+    go : (b : Bool) → is_own config h f entry.call ≡ b → stopped (own config h f) ≡ stopped h
+        → (is_stop (own_entry b config h f entry).call || stopped (own config h f)) ≡ (is_stop entry.call || stopped h)
     go true q ih = ap (λ (c : Bool). is_stop entry.call || c) ih
     go false q ih = rw (stop_own config h f entry.call q) ih
 
@@ -66,10 +71,13 @@ twin_own config h f P l a = record {
   stop = own_stopped config h f;
 }
 
-pub twin_cons : (config : Config) (h : List Entry) (f : ℕ) (P : ℕ → Bool) (x y : Entry) → IsLegal config h → Agrees config h f P → x.call ≡ y.call → ((t : ℕ) → P t ≡ true → answer_in x.answers t ≡ answer_in y.answers t) → IsTwin P (x ∷ own config h f) (y ∷ h)
+pub twin_cons : (config : Config) (h : List Entry) (f : ℕ) (P : ℕ → Bool) (x y : Entry) → IsLegal config h
+    → Agrees config h f P → x.call ≡ y.call → ((t : ℕ) → P t ≡ true → answer_in x.answers t ≡ answer_in y.answers t)
+    → IsTwin P (x ∷ own config h f) (y ∷ h)
 twin_cons config h f P x y l a call same = record {
   size = ap suc (own_length config h f);
-  pend = λ t k i. not (is_expiry (if t == own_length config h f i then call i else old_call config h f P t a k i)) && not (is_some (or_else (same t k i) (old_answer config h f P t l a k i)));
+  pend =
+      λ t k i. not (is_expiry (if t == own_length config h f i then call i else old_call config h f P t a k i)) && not (is_some (or_else (same t k i) (old_answer config h f P t l a k i)));
   stop = λ i. is_stop (call i) || own_stopped config h f i;
 }
 
@@ -85,14 +93,17 @@ swap_filter p q (a ∷ rest) = go (p a) refl (q a) refl (swap_filter p q rest)
     go false k false l ih = ih
 
 -- the entry's answers to the function's tickets
-pub own_same : (config : Config) (h : List Entry) (entry : Entry) (f : ℕ) (P : ℕ → Bool) (t : ℕ) → IsWithin (length h) entry.answers → Agrees config (entry ∷ h) f P → P t ≡ true
+pub own_same : (config : Config) (h : List Entry) (entry : Entry) (f : ℕ) (P : ℕ → Bool) (t : ℕ)
+    → IsWithin (length h) entry.answers → Agrees config (entry ∷ h) f P → P t ≡ true
     → answer_in (own_entry true config h f entry).answers t ≡ answer_in entry.answers t
 own_same config h entry f P t w a k = elim (cases_lt t (suc (length h))) [
   | inl lt ↦ filtered (own_ticket config (entry ∷ h) f) entry.answers t (sym (a t lt) ∙ k)
-  | inr ge ↦ Rattle.call_model.proofs.PhaseStep.filter_none (λ c. own_ticket config (entry ∷ h) f c.0) entry.answers t (within_none (length h) t entry.answers w (omega (arith, ge))) ∙ sym (within_none (length h) t entry.answers w (omega (arith, ge)))
+  | inr ge ↦ Rattle.call_model.proofs.PhaseStep.filter_none (λ c. own_ticket config (entry ∷ h) f c.0) entry.answers t (within_none (length h) t entry.answers w (omega (arith, ge)))
+      ∙ sym (within_none (length h) t entry.answers w (omega (arith, ge)))
 ]
 
-pub own_first_same : (config : Config) (h : List Entry) (entry : Entry) (f : ℕ) (P : ℕ → Bool) (t : ℕ) → IsWithin (length h) entry.answers → Agrees config (entry ∷ h) f P → P t ≡ true
+pub own_first_same : (config : Config) (h : List Entry) (entry : Entry) (f : ℕ) (P : ℕ → Bool) (t : ℕ)
+    → IsWithin (length h) entry.answers → Agrees config (entry ∷ h) f P → P t ≡ true
     → answer_in (first_part (own_entry true config h f entry)).answers t ≡ answer_in (first_part entry).answers t
 own_first_same config h entry f P t w a k =
     ap (λ xs. answer_in xs t) (swap_filter (λ c. not (is_second c.1)) (λ c. own_ticket config (entry ∷ h) f c.0) entry.answers)
@@ -108,7 +119,9 @@ poll_own config (entry ∷ h) f t q = go (t == length h) (poll_own config h f t)
     by_call (ExtNext d x) p = p
     by_call call p = absurd (true≢false (sym p))
 
-    go : (b : Bool) → (of_function config f (poll_env (call_of h t)) ≡ true → own_ticket config h f t ≡ true) → of_function config f (poll_env (if b then entry.call else call_of h t)) ≡ true → (if b then is_own config h f entry.call else own_ticket config h f t) ≡ true
+    go : (b : Bool) → (of_function config f (poll_env (call_of h t)) ≡ true → own_ticket config h f t ≡ true)
+        → of_function config f (poll_env (if b then entry.call else call_of h t)) ≡ true
+        → (if b then is_own config h f entry.call else own_ticket config h f t) ≡ true
     go true ih p = by_call entry.call p
     go false ih p = ih p
 
@@ -134,18 +147,22 @@ unfolding own
 own_requests_upto config [] f p = refl
 own_requests_upto config (entry ∷ h) f p = rw (own_length config h f) (go (nat_lt p (length h)) (own_requests_upto config h f p))
   where
-    go : (b : Bool) → requests (upto (own config h f) p) f ≡ requests (upto h p) f → requests (if b then upto (own config h f) p else own config (entry ∷ h) f) f ≡ requests (if b then upto h p else entry ∷ h) f
+    go : (b : Bool) → requests (upto (own config h f) p) f ≡ requests (upto h p) f
+        → requests (if b then upto (own config h f) p else own config (entry ∷ h) f) f ≡ requests (if b then upto h p else entry ∷ h) f
     go true ih = ih
     go false ih = own_requests config (entry ∷ h) f
 
 -- what is own stands in the own history as the entry with the answers to own tickets
-pub own_cons : (config : Config) (h : List Entry) (entry : Entry) (f : ℕ) → is_own config h f entry.call ≡ true → own config (entry ∷ h) f ≡ own_entry true config h f entry ∷ own config h f
+pub own_cons : (config : Config) (h : List Entry) (entry : Entry) (f : ℕ) → is_own config h f entry.call ≡ true
+    → own config (entry ∷ h) f ≡ own_entry true config h f entry ∷ own config h f
 unfolding own
 own_cons config h entry f w = ap (λ (b : Bool). own_entry b config h f entry ∷ own config h f) w
 
 -- an entry of others answers no ticket of the function
-pub others_silent : (config : Config) (h : List Entry) (entry : Entry) (f t : ℕ) → IsLegal config (entry ∷ h) → is_own config h f entry.call ≡ false → own_ticket config (entry ∷ h) f t ≡ true → answer_in entry.answers t ≡ None
+pub others_silent : (config : Config) (h : List Entry) (entry : Entry) (f t : ℕ) → IsLegal config (entry ∷ h)
+    → is_own config h f entry.call ≡ false → own_ticket config (entry ∷ h) f t ≡ true → answer_in entry.answers t ≡ None
 others_silent config h entry f t l w k = elim (eqb_tells t (length h)) [
   | inl p ↦ absurd (true≢false (sym (rw p.0 at k) ∙ w))
-  | inr p ↦ let mine : own_ticket config h f t ≡ true = rw p.0 at k in foreign_silent config h entry f t l.1 (own_old config h f t mine) (own_home config h f t l.0 mine) (foreign config h entry f l.1 w)
+  | inr p ↦ let mine : own_ticket config h f t ≡ true =
+      rw p.0 at k in foreign_silent config h entry f t l.1 (own_old config h f t mine) (own_home config h f t l.0 mine) (foreign config h entry f l.1 w)
 ]

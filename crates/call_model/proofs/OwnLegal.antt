@@ -1,10 +1,14 @@
 -- The function's own history is legal, save that at a Tick something may be due.
-use Rattle.std.proofs.Common.{◌≡◌, ℕ, ◌≤◌, Bool, true, false, List, [], ◌∷◌, Option, Some, None, sym, refl, ap, ◌∙◌, subst, inl, inr, ◌⊎◌, ◌||◌, ◌==◌, map, filter, true≢false, if◌then◌else◌}
+use Rattle.std.proofs.Common.{◌≡◌, ℕ, ◌≤◌, Bool, true, false, List, [], ◌∷◌, Option, Some, None, sym, refl, ap, ◌∙◌}
+use Rattle.std.proofs.Common.{subst, inl, inr, ◌⊎◌, ◌||◌, ◌==◌, map, filter, true≢false, if◌then◌else◌}
 use Rattle.std.proofs.lemmas.Bool.{eqb-true}
 use Rattle.call_types.specs.declared.answer.Answer.{Answer}
 use Rattle.call_types.specs.declared.answer.Answer.TheVariants.{Done}
 use Rattle.call_types.specs.declared.call.Call.{Call}
-use Rattle.call_types.specs.declared.call.Call.TheVariants.{Invoke, RuntimeNext, Response, ResponseTooLarge, Failure, InitFailure, Register, ExtNext, ExtInitFailure, ExtExitFailure, Tick, Withdraw, Spindown, Stop, Expire, Reserve}
+use Rattle.call_types.specs.declared.call.Call.TheVariants.{Invoke, RuntimeNext, Response, ResponseTooLarge, Failure}
+use Rattle.call_types.specs.declared.call.Call.TheVariants.{InitFailure, Register, ExtNext, ExtInitFailure}
+use Rattle.call_types.specs.declared.call.Call.TheVariants.{ExtExitFailure, Tick, Withdraw, Spindown, Stop, Expire}
+use Rattle.call_types.specs.declared.call.Call.TheVariants.{Reserve}
 use Rattle.call_types.specs.declared.call.Entry.{Entry}
 use Rattle.arn_ids.specs.declared.config.Config.{Config}
 use Rattle.arn_ids.specs.Environments.{function_of}
@@ -36,7 +40,9 @@ abbrev IsQuiet : List Entry → Lifecycle → Type 0
 IsQuiet o l = ((l ≡ record { phase = Starting None None; generation = [] }) × (stopped o ≡ false)) ⊎ (l.phase ≡ Off)
 
 -- of the function's calls only a Stop concerns it
-far_concerns : (config : Config) (h : List Entry) (entry : Entry) (f e : ℕ) → entry.place ≡ place_for config h entry.call → (function_of config e == f) ≡ false → is_own config h f entry.call ≡ true → concerns h e entry ≡ is_stop entry.call
+far_concerns : (config : Config) (h : List Entry) (entry : Entry) (f e : ℕ)
+    → entry.place ≡ place_for config h entry.call → (function_of config e == f) ≡ false
+    → is_own config h f entry.call ≡ true → concerns h e entry ≡ is_stop entry.call
 far_concerns config h entry f e pl far w = ap (λ (b : Bool). b || names h e entry.call) (not_placed (is_number entry.place e) refl) ∙ not_named entry.call w
   where
     not_placed : (b : Bool) → is_number entry.place e ≡ b → is_number entry.place e ≡ false
@@ -68,7 +74,9 @@ far_concerns config h entry f e pl far w = ap (λ (b : Bool). b || names h e ent
 abbrev stop_entry : ℕ → List (ℕ × Answer) → Option ℕ → Entry
 stop_entry now given pl = record { moment = now; call = Stop; answers = given; place = pl }
 
-first_stop : (config : Config) (o : List Entry) (e now : ℕ) (given : List (ℕ × Answer)) (pl : Option ℕ) → stopped o ≡ false → (after (visit_from config o e (stop_entry now given pl) (record { phase = Starting None None; generation = [] }))).phase ≡ Off
+first_stop : (config : Config) (o : List Entry) (e now : ℕ) (given : List (ℕ × Answer)) (pl : Option ℕ)
+    → stopped o ≡ false
+    → (after (visit_from config o e (stop_entry now given pl) (record { phase = Starting None None; generation = [] }))).phase ≡ Off
 unfolding after seen closes kept members
 first_stop config o e now given pl q = rw q refl
 
@@ -78,7 +86,8 @@ settled_off limit true false = refl
 settled_off limit false true = refl
 settled_off limit false false = refl
 
-stop_off : (config : Config) (o : List Entry) (e now : ℕ) (given : List (ℕ × Answer)) (pl : Option ℕ) (l : Lifecycle) → l.phase ≡ Off → (after (visit_from config o e (stop_entry now given pl) l)).phase ≡ Off
+stop_off : (config : Config) (o : List Entry) (e now : ℕ) (given : List (ℕ × Answer)) (pl : Option ℕ) (l : Lifecycle)
+    → l.phase ≡ Off → (after (visit_from config o e (stop_entry now given pl) l)).phase ≡ Off
 unfolding after seen closes kept
 stop_off config o e now given pl l q = rw cell (settled_off _ _ _)
   where
@@ -89,7 +98,8 @@ stop_off config o e now given pl l q = rw cell (settled_off _ _ _)
     cell : phase_by_table (visit_from config o e (stop_entry now given pl) l) ≡ Off
     cell = rw q (both (stopped o))
 
-quiet_step : (config : Config) (o : List Entry) (x : Entry) (e : ℕ) → concerns o e x ≡ is_stop x.call → IsQuiet o (life config o e) → IsQuiet (x ∷ o) (life config (x ∷ o) e)
+quiet_step : (config : Config) (o : List Entry) (x : Entry) (e : ℕ) → concerns o e x ≡ is_stop x.call
+    → IsQuiet o (life config o e) → IsQuiet (x ∷ o) (life config (x ∷ o) e)
 unfolding life lived
 quiet_step config o x e c ih = go x.call refl
   where
@@ -102,8 +112,11 @@ quiet_step config o x e c ih = go x.call refl
 
     kept_quiet : (b : Bool) → is_stop x.call ≡ b → IsQuiet (x ∷ o) (if_concerned b (visit config o e x))
     kept_quiet true q = inr (elim ih [
-      | inl new ↦ ap (λ z. (after (visit config o e z)).phase) (sym (stops (is_stopping x.call q))) ∙ ap (λ (l : Lifecycle). (after (visit_from config o e (stop_entry x.moment x.answers x.place) l)).phase) (new.0) ∙ first_stop config o e x.moment x.answers x.place (new.1)
-      | inr off ↦ ap (λ z. (after (visit config o e z)).phase) (sym (stops (is_stopping x.call q))) ∙ stop_off config o e x.moment x.answers x.place (life config o e) off
+      | inl new ↦ ap (λ z. (after (visit config o e z)).phase) (sym (stops (is_stopping x.call q)))
+          ∙ ap (λ (l : Lifecycle). (after (visit_from config o e (stop_entry x.moment x.answers x.place) l)).phase) (new.0)
+          ∙ first_stop config o e x.moment x.answers x.place (new.1)
+      | inr off ↦ ap (λ z. (after (visit config o e z)).phase) (sym (stops (is_stopping x.call q)))
+          ∙ stop_off config o e x.moment x.answers x.place (life config o e) off
     ])
     kept_quiet false q = stays ih
       where
@@ -114,17 +127,22 @@ quiet_step config o x e c ih = go x.call refl
     go : (call : Call) → x.call ≡ call → IsQuiet (x ∷ o) (if_concerned (concerns o e x) (visit config o e x))
     go call r = subst (λ b. IsQuiet (x ∷ o) (if_concerned b (visit config o e x))) (sym c) (kept_quiet (is_stop x.call) refl)
 
-quiet : (config : Config) (h : List Entry) (f e : ℕ) → IsLegal config h → (function_of config e == f) ≡ false → IsQuiet (own config h f) (life config (own config h f) e)
+quiet : (config : Config) (h : List Entry) (f e : ℕ) → IsLegal config h → (function_of config e == f) ≡ false
+    → IsQuiet (own config h f) (life config (own config h f) e)
 unfolding own life
 quiet config [] f e l far = inl (refl, refl)
 quiet config (entry ∷ h) f e l far = go (is_own config h f entry.call) refl (quiet config h f e l.0 far)
   where
-    go : (b : Bool) → is_own config h f entry.call ≡ b → IsQuiet (own config h f) (life config (own config h f) e) → IsQuiet (own_entry b config h f entry ∷ own config h f) (life config (own_entry b config h f entry ∷ own config h f) e)
-    go true w ih = quiet_step config (own config h f) (own_entry true config h f entry) e (ap (λ (b : Bool). is_number entry.place e || b) (own_names config h f e entry.call w) ∙ far_concerns config h entry f e (l.1.place) far w) ih
+    go : (b : Bool) → is_own config h f entry.call ≡ b → IsQuiet (own config h f) (life config (own config h f) e)
+        → IsQuiet (own_entry b config h f entry ∷ own config h f) (life config (own_entry b config h f entry ∷ own config h f) e)
+    go true w ih =
+        quiet_step config (own config h f) (own_entry true config h f entry) e
+        (ap (λ (b : Bool). is_number entry.place e || b) (own_names config h f e entry.call w) ∙ far_concerns config h entry f e (l.1.place) far w) ih
     go false w ih = quiet_step config (own config h f) (own_entry false config h f entry) e refl ih
 
 -- no environment of others has a deadline there
-pub no_deadline : (config : Config) (h : List Entry) (f e : ℕ) → IsLegal config h → (function_of config e == f) ≡ false → deadline_of (phase config (own config h f) e) ≡ None
+pub no_deadline : (config : Config) (h : List Entry) (f e : ℕ) → IsLegal config h → (function_of config e == f) ≡ false
+    → deadline_of (phase config (own config h f) e) ≡ None
 no_deadline config h f e l far = elim (quiet config h f e l far) [
   | inl new ↦ ap (λ (m : Lifecycle). deadline_of m.phase) (new.0)
   | inr off ↦ ap deadline_of off
@@ -141,11 +159,13 @@ part_due config h f m l (e ∷ es) = go (function_of config e == f) refl (part_d
     rest : List (ℕ × ℕ)
     rest = filter_map (λ d. due_at m d (deadline_of (phase config h d))) es
 
-    here : (o : Option ℕ) → (function_of config e == f) ≡ true → cons_option (due_at m e o) (filter (of_f config f) rest) ≡ filter (of_f config f) (cons_option (due_at m e o) rest)
+    here : (o : Option ℕ) → (function_of config e == f) ≡ true
+        → cons_option (due_at m e o) (filter (of_f config f) rest) ≡ filter (of_f config f) (cons_option (due_at m e o) rest)
     here None q = refl
     here (Some d) q = both (nat_le d m)
       where
-        both : (c : Bool) → cons_option (if c then Some (d, e) else None) (filter (of_f config f) rest) ≡ filter (of_f config f) (cons_option (if c then Some (d, e) else None) rest)
+        both : (c : Bool)
+            → cons_option (if c then Some (d, e) else None) (filter (of_f config f) rest) ≡ filter (of_f config f) (cons_option (if c then Some (d, e) else None) rest)
         both true = rw q refl
         both false = refl
 
@@ -157,29 +177,41 @@ part_due config h f m l (e ∷ es) = go (function_of config e == f) refl (part_d
         both true = rw q refl
         both false = refl
 
-    go : (b : Bool) → (function_of config e == f) ≡ b → filter_map (λ d. due_at m d (deadline_of (phase config (own config h f) d))) es ≡ filter (of_f config f) rest
+    go : (b : Bool) → (function_of config e == f) ≡ b
+        → filter_map (λ d. due_at m d (deadline_of (phase config (own config h f) d))) es ≡ filter (of_f config f) rest
         → cons_option (due_at m e (deadline_of (phase config (own config h f) e))) (filter_map (λ d. due_at m d (deadline_of (phase config (own config h f) d))) es) ≡ filter (of_f config f) (cons_option (due_at m e (deadline_of (phase config h e))) rest)
-    go true q ih = (λ i. cons_option (due_at m e (deadline_of (own_phase config h f e l (eqb-true (function_of config e) f q) i))) (ih i)) ∙ here (deadline_of (phase config h e)) q
+    go true q ih =
+        (λ i. cons_option (due_at m e (deadline_of (own_phase config h f e l (eqb-true (function_of config e) f q) i))) (ih i))
+        ∙ here (deadline_of (phase config h e)) q
     go false q ih = (λ i. cons_option (due_at m e (no_deadline config h f e l q i)) (ih i)) ∙ there (deadline_of (phase config h e)) q
 
 -- What is due alone is what is due of the function's environments.
-pub own_due : (config : Config) (h : List Entry) (f m : ℕ) → IsLegal config h → due config (own config h f) m ≡ map (λ a. a.1) (filter (of_f config f) (by_deadline (filter_map (λ e. due_at m e (deadline_of (phase config h e))) (environments config))))
+pub own_due : (config : Config) (h : List Entry) (f m : ℕ) → IsLegal config h
+    → due config (own config h f) m ≡ map (λ a. a.1) (filter (of_f config f) (by_deadline (filter_map (λ e. due_at m e (deadline_of (phase config h e))) (environments config))))
 unfolding due
-own_due config h f m l = ap (λ xs. map (λ (a : ℕ × ℕ). a.1) (by_deadline xs)) (part_due config h f m l (environments config)) ∙ ap (map (λ (a : ℕ × ℕ). a.1)) (filter_deadline (of_f config f) _)
+own_due config h f m l =
+    ap (λ xs. map (λ (a : ℕ × ℕ). a.1) (by_deadline xs)) (part_due config h f m l (environments config))
+    ∙ ap (map (λ (a : ℕ × ℕ). a.1)) (filter_deadline (of_f config f) _)
 
-own_timely : (config : Config) (h : List Entry) (f m : ℕ) (call : Call) → IsLegal config h → is_own config h f call ≡ true → IsTimely m call (due config h m) → IsTimelySave m call (due config (own config h f) m)
+own_timely : (config : Config) (h : List Entry) (f m : ℕ) (call : Call) → IsLegal config h
+    → is_own config h f call ≡ true → IsTimely m call (due config h m)
+    → IsTimelySave m call (due config (own config h f) m)
 unfolding due
-own_timely config h f m call l w t = subst (IsTimelySave m call) (sym (own_due config h f m l)) (go call w (by_deadline (filter_map (λ e. due_at m e (deadline_of (phase config h e))) (environments config))) t)
+own_timely config h f m call l w t =
+    subst (IsTimelySave m call) (sym (own_due config h f m l))
+    (go call w (by_deadline (filter_map (λ e. due_at m e (deadline_of (phase config h e))) (environments config))) t)
   where
     none : (xs : List (ℕ × ℕ)) → map (λ a. a.1) xs ≡ [] → map (λ a. a.1) (filter (of_f config f) xs) ≡ []
     none [] q = refl
     none (a ∷ rest) q = absurd (cc)
 
-    first_own : (e : ℕ) → (function_of config e == f) ≡ true → (xs : List (ℕ × ℕ)) → first (map (λ a. a.1) xs) ≡ Some e → first (map (λ a. a.1) (filter (of_f config f) xs)) ≡ Some e
+    first_own : (e : ℕ) → (function_of config e == f) ≡ true → (xs : List (ℕ × ℕ)) → first (map (λ a. a.1) xs) ≡ Some e
+        → first (map (λ a. a.1) (filter (of_f config f) xs)) ≡ Some e
     first_own e q [] k = k
     first_own e q (a ∷ rest) k = let same : a.1 ≡ e = cc in rw (ap (λ (n : ℕ). function_of config n == f) same ∙ q) k
 
-    go : (call : Call) → is_own config h f call ≡ true → (xs : List (ℕ × ℕ)) → IsTimely m call (map (λ a. a.1) xs) → IsTimelySave m call (map (λ a. a.1) (filter (of_f config f) xs))
+    go : (call : Call) → is_own config h f call ≡ true → (xs : List (ℕ × ℕ)) → IsTimely m call (map (λ a. a.1) xs)
+        → IsTimelySave m call (map (λ a. a.1) (filter (of_f config f) xs))
     go Tick q xs k = tt
     go (Expire e) q xs k = first_own e q xs k
     go call q xs k = none xs k
@@ -194,7 +226,8 @@ own_moment config (entry ∷ h) f = go (is_own config h f entry.call)
     go false = refl
 
 -- The function's own history is legal, save that at a Tick something may be due.
-pub own_legal : (config : Config) (h : List Entry) (f limit : ℕ) → IsLegal config h → (function_at config f).reserved ≡ Some limit → IsUnnamed f h → IsLegalSave config (own config h f)
+pub own_legal : (config : Config) (h : List Entry) (f limit : ℕ) → IsLegal config h
+    → (function_at config f).reserved ≡ Some limit → IsUnnamed f h → IsLegalSave config (own config h f)
 unfolding own
 own_legal config [] f limit l r u = tt
 own_legal config (entry ∷ h) f limit l r u = (own_legal config h f limit l.0 r u.0, go (is_own config h f entry.call) refl)

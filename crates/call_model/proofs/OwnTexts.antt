@@ -1,11 +1,15 @@
 -- The tickets that an answer's text is made of are the function's own.
-use Rattle.std.proofs.Common.{◌≡◌, ℕ, suc, ◌+◌, ◌<◌, Bool, true, false, List, [], ◌∷◌, length, Option, Some, None, sym, refl, ap, ◌∙◌, subst, arith, not, ◌&&◌, ◌==◌, true≢false, if◌then◌else◌}
+use Rattle.std.proofs.Common.{◌≡◌, ℕ, suc, ◌+◌, ◌<◌, Bool, true, false, List, [], ◌∷◌, length, Option, Some, None, sym}
+use Rattle.std.proofs.Common.{refl, ap, ◌∙◌, subst, arith, not, ◌&&◌, ◌==◌, true≢false, if◌then◌else◌}
 use Rattle.std.proofs.lemmas.Bool.{eqb-true}
 use Rattle.call_types.specs.declared.answer.Answer.{Answer}
 use Rattle.call_types.specs.declared.answer.Answer.TheVariants.{Ending, TimedOut, InitTimedOut, Stopped, OutputTooLarge, Told, Withdrawn}
 use Rattle.call_types.specs.declared.answer.Phase.{Phase}
 use Rattle.call_types.specs.declared.call.Call.{Call}
-use Rattle.call_types.specs.declared.call.Call.TheVariants.{Invoke, RuntimeNext, Response, ResponseTooLarge, Failure, InitFailure, Register, ExtNext, ExtInitFailure, ExtExitFailure, Tick, Withdraw, Spindown, Stop, Expire, Reserve}
+use Rattle.call_types.specs.declared.call.Call.TheVariants.{Invoke, RuntimeNext, Response, ResponseTooLarge, Failure}
+use Rattle.call_types.specs.declared.call.Call.TheVariants.{InitFailure, Register, ExtNext, ExtInitFailure}
+use Rattle.call_types.specs.declared.call.Call.TheVariants.{ExtExitFailure, Tick, Withdraw, Spindown, Stop, Expire}
+use Rattle.call_types.specs.declared.call.Call.TheVariants.{Reserve}
 use Rattle.call_types.specs.declared.call.Entry.{Entry}
 use Rattle.arn_ids.specs.declared.config.Config.{Config}
 use Rattle.arn_ids.specs.Environments.{function_of}
@@ -15,7 +19,9 @@ use Rattle.call_model.specs.Generation.{Member}
 use Rattle.call_model.specs.Stand.{Stand, at_hand, role, Role, NoRole, Waiting, RuntimePoll, ExtensionPoll}
 use Rattle.call_model.specs.Table.{closes, own_answer, refused, to_waiting}
 use Rattle.call_model.specs.Life.{phase, stand, names}
-use Rattle.call_model.specs.Answers.{answers, each_from, answer_to, home, first_answer, first_answers, second_answer, second_at, own_first, other_answer, answer_at, verdict_answer, reserve_answer, with_event}
+use Rattle.call_model.specs.Answers.{answers, each_from, answer_to, home, first_answer, first_answers, second_answer}
+use Rattle.call_model.specs.Answers.{second_at, own_first, other_answer, answer_at, verdict_answer, reserve_answer}
+use Rattle.call_model.specs.Answers.{with_event}
 use Rattle.call_model.specs.Limits.{verdict, Verdict, Admits, AfterStop, Refuses}
 use Rattle.call_types.specs.declared.answer.Phase.TheVariants.{Busy}
 use Rattle.call_types.specs.declared.answer.Rejection.TheVariants.{Container, Replaced}
@@ -57,7 +63,8 @@ mute_reserve : (config : Config) (h : List Entry) (f : ℕ) (count : Option ℕ)
 mute_reserve config h f None = refl
 mute_reserve config h f (Some count) = go _
   where
-    go : (b : Bool) → named (if b then Rattle.call_types.specs.declared.answer.Answer.TheVariants.Refused Rattle.call_types.specs.declared.answer.Rejection.TheVariants.BadReservation else Rattle.call_types.specs.declared.answer.Answer.TheVariants.Reserved count) ≡ None
+    go : (b : Bool)
+        → named (if b then Rattle.call_types.specs.declared.answer.Answer.TheVariants.Refused Rattle.call_types.specs.declared.answer.Rejection.TheVariants.BadReservation else Rattle.call_types.specs.declared.answer.Answer.TheVariants.Reserved count) ≡ None
     go true = refl
     go false = refl
 
@@ -96,7 +103,9 @@ of_self n p q = cc
 
 of_waiting : (n : ℕ) (s : Stand) (call : Call) → IsOf n (to_waiting n s call)
 of_waiting n s call =
-    waiting_values (IsOf n) n s (of_mute n None refl) (λ p q. of_self n p q) (of_mute n (Some OutputTooLarge) refl) (λ p q. of_self n p q) (of_mute n (Some InitTimedOut) refl) (of_mute n (Some TimedOut) refl) (of_mute n (Some Stopped) refl) call
+    waiting_values (IsOf n) n s (of_mute n None refl) (λ p q. of_self n p q) (of_mute n (Some OutputTooLarge) refl)
+    (λ p q. of_self n p q) (of_mute n (Some InitTimedOut) refl) (of_mute n (Some TimedOut) refl)
+    (of_mute n (Some Stopped) refl) call
 
 mute_or : (a b : Option Answer) → IsMute a → IsMute b → IsMute (or_else a b)
 mute_or None b p q = q
@@ -108,7 +117,10 @@ mute_close_runtime now (Some reason) call = refl
 
 mute_close_member : (now : ℕ) (c : Option Reason) (call : Call) (x : Member) → IsMute (at_close now c call (ExtensionPoll x))
 mute_close_member now None call x = refl
-mute_close_member now (Some reason) call x = mute_if (Rattle.call_model.specs.Generation.hears_end x && not (Rattle.call_model.specs.Generation.reports_exit x.extension.count call)) (Some (Ending reason (now + 2000) 0)) (refused Container) refl refl
+mute_close_member now (Some reason) call x =
+    mute_if
+    (Rattle.call_model.specs.Generation.hears_end x && not (Rattle.call_model.specs.Generation.reports_exit x.extension.count call))
+    (Some (Ending reason (now + 2000) 0)) (refused Container) refl refl
 
 mute_replaced_runtime : (t : ℕ) (call : Call) → IsMute (replaced t call RuntimePoll)
 mute_replaced_runtime t (RuntimeNext e) = refl
@@ -123,8 +135,12 @@ mute_replaced_member t call x = refl
 of_role : (n now : ℕ) (s : Stand) (call : Call) (t : ℕ) (r : Role) → IsOf n (by_role n now s call t r)
 of_role n now s call t NoRole = of_mute n None refl
 of_role n now s call t Waiting = of_waiting n s call
-of_role n now s call t RuntimePoll = of_mute n (or_else (at_close now (closes s call) call RuntimePoll) (replaced t call RuntimePoll)) (mute_or (at_close now (closes s call) call RuntimePoll) (replaced t call RuntimePoll) (mute_close_runtime now (closes s call) call) (mute_replaced_runtime t call))
-of_role n now s call t (ExtensionPoll x) = of_mute n (or_else (at_close now (closes s call) call (ExtensionPoll x)) (replaced t call (ExtensionPoll x))) (mute_or (at_close now (closes s call) call (ExtensionPoll x)) (replaced t call (ExtensionPoll x)) (mute_close_member now (closes s call) call x) (mute_replaced_member t call x))
+of_role n now s call t RuntimePoll =
+    of_mute n (or_else (at_close now (closes s call) call RuntimePoll) (replaced t call RuntimePoll))
+    (mute_or (at_close now (closes s call) call RuntimePoll) (replaced t call RuntimePoll) (mute_close_runtime now (closes s call) call) (mute_replaced_runtime t call))
+of_role n now s call t (ExtensionPoll x) =
+    of_mute n (or_else (at_close now (closes s call) call (ExtensionPoll x)) (replaced t call (ExtensionPoll x)))
+    (mute_or (at_close now (closes s call) call (ExtensionPoll x)) (replaced t call (ExtensionPoll x)) (mute_close_member now (closes s call) call x) (mute_replaced_member t call x))
 
 -- the first answers are made of the entry's own call only
 pub of_first : (config : Config) (h : List Entry) (now : ℕ) (call : Call) (t : ℕ) → IsOf (length h) (first_answer config h now call t)
@@ -162,7 +178,8 @@ delivered_number (Some b) (ExtensionPoll x) p e = go x.extension.invoke e
 delivered_number b r p e = absurd (some-none (sym e))
 
 -- what a Busy that begins delivers is the function's
-second_mine : (config : Config) (h : List Entry) (entry : Entry) (f t p : ℕ) → IsLegal config (entry ∷ h) → is_own config h f entry.call ≡ true → own_ticket config (entry ∷ h) f t ≡ true
+second_mine : (config : Config) (h : List Entry) (entry : Entry) (f t p : ℕ) → IsLegal config (entry ∷ h)
+    → is_own config h f entry.call ≡ true → own_ticket config (entry ∷ h) f t ≡ true
     → names_of (second_answer config h (first_of config h entry) t) ≡ Some p → own_ticket config (entry ∷ h) f p ≡ true
 unfolding second_answer
 second_mine config h entry f t p l w k e = go (home (y ∷ h) t) mine e
@@ -171,9 +188,12 @@ second_mine config h entry f t p l w k e = go (home (y ∷ h) t) mine e
     y = first_of config h entry
 
     mine : (d : ℕ) → home (y ∷ h) t ≡ Some d → function_of config d ≡ f
-    mine d q = own_home config (entry ∷ h) f t l k d (ap (λ (n : Option ℕ). or_else (if t == length h then n else place_of h t) (env_of (if t == length h then entry.call else call_of h t))) (l.1.place) ∙ q)
+    mine d q =
+        own_home config (entry ∷ h) f t l k d
+        (ap (λ (n : Option ℕ). or_else (if t == length h then n else place_of h t) (env_of (if t == length h then entry.call else call_of h t))) (l.1.place) ∙ q)
 
-    go : (o : Option ℕ) → ((d : ℕ) → o ≡ Some d → function_of config d ≡ f) → names_of (second_at config h y t o) ≡ Some p → own_ticket config (entry ∷ h) f p ≡ true
+    go : (o : Option ℕ) → ((d : ℕ) → o ≡ Some d → function_of config d ≡ f)
+        → names_of (second_at config h y t o) ≡ Some p → own_ticket config (entry ∷ h) f p ≡ true
     go None at q = absurd (some-none (sym q))
     go (Some d) at q = (same_fit config h y f d l.0 (first_fit config h entry.moment entry.call) w (at d refl)).1 p
         (begun_hand (phase config h d) (phase config (y ∷ h) d) p (delivered_number (begun (phase config h d) (phase config (y ∷ h) d)) (role (stand config (y ∷ h) d) t) p q))
@@ -183,10 +203,13 @@ keeps_named n (Told p d event) = refl
 keeps_named n (Ending reason until event) = refl
 keeps_named n a = refl
 
-named_now : (config : Config) (h : List Entry) (entry : Entry) (f t p : ℕ) → IsLegal config (entry ∷ h) → is_own config h f entry.call ≡ true → own_ticket config (entry ∷ h) f t ≡ true
+named_now : (config : Config) (h : List Entry) (entry : Entry) (f t p : ℕ) → IsLegal config (entry ∷ h)
+    → is_own config h f entry.call ≡ true → own_ticket config (entry ∷ h) f t ≡ true
     → names_of (answer_in entry.answers t) ≡ Some p → own_ticket config (entry ∷ h) f p ≡ true
 unfolding answers answer_to first_answers
-named_now config h entry f t p l w k e = go (first_answer config h entry.moment entry.call t) refl (sym (ap (λ (a : Option Answer). names_of (or_else a (second_answer config h y t))) firsts) ∙ sym whole ∙ e)
+named_now config h entry f t p l w k e =
+    go (first_answer config h entry.moment entry.call t) refl
+    (sym (ap (λ (a : Option Answer). names_of (or_else a (second_answer config h y t))) firsts) ∙ sym whole ∙ e)
   where
     y : Entry
     y = first_of config h entry
@@ -202,12 +225,15 @@ named_now config h entry f t p l w k e = go (first_answer config h entry.moment 
         ∙ numbered_keeps named keeps_named None h y [] (each_from 0 (suc (length h)) (answer_to config h y)) t
         ∙ ap names_of (in_each 0 (suc (length h)) t (answer_to config h y) (omega arith) (omega (arith, old)))
 
-    go : (a : Option Answer) → first_answer config h entry.moment entry.call t ≡ a → names_of (or_else a (second_answer config h y t)) ≡ Some p → own_ticket config (entry ∷ h) f p ≡ true
+    go : (a : Option Answer) → first_answer config h entry.moment entry.call t ≡ a
+        → names_of (or_else a (second_answer config h y t)) ≡ Some p → own_ticket config (entry ∷ h) f p ≡ true
     go None r q = second_mine config h entry f t p l w k q
-    go (Some a) r q = subst (λ n. own_ticket config (entry ∷ h) f n ≡ true) (of_first config h entry.moment entry.call t p (ap names_of r ∙ q)) (rw (eqb-self (length h)) w)
+    go (Some a) r q =
+        subst (λ n. own_ticket config (entry ∷ h) f n ≡ true) (of_first config h entry.moment entry.call t p (ap names_of r ∙ q)) (rw (eqb-self (length h)) w)
 
 -- What an answer to the function is made of is the function's.
-pub named_own : (config : Config) (h : List Entry) (f t p : ℕ) (a : Answer) → IsLegal config h → own_ticket config h f t ≡ true → answer_of h t ≡ Some a → named a ≡ Some p → own_ticket config h f p ≡ true
+pub named_own : (config : Config) (h : List Entry) (f t p : ℕ) (a : Answer) → IsLegal config h
+    → own_ticket config h f t ≡ true → answer_of h t ≡ Some a → named a ≡ Some p → own_ticket config h f p ≡ true
 named_own config [] f t p a l k q n = absurd (true≢false (sym k))
 named_own config (entry ∷ h) f t p a l k q n = go (answer_in entry.answers t) refl (named_own config h f t p a l.0) q
   where
@@ -218,10 +244,13 @@ named_own config (entry ∷ h) f t p a l k q n = go (answer_in entry.answers t) 
     older : own_ticket config h f p ≡ true → own_ticket config (entry ∷ h) f p ≡ true
     older m = rw (eqb-other p (length h) (let lt : p < length h = own_old config h f p m in omega (arith, lt))) m
 
-    before : answer_of h t ≡ Some a → (b : Bool) → (t == length h) ≡ b → (if b then is_own config h f entry.call else own_ticket config h f t) ≡ true → own_ticket config h f t ≡ true
+    before : answer_of h t ≡ Some a → (b : Bool) → (t == length h) ≡ b
+        → (if b then is_own config h f entry.call else own_ticket config h f t) ≡ true → own_ticket config h f t ≡ true
     before r true s m = let same : t ≡ length h = eqb-true t (length h) s in absurd (some-none (sym r ∙ fresh config h t l.0 (omega (arith, same))))
     before r false s m = m
 
-    go : (x : Option Answer) → answer_in entry.answers t ≡ x → (own_ticket config h f t ≡ true → answer_of h t ≡ Some a → named a ≡ Some p → own_ticket config h f p ≡ true) → or_else x (answer_of h t) ≡ Some a → own_ticket config (entry ∷ h) f p ≡ true
+    go : (x : Option Answer) → answer_in entry.answers t ≡ x
+        → (own_ticket config h f t ≡ true → answer_of h t ≡ Some a → named a ≡ Some p → own_ticket config h f p ≡ true)
+        → or_else x (answer_of h t) ≡ Some a → own_ticket config (entry ∷ h) f p ≡ true
     go (Some b) r ih m = now (ap names_of (r ∙ m) ∙ n) (is_own config h f entry.call) refl
     go None r ih m = older (ih (before m (t == length h) refl k) m n)

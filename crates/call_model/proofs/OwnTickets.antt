@@ -1,5 +1,7 @@
 -- The tickets of a function, their answers and what is pending of them are those that it would have alone.
-use Rattle.std.proofs.Common.{◌≡◌, ℕ, suc, ◌<◌, Bool, true, false, eqb, List, [], ◌∷◌, length, Option, Some, None, sym, refl, ap, ◌∙◌, inl, inr, arith, ◌≢◌, ◌||◌, ◌==◌, filter, true≢false, if◌then◌else◌, ◌≤◌, ap₂, subst, ◌&&◌, nat_le}
+use Rattle.std.proofs.Common.{◌≡◌, ℕ, suc, ◌<◌, Bool, true, false, eqb, List, [], ◌∷◌, length, Option, Some, None, sym}
+use Rattle.std.proofs.Common.{refl, ap, ◌∙◌, inl, inr, arith, ◌≢◌, ◌||◌, ◌==◌, filter, true≢false, if◌then◌else◌, ◌≤◌}
+use Rattle.std.proofs.Common.{ap₂, subst, ◌&&◌, nat_le}
 use Rattle.std.proofs.lemmas.Bool.Decides.{eqb_tells, nat_tests}
 use Rattle.call_types.specs.declared.answer.Answer.{Answer}
 use Rattle.call_types.specs.declared.answer.Phase.{Phase}
@@ -20,10 +22,15 @@ use Rattle.call_model.proofs.Basics.{and_left, number_some, some-none}
 use Rattle.call_model.proofs.Elsewhere.{elsewhere, nowhere}
 use Rattle.std.proofs.lemmas.Bool.{eqb-true}
 use Rattle.std.specs.List.{find}
-use Rattle.call_types.specs.declared.call.Call.TheVariants.{Invoke, RuntimeNext, Response, ResponseTooLarge, Failure, InitFailure, Register, ExtNext, ExtInitFailure, ExtExitFailure, Tick, Withdraw, Spindown, Stop, Expire, Reserve}
+use Rattle.call_types.specs.declared.call.Call.TheVariants.{Invoke, RuntimeNext, Response, ResponseTooLarge, Failure}
+use Rattle.call_types.specs.declared.call.Call.TheVariants.{InitFailure, Register, ExtNext, ExtInitFailure}
+use Rattle.call_types.specs.declared.call.Call.TheVariants.{ExtExitFailure, Tick, Withdraw, Spindown, Stop, Expire}
+use Rattle.call_types.specs.declared.call.Call.TheVariants.{Reserve}
 use Rattle.call_types.specs.declared.answer.Throttle.{Throttle}
 use Rattle.call_types.specs.declared.answer.Throttle.TheVariants.{Function as ByFunction, Account as ByAccount}
-use Rattle.call_model.specs.Limits.{place_for, place, lowest, is_free_starting, is_free_closing, verdict, AfterStop, Refuses, admitted_to, by_limits, where_placed, reservation, in_flight, remainder, unreserved_in_flight}
+use Rattle.call_model.specs.Limits.{place_for, place, lowest, is_free_starting, is_free_closing, verdict, AfterStop}
+use Rattle.call_model.specs.Limits.{Refuses, admitted_to, by_limits, where_placed, reservation, in_flight, remainder}
+use Rattle.call_model.specs.Limits.{unreserved_in_flight}
 use Rattle.call_model.proofs.PhaseStep.{filter_none}
 
 pub own_length : (config : Config) (h : List Entry) (f : ℕ) → length (own config h f) ≡ length h
@@ -41,7 +48,8 @@ own_call config (entry ∷ h) f t k = rw (own_length config h f) (go (t == lengt
     kept true q = refl
     kept false q = absurd (true≢false (sym q))
 
-    go : (b : Bool) → (own_ticket config h f t ≡ true → call_of (own config h f) t ≡ call_of h t) → (if b then is_own config h f entry.call else own_ticket config h f t) ≡ true
+    go : (b : Bool) → (own_ticket config h f t ≡ true → call_of (own config h f) t ≡ call_of h t)
+        → (if b then is_own config h f entry.call else own_ticket config h f t) ≡ true
         → (if b then (own_entry (is_own config h f entry.call) config h f entry).call else call_of (own config h f) t) ≡ (if b then entry.call else call_of h t)
     go true ih q = kept (is_own config h f entry.call) q
     go false ih q = ih q
@@ -55,7 +63,8 @@ filtered p (a ∷ rest) t k =
       | inr q ↦ rw q.0 (go q.0 (p a.0) (filtered p rest t k))
     ]
   where
-    go : eqb a.0 t ≡ false → (b : Bool) → answer_in (filter (λ c. p c.0) rest) t ≡ answer_in rest t → answer_in (if b then a ∷ filter (λ c. p c.0) rest else filter (λ c. p c.0) rest) t ≡ answer_in rest t
+    go : eqb a.0 t ≡ false → (b : Bool) → answer_in (filter (λ c. p c.0) rest) t ≡ answer_in rest t
+        → answer_in (if b then a ∷ filter (λ c. p c.0) rest else filter (λ c. p c.0) rest) t ≡ answer_in rest t
     go q true ih = rw q ih
     go q false ih = ih
 
@@ -68,12 +77,14 @@ abbrev pub IsForeign : Config → List Entry → ℕ → Entry → Type 0
 IsForeign config h f entry = (e : ℕ) → function_of config e ≡ f → concerns h e entry ≡ false
 
 -- such an entry answers no ticket of the function
-pub foreign_silent : (config : Config) (h : List Entry) (entry : Entry) (f t : ℕ) → Follows config h entry → t < length h → IsHome config f (home h t) → IsForeign config h f entry → answer_in entry.answers t ≡ None
+pub foreign_silent : (config : Config) (h : List Entry) (entry : Entry) (f t : ℕ) → Follows config h entry
+    → t < length h → IsHome config f (home h t) → IsForeign config h f entry → answer_in entry.answers t ≡ None
 foreign_silent config h entry f t w lt at foreign = rw (w.answers) (go (home h t) refl)
   where
     go : (o : Option ℕ) → home h t ≡ o → answer_in (answers config h entry.moment entry.call) t ≡ None
     go None q = nowhere config h entry.moment entry.call t lt q
-    go (Some e) q = elsewhere config h entry.moment entry.call t e lt q (ap (λ (o : Option ℕ). is_number o e || names h e entry.call) (sym (w.place)) ∙ foreign e (at e q))
+    go (Some e) q =
+        elsewhere config h entry.moment entry.call t e lt q (ap (λ (o : Option ℕ). is_number o e || names h e entry.call) (sym (w.place)) ∙ foreign e (at e q))
 
 pub find_passes : (p : ℕ → Bool) (xs : List ℕ) (e : ℕ) → find p xs ≡ Some e → p e ≡ true
 find_passes p [] e q = absurd (some-none (sym q))
@@ -84,14 +95,17 @@ find_passes p (x ∷ xs) e q = go (p x) refl (find_passes p xs e) q
     go false k ih r = ih r
 
 lowest_function : (config : Config) (h : List Entry) (f : ℕ) (passes : Phase → Bool) (e : ℕ) → lowest config h f passes ≡ Some e → function_of config e ≡ f
-lowest_function config h f passes e q = eqb-true (function_of config e) f (and_left (function_of config e == f) (passes (phase config h e)) (find_passes (λ d. (function_of config d == f) && passes (phase config h d)) (environments config) e q))
+lowest_function config h f passes e q =
+    eqb-true (function_of config e) f
+    (and_left (function_of config e == f) (passes (phase config h e)) (find_passes (λ d. (function_of config d == f) && passes (phase config h d)) (environments config) e q))
 
 -- an Invoke is placed in an environment of its function
 place_function : (config : Config) (h : List Entry) (f e : ℕ) → place config h f ≡ Some e → function_of config e ≡ f
 unfolding place
 place_function config h f e q = go (lowest config h f is_idle) refl (lowest config h f is_free_starting) refl q
   where
-    go : (a : Option ℕ) → lowest config h f is_idle ≡ a → (b : Option ℕ) → lowest config h f is_free_starting ≡ b → or_else a (or_else b (lowest config h f is_free_closing)) ≡ Some e → function_of config e ≡ f
+    go : (a : Option ℕ) → lowest config h f is_idle ≡ a → (b : Option ℕ) → lowest config h f is_free_starting ≡ b
+        → or_else a (or_else b (lowest config h f is_free_closing)) ≡ Some e → function_of config e ≡ f
     go (Some a) p b r k = lowest_function config h f is_idle e (p ∙ k)
     go None p (Some b) r k = lowest_function config h f is_free_starting e (r ∙ k)
     go None p None r k = lowest_function config h f is_free_closing e k
@@ -117,13 +131,16 @@ admits_function : (config : Config) (h : List Entry) (f e : ℕ) → admitted_to
 admits_function config h f e q = place_function config h f e (admits_place config h f e q)
 
 -- what a legal entry concerns: its Invoke's environment is one of the Invoke's function
-pub placed_function : (config : Config) (h : List Entry) (call : Call) (f e : ℕ) → place_for config h call ≡ Some e → is_own config h f call ≡ (function_of config e == f)
+pub placed_function : (config : Config) (h : List Entry) (call : Call) (f e : ℕ) → place_for config h call ≡ Some e
+    → is_own config h f call ≡ (function_of config e == f)
 placed_function config h (Invoke g qualified trace body) f e q = ap (λ (n : ℕ). n == f) (sym (admits_function config h g e q))
 placed_function config h call f e q = absurd (some-none (sym q))
 
 -- an entry of others concerns no environment of the function
-pub foreign : (config : Config) (h : List Entry) (entry : Entry) (f : ℕ) → Follows config h entry → is_own config h f entry.call ≡ false → IsForeign config h f entry
-foreign config h entry f w k e at = no_either (is_number entry.place e) (names h e entry.call) (not_placed (is_number entry.place e) refl) (not_named entry.call k)
+pub foreign : (config : Config) (h : List Entry) (entry : Entry) (f : ℕ) → Follows config h entry
+    → is_own config h f entry.call ≡ false → IsForeign config h f entry
+foreign config h entry f w k e at =
+    no_either (is_number entry.place e) (names h e entry.call) (not_placed (is_number entry.place e) refl) (not_named entry.call k)
   where
     no_either : (a b : Bool) → a ≡ false → b ≡ false → (a || b) ≡ false
     no_either true b p q = p
@@ -191,7 +208,8 @@ own_home config (entry ∷ h) f t l k = go (t == length h) (own_home config h f 
     by_call (Spindown d) p = by_env (Some d) p
     by_call (Expire d) p = by_env (Some d) p
 
-    go : (b : Bool) → (own_ticket config h f t ≡ true → IsHome config f (home h t)) → (if b then is_own config h f entry.call else own_ticket config h f t) ≡ true
+    go : (b : Bool) → (own_ticket config h f t ≡ true → IsHome config f (home h t))
+        → (if b then is_own config h f entry.call else own_ticket config h f t) ≡ true
         → IsHome config f (or_else (if b then entry.place else place_of h t) (env_of (if b then entry.call else call_of h t)))
     go true ih p = subst (λ (o : Option ℕ). IsHome config f (or_else o (env_of entry.call))) (sym (l.1.place)) (by_call entry.call p)
     go false ih p = ih p
@@ -217,18 +235,23 @@ pub own_old : (config : Config) (h : List Entry) (f t : ℕ) → own_ticket conf
 own_old config [] f t k = absurd (true≢false (sym k))
 own_old config (entry ∷ h) f t k = go (t == length h) refl (own_old config h f t) k
   where
-    go : (b : Bool) → (t == length h) ≡ b → (own_ticket config h f t ≡ true → t < length h) → (if b then is_own config h f entry.call else own_ticket config h f t) ≡ true → t < suc (length h)
+    go : (b : Bool) → (t == length h) ≡ b → (own_ticket config h f t ≡ true → t < length h)
+        → (if b then is_own config h f entry.call else own_ticket config h f t) ≡ true → t < suc (length h)
     go true q ih p = let same : t ≡ length h = eqb-true t (length h) q in omega (arith, same)
     go false q ih p = omega (arith, ih p)
 
 -- the function's tickets have the same answers in its own history
-pub own_answer_of : (config : Config) (h : List Entry) (f t : ℕ) → IsLegal config h → own_ticket config h f t ≡ true → answer_of (own config h f) t ≡ answer_of h t
+pub own_answer_of : (config : Config) (h : List Entry) (f t : ℕ) → IsLegal config h → own_ticket config h f t ≡ true
+    → answer_of (own config h f) t ≡ answer_of h t
 unfolding own
 own_answer_of config [] f t l k = refl
 own_answer_of config (entry ∷ h) f t l k = go (is_own config h f entry.call) refl (own_answer_of config h f t l.0)
   where
-    rest : (b : Bool) → (t == length h) ≡ b → (own_ticket config h f t ≡ true → answer_of (own config h f) t ≡ answer_of h t) → answer_of (own config h f) t ≡ answer_of h t
-    rest true q ih = let same : t ≡ length h = eqb-true t (length h) q in own_past config h f t l.0 (omega (arith, same)) ∙ sym (fresh config h t l.0 (omega (arith, same)))
+    rest : (b : Bool) → (t == length h) ≡ b
+        → (own_ticket config h f t ≡ true → answer_of (own config h f) t ≡ answer_of h t)
+        → answer_of (own config h f) t ≡ answer_of h t
+    rest true q ih =
+        let same : t ≡ length h = eqb-true t (length h) q in own_past config h f t l.0 (omega (arith, same)) ∙ sym (fresh config h t l.0 (omega (arith, same)))
     rest false q ih = ih (rw q at k)
 
     not_own : (b : Bool) → (t == length h) ≡ b → is_own config h f entry.call ≡ false → (t ≢ length h) × (own_ticket config h f t ≡ true)
@@ -238,11 +261,14 @@ own_answer_of config (entry ∷ h) f t l k = go (is_own config h f entry.call) r
         eqb-false : (t == length h) ≡ false → t ≢ length h
         eqb-false p same = grind (arith, nat_tests, p, same)
 
-    go : (b : Bool) → is_own config h f entry.call ≡ b → (own_ticket config h f t ≡ true → answer_of (own config h f) t ≡ answer_of h t) → or_else (answer_in (own_entry b config h f entry).answers t) (answer_of (own config h f) t) ≡ or_else (answer_in entry.answers t) (answer_of h t)
+    go : (b : Bool) → is_own config h f entry.call ≡ b
+        → (own_ticket config h f t ≡ true → answer_of (own config h f) t ≡ answer_of h t)
+        → or_else (answer_in (own_entry b config h f entry).answers t) (answer_of (own config h f) t) ≡ or_else (answer_in entry.answers t) (answer_of h t)
     go true w ih = ap₂ or_else (filtered (own_ticket config (entry ∷ h) f) entry.answers t k) (rest (t == length h) refl ih)
     go false w ih =
         let n : (t ≢ length h) × (own_ticket config h f t ≡ true) = not_own (t == length h) refl w in
-        rw (eqb-other (length h) t (λ same. n.0 (sym same)), ih n.1, foreign_silent config h entry f t l.1 (own_old config h f t n.1) (own_home config h f t l.0 n.1) (foreign config h entry f l.1 w)) refl
+        rw
+        (eqb-other (length h) t (λ same. n.0 (sym same)), ih n.1, foreign_silent config h entry f t l.1 (own_old config h f t n.1) (own_home config h f t l.0 n.1) (foreign config h entry f l.1 w)) refl
 
 -- A ticket of the function is pending alone where it is pending.
 pub own_pending : (config : Config) (h : List Entry) (f t : ℕ) → IsLegal config h → own_ticket config h f t ≡ true → pending (own config h f) t ≡ pending h t

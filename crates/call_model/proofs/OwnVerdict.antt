@@ -1,5 +1,6 @@
 -- The verdict on an Invoke of a reserved function is the same in the function's own history.
-use Rattle.std.proofs.Common.{◌≡◌, ℕ, ◌+◌, ◌<◌, Bool, true, false, cond, List, [], ◌∷◌, length, Option, Some, None, sym, refl, ap, ◌∙◌, arith, is_some, ◌&&◌, ◌||◌, ◌==◌, true≢false, if◌then◌else◌, count_by}
+use Rattle.std.proofs.Common.{◌≡◌, ℕ, ◌+◌, ◌<◌, Bool, true, false, cond, List, [], ◌∷◌, length, Option, Some, None, sym}
+use Rattle.std.proofs.Common.{refl, ap, ◌∙◌, arith, is_some, ◌&&◌, ◌||◌, ◌==◌, true≢false, if◌then◌else◌, count_by}
 use Rattle.std.proofs.lemmas.Bool.{eqb-true}
 use Rattle.call_types.specs.declared.answer.Phase.{Phase}
 use Rattle.call_types.specs.declared.call.Call.{Call}
@@ -9,7 +10,9 @@ use Rattle.arn_ids.specs.declared.config.Config.{Config}
 use Rattle.arn_ids.specs.Environments.{function_of}
 use Rattle.call_model.specs.History.{answer_in, pending, stopped, is_invoke_of, with_tickets, or_else}
 use Rattle.call_model.specs.Life.{phase}
-use Rattle.call_model.specs.Limits.{place, lowest, is_free_starting, is_free_closing, verdict, AfterStop, Refuses, by_limits, where_placed, reservation, reserves, reserved_by, in_flight, is_charged_at, busy_at, is_busy_with}
+use Rattle.call_model.specs.Limits.{place, lowest, is_free_starting, is_free_closing, verdict, AfterStop, Refuses}
+use Rattle.call_model.specs.Limits.{by_limits, where_placed, reservation, reserves, reserved_by, in_flight}
+use Rattle.call_model.specs.Limits.{is_charged_at, busy_at, is_busy_with}
 use Rattle.call_types.specs.declared.answer.Throttle.TheVariants.{Function as ByFunction}
 use Rattle.call_model.specs.Isolation.{IsUnnamed}
 use Rattle.call_model.specs.Stand.{is_idle}
@@ -28,7 +31,8 @@ find_same : (p q : ℕ → Bool) → ((x : ℕ) → p x ≡ q x) → (xs : List 
 find_same p q e [] = refl
 find_same p q e (x ∷ xs) = λ i. if e x i then Some x else find_same p q e xs i
 
-own_lowest : (config : Config) (h : List Entry) (f : ℕ) (passes : Phase → Bool) → IsLegal config h → lowest config (own config h f) f passes ≡ lowest config h f passes
+own_lowest : (config : Config) (h : List Entry) (f : ℕ) (passes : Phase → Bool) → IsLegal config h
+    → lowest config (own config h f) f passes ≡ lowest config h f passes
 own_lowest config h f passes l = find_same _ _ each (environments config)
   where
     each : (e : ℕ) → ((function_of config e == f) && passes (phase config (own config h f) e)) ≡ ((function_of config e == f) && passes (phase config h e))
@@ -41,10 +45,12 @@ own_lowest config h f passes l = find_same _ _ each (environments config)
 -- the function's next place
 pub own_next_place : (config : Config) (h : List Entry) (f : ℕ) → IsLegal config h → place config (own config h f) f ≡ place config h f
 unfolding place
-own_next_place config h f l = λ i. or_else (own_lowest config h f is_idle l i) (or_else (own_lowest config h f is_free_starting l i) (own_lowest config h f is_free_closing l i))
+own_next_place config h f l =
+    λ i. or_else (own_lowest config h f is_idle l i) (or_else (own_lowest config h f is_free_starting l i) (own_lowest config h f is_free_closing l i))
 
 -- what is charged of an older part s of the history
-flight_part : (config : Config) (h s : List Entry) (f : ℕ) → IsLegal config h → IsLegal config s → ((t : ℕ) → t < length s → own_ticket config h f t ≡ own_ticket config s f t)
+flight_part : (config : Config) (h s : List Entry) (f : ℕ) → IsLegal config h → IsLegal config s
+    → ((t : ℕ) → t < length s → own_ticket config h f t ≡ own_ticket config s f t)
     → count_by (λ taken. is_invoke_of f taken.1.call && is_charged_at config (own config h f) taken.0 taken.1.place) (with_tickets (own config s f)) ≡ count_by (λ taken. is_invoke_of f taken.1.call && is_charged_at config h taken.0 taken.1.place) (with_tickets s)
 unfolding own
 flight_part config h [] f l m a = refl
@@ -64,10 +70,16 @@ flight_part config h (entry ∷ s) f l m a =
 
     busy : is_own config s f entry.call ≡ true → (o : Option ℕ) → entry.place ≡ o → busy_at config (own config h f) o (length s) ≡ busy_at config h o (length s)
     busy w None q = refl
-    busy w (Some d) q = ap (λ (x : Phase). is_busy_with x (length s)) (own_phase config h f d l (eqb-true (function_of config d) f (sym (placed_function config s entry.call f d (sym (m.1.place) ∙ q)) ∙ w)))
+    busy w (Some d) q =
+        ap (λ (x : Phase). is_busy_with x (length s))
+        (own_phase config h f d l (eqb-true (function_of config d) f (sym (placed_function config s entry.call f d (sym (m.1.place) ∙ q)) ∙ w)))
 
-    head : (b : Bool) → is_own config s f entry.call ≡ b → counts (own config h f) (length (own config s f), own_entry b config s f entry) ≡ counts h (length s, entry)
-    head true w = ap (λ (n : ℕ). is_invoke_of f entry.call && (is_some entry.place && (pending (own config h f) n || busy_at config (own config h f) entry.place n))) (own_length config s f)
+    head : (b : Bool) → is_own config s f entry.call ≡ b
+        → counts (own config h f) (length (own config s f), own_entry b config s f entry) ≡ counts h (length s, entry)
+    head true w =
+        ap
+        (λ (n : ℕ). is_invoke_of f entry.call && (is_some entry.place && (pending (own config h f) n || busy_at config (own config h f) entry.place n)))
+        (own_length config s f)
         ∙ (λ i. is_invoke_of f entry.call && (is_some entry.place && (own_pending config h f (length s) l (mine w) i || busy w entry.place refl i)))
     head false w = sym (ap (λ (b : Bool). b && is_charged_at config h (length s) entry.place) (invoke_own config s f entry.call w))
 
@@ -96,9 +108,12 @@ reservation_unnamed config [] f u = refl
 reservation_unnamed config (entry ∷ h) f u = rw (u.1) (reservation_unnamed config h f u.0)
 
 -- The verdict on an Invoke of the function is the same alone.
-pub own_verdict : (config : Config) (h : List Entry) (f limit : ℕ) → IsLegal config h → (function_at config f).reserved ≡ Some limit → IsUnnamed f h → verdict config (own config h f) f ≡ verdict config h f
+pub own_verdict : (config : Config) (h : List Entry) (f limit : ℕ) → IsLegal config h
+    → (function_at config f).reserved ≡ Some limit → IsUnnamed f h
+    → verdict config (own config h f) f ≡ verdict config h f
 unfolding verdict
 own_verdict config h f limit l r u =
     (λ i. if own_stopped config h f i then AfterStop else by_limits config (own config h f) f ((own_reservation config h f f ∙ r) i))
-    ∙ (λ i. if stopped h then AfterStop else (if nat_le limit (own_in_flight config h f l i) then Refuses ByFunction else where_placed (own_next_place config h f l i)))
+    ∙
+    (λ i. if stopped h then AfterStop else (if nat_le limit (own_in_flight config h f l i) then Refuses ByFunction else where_placed (own_next_place config h f l i)))
     ∙ sym (λ i. if stopped h then AfterStop else by_limits config h f ((reservation_unnamed config h f u ∙ r) i))

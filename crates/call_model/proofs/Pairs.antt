@@ -1,5 +1,6 @@
 -- Lists of answers by ticket.
-use Rattle.std.proofs.Common.{◌≡◌, ℕ, zero, suc, ◌+◌, ◌<◌, ◌≤◌, true, false, cond, eqb, List, [], ◌∷◌, Option, Some, None, sym, refl, ap, ◌∙◌, inl, inr, arith, ◌≢◌, is_some, count_by, ◌==◌}
+use Rattle.std.proofs.Common.{◌≡◌, ℕ, zero, suc, ◌+◌, ◌<◌, ◌≤◌, true, false, cond, eqb, List, [], ◌∷◌, Option, Some}
+use Rattle.std.proofs.Common.{None, sym, refl, ap, ◌∙◌, inl, inr, arith, ◌≢◌, is_some, count_by, ◌==◌}
 use Rattle.std.proofs.lemmas.Bool.Decides.{eqb_tells, nat_tests}
 use Rattle.std.proofs.lemmas.List.Sums.{sum_by-cons}
 use Rattle.call_types.specs.declared.answer.Answer.{Answer}
@@ -43,7 +44,8 @@ past_each t (suc n) u f h = go (f t) (past_each (suc t) n u f (omega arith))
     go (Some a) e = grind (arith, nat_tests, e)
 
 -- numbering the events changes no ticket
-pub numbered_same : (h : List Entry) (entry : Entry) (before pairs : List (ℕ × Answer)) (t : ℕ) → is_some (answer_in (numbered h entry before pairs) t) ≡ is_some (answer_in pairs t)
+pub numbered_same : (h : List Entry) (entry : Entry) (before pairs : List (ℕ × Answer)) (t : ℕ)
+    → is_some (answer_in (numbered h entry before pairs) t) ≡ is_some (answer_in pairs t)
 numbered_same h entry before [] t = refl
 numbered_same h entry before (a ∷ rest) t =
     elim (eqb_tells a.0 t) [
@@ -85,7 +87,8 @@ times_each t (suc n) u f = go (f t) (times_each (suc t) n u f)
 pub numbered_times : (h : List Entry) (entry : Entry) (before pairs : List (ℕ × Answer)) (t : ℕ) → times_in (numbered h entry before pairs) t ≡ times_in pairs t
 numbered_times h entry before [] t = refl
 numbered_times h entry before (a ∷ rest) t =
-    times_cons (a.0, event_at h entry before (env_of (call_of (entry ∷ h) a.0)) a.1) (numbered h entry (a ∷ before) rest) t ∙ ap (λ n. cond (a.0 == t) 1 0 + n) (numbered_times h entry (a ∷ before) rest t) ∙ sym (times_cons a rest t)
+    times_cons (a.0, event_at h entry before (env_of (call_of (entry ∷ h) a.0)) a.1) (numbered h entry (a ∷ before) rest) t
+    ∙ ap (λ n. cond (a.0 == t) 1 0 + n) (numbered_times h entry (a ∷ before) rest t) ∙ sym (times_cons a rest t)
 
 pub is_some_none : {A : Type 0} (a : Option A) → is_some a ≡ false → a ≡ None
 is_some_none None e = refl

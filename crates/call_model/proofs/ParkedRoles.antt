@@ -5,7 +5,8 @@ use Rattle.std.specs.List.{list_any, find}
 use Rattle.call_types.specs.declared.call.Entry.{Entry}
 use Rattle.arn_ids.specs.declared.config.Config.{Config}
 use Rattle.call_model.specs.History.{pending, call_of}
-use Rattle.call_model.specs.Generation.{Generation, Actor, parked, if_pending, last_next, extensions, Extension, TheExtension, member, TheRuntime, Member, asks, members}
+use Rattle.call_model.specs.Generation.{Generation, Actor, parked, if_pending, last_next, extensions, Extension}
+use Rattle.call_model.specs.Generation.{TheExtension, member, TheRuntime, Member, asks, members}
 use Rattle.call_model.specs.Stand.{is_number, role, ExtensionPoll}
 use Rattle.call_model.specs.Life.{life, stand, seen}
 use Rattle.call_model.specs.Next.{IsLegal}
@@ -19,7 +20,8 @@ parked_is h g actor t q w = ap (if_pending h) q ∙ ap (λ (b : Bool). if b then
 pub is_parked : (h : List Entry) (g : Generation) (actor : Actor) (t : ℕ) → parked h g actor ≡ Some t → (last_next g actor ≡ Some t) × (pending h t ≡ true)
 is_parked h g actor t q = go (last_next g actor) refl q
   where
-    at_one : (u : ℕ) (b : Bool) → pending h u ≡ b → last_next g actor ≡ Some u → (if b then Some u else None) ≡ Some t → (last_next g actor ≡ Some t) × (pending h t ≡ true)
+    at_one : (u : ℕ) (b : Bool) → pending h u ≡ b → last_next g actor ≡ Some u → (if b then Some u else None) ≡ Some t
+        → (last_next g actor ≡ Some t) × (pending h t ≡ true)
     at_one u true p k r = let same : u ≡ t = cc in (k ∙ r, ap (pending h) (sym same) ∙ p)
     at_one u false p k r = absurd (some-none (sym r))
 
@@ -31,7 +33,8 @@ is_parked h g actor t q = go (last_next g actor) refl q
 abbrev pub is_member : Generation → ℕ → Bool
 is_member g x = list_any (λ y. y.count == x) (extensions g)
 
-find_member : (h : List Entry) (g : Generation) (x t : ℕ) → parked h g (TheExtension x) ≡ Some t → (ys : List Extension) → list_any (λ y. y.count == x) ys ≡ true
+find_member : (h : List Entry) (g : Generation) (x t : ℕ) → parked h g (TheExtension x) ≡ Some t → (ys : List Extension)
+    → list_any (λ y. y.count == x) ys ≡ true
     → (y : Extension) × ((find (λ s. is_number s.next t) (map (member h g) ys) ≡ Some (member h g y)) × (parked h g (TheExtension y.count) ≡ Some t))
 find_member h g x t p [] k = absurd (true≢false (sym k))
 find_member h g x t p (y ∷ ys) k = go (is_number (parked h g (TheExtension y.count)) t) refl (y.count == x) refl (find_member h g x t p ys) k
@@ -41,11 +44,14 @@ find_member h g x t p (y ∷ ys) k = go (is_number (parked h g (TheExtension y.c
         → (c || list_any (λ z. z.count == x) ys) ≡ true
         → (z : Extension) × (((if b then Some (member h g y) else find (λ s. is_number s.next t) (map (member h g) ys)) ≡ Some (member h g z)) × (parked h g (TheExtension z.count) ≡ Some t))
     go true q c w ih r = (y, (refl, number_some (parked h g (TheExtension y.count)) t q))
-    go false q true w ih r = absurd (true≢false (sym (ap (λ (o : Option ℕ). is_number o t) (ap (λ (n : ℕ). parked h g (TheExtension n)) (eqb-true y.count x w) ∙ p) ∙ eqb-self t) ∙ q))
+    go false q true w ih r =
+        absurd
+        (true≢false (sym (ap (λ (o : Option ℕ). is_number o t) (ap (λ (n : ℕ). parked h g (TheExtension n)) (eqb-true y.count x w) ∙ p) ∙ eqb-self t) ∙ q))
     go false q false w ih r = ih r
 
 -- the parked Next of an extension
-pub extension_role : (config : Config) (h : List Entry) (e x t : ℕ) → IsLegal config h → parked h (life config h e).generation (TheExtension x) ≡ Some t → is_member (life config h e).generation x ≡ true
+pub extension_role : (config : Config) (h : List Entry) (e x t : ℕ) → IsLegal config h
+    → parked h (life config h e).generation (TheExtension x) ≡ Some t → is_member (life config h e).generation x ≡ true
     → (s : Member) × ((role (stand config h e) t ≡ ExtensionPoll s) × (s.extension.count ≡ x))
 unfolding role seen members
 extension_role config h e x t l q m = made (find_member h g x t q (extensions g) m)
@@ -58,13 +64,17 @@ extension_role config h e x t l q m = made (find_member h g x t q (extensions g)
 
     not_runtime : (b : Bool) → is_number (parked h g TheRuntime) t ≡ b → is_number (parked h g TheRuntime) t ≡ false
     not_runtime false k = k
-    not_runtime true k = absurd (not_both (call_of h t) x (last_asks h g TheRuntime t (generation_part config h e) (is_parked h g TheRuntime t (number_some (parked h g TheRuntime) t k)).0) asked)
+    not_runtime true k =
+        absurd
+        (not_both (call_of h t) x (last_asks h g TheRuntime t (generation_part config h e) (is_parked h g TheRuntime t (number_some (parked h g TheRuntime) t k)).0) asked)
 
-    made : (y : Extension) × ((find (λ s. is_number s.next t) (map (member h g) (extensions g)) ≡ Some (member h g y)) × (parked h g (TheExtension y.count) ≡ Some t)) → (s : Member) × ((role (stand config h e) t ≡ ExtensionPoll s) × (s.extension.count ≡ x))
+    made : (y : Extension) × ((find (λ s. is_number s.next t) (map (member h g) (extensions g)) ≡ Some (member h g y)) × (parked h g (TheExtension y.count) ≡ Some t))
+        → (s : Member) × ((role (stand config h e) t ≡ ExtensionPoll s) × (s.extension.count ≡ x))
     made f = (
       member h g (f.0),
       (
         rw (not_waiting config h e t (TheExtension x) l asked, not_runtime (is_number (parked h g TheRuntime) t) refl, f.1.0) refl,
-        sym (one_asker (call_of h t) x (f.0).count asked (last_asks h g (TheExtension (f.0).count) t (generation_part config h e) (is_parked h g (TheExtension (f.0).count) t (f.1.1)).0)),
+        sym
+            (one_asker (call_of h t) x (f.0).count asked (last_asks h g (TheExtension (f.0).count) t (generation_part config h e) (is_parked h g (TheExtension (f.0).count) t (f.1.1)).0)),
       ),
     )

@@ -1,5 +1,6 @@
 -- The phase of an environment after an entry, from its stand before it.
-use Rattle.std.proofs.Common.{◌≡◌, ℕ, Bool, true, false, eqb, List, [], ◌∷◌, ◌++◌, length, Option, None, refl, ap, ◌∙◌, inl, inr, is_some, ◌||◌, map, filter, if◌then◌else◌}
+use Rattle.std.proofs.Common.{◌≡◌, ℕ, Bool, true, false, eqb, List, [], ◌∷◌, ◌++◌, length, Option, None, refl, ap, ◌∙◌}
+use Rattle.std.proofs.Common.{inl, inr, is_some, ◌||◌, map, filter, if◌then◌else◌}
 use Rattle.std.proofs.lemmas.Bool.Decides.{eqb_tells}
 use Rattle.call_types.specs.declared.answer.Answer.{Answer}
 use Rattle.call_types.specs.declared.answer.Phase.{Phase}
@@ -29,7 +30,8 @@ filter_none p (a ∷ rest) t e =
 
 -- what an entry makes of the extensions and of the runtime's pending Next; first is the entry with its first answers
 abbrev pub members_after : List Entry → Generation → Entry → Entry → ℕ → List Member → List Member
-members_after h g first entry n before = new_member (first ∷ h) ((n, entry) ∷ g) (as_registered entry.call (answer_in entry.answers n)) ++ map (member_step first entry n) before
+members_after h g first entry n before =
+    new_member (first ∷ h) ((n, entry) ∷ g) (as_registered entry.call (answer_in entry.answers n)) ++ map (member_step first entry n) before
 
 abbrev pub runtime_after : Entry → Entry → ℕ → Option ℕ → Option ℕ
 runtime_after first entry n before = still first (asked TheRuntime entry.call n before)
@@ -52,7 +54,8 @@ pub phase_step : (config : Config) (h : List Entry) (entry : Entry) (e : ℕ) �
 unfolding life lived after seen
 phase_step config h entry e c none quiet =
     ap (λ (b : Bool). (if_concerned b (visit config h e entry)).phase) c ∙ two_cases (ends_here (visit config h e entry))
-    ∙ ap_two (members_step (first_part entry) entry h (life config h e).generation refl below none quiet) (parked_step (first_part entry) entry h (life config h e).generation TheRuntime refl below none)
+    ∙ ap_two (members_step (first_part entry) entry h (life config h e).generation refl below none quiet)
+    (parked_step (first_part entry) entry h (life config h e).generation TheRuntime refl below none)
   where
     g : Generation
     g = (length h, entry) ∷ (life config h e).generation

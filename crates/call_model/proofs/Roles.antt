@@ -41,7 +41,8 @@ other_number None t e = refl
 other_number (Some u) t e = eqb-other u t (λ same. e (ap (λ (n : ℕ). Some n) same))
 
 -- what is at hand isn't a Next
-pub not_waiting : (config : Config) (h : List Entry) (e t : ℕ) (actor : Actor) → IsLegal config h → asks actor (call_of h t) ≡ true → waits_as (stand config h e) t ≡ false
+pub not_waiting : (config : Config) (h : List Entry) (e t : ℕ) (actor : Actor) → IsLegal config h
+    → asks actor (call_of h t) ≡ true → waits_as (stand config h e) t ≡ false
 unfolding seen
 not_waiting config h e t actor l a = go (is_some (request_at config h e (at_hand (phase config h e))))
   where
@@ -50,6 +51,8 @@ not_waiting config h e t actor l a = go (is_some (request_at config h e (at_hand
     go true = other_number (at_hand (phase config h e)) t (λ q. invoke_asks actor (call_of h t) ((held config h e t l q).invoke) a)
 
 -- The role of the runtime's parked Next.
-pub role_runtime : (config : Config) (h : List Entry) (e t : ℕ) → IsLegal config h → parked h (life config h e).generation TheRuntime ≡ Some t → role (stand config h e) t ≡ RuntimePoll
+pub role_runtime : (config : Config) (h : List Entry) (e t : ℕ) → IsLegal config h
+    → parked h (life config h e).generation TheRuntime ≡ Some t → role (stand config h e) t ≡ RuntimePoll
 unfolding role seen
-role_runtime config h e t l q = rw (not_waiting config h e t TheRuntime l (parked_asks_for h (life config h e).generation TheRuntime t (generation_part config h e) q), q, eqb-self t) refl
+role_runtime config h e t l q =
+    rw (not_waiting config h e t TheRuntime l (parked_asks_for h (life config h e).generation TheRuntime t (generation_part config h e) q), q, eqb-self t) refl

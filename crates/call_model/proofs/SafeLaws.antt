@@ -26,7 +26,8 @@ pub lives_only_there : (config : Config) (h : List Entry) (p e : ℕ) → IsLega
 lives_only_there config h p e l q = number_some (place_of h p) e ((held config h e p l (at_place config h p e q)).placed)
 
 -- of those that were placed in one environment, one waits
-pub waits_alone : (config : Config) (h : List Entry) (p q e : ℕ) → IsLegal config h → place_of h p ≡ Some e → pending h p ≡ true → place_of h q ≡ Some e → pending h q ≡ true → q ≡ p
+pub waits_alone : (config : Config) (h : List Entry) (p q e : ℕ) → IsLegal config h → place_of h p ≡ Some e
+    → pending h p ≡ true → place_of h q ≡ Some e → pending h q ≡ true → q ≡ p
 waits_alone config h p q e l a w b v = same_Some q p (sym (L.lives config h e q l (rw b (eqb-self e)) v) ∙ L.lives config h e p l (rw a (eqb-self e)) w)
 
 -- one that waits no more is bound nowhere
@@ -34,11 +35,14 @@ pub bound_nowhere : (config : Config) (h : List Entry) (p e : ℕ) → IsLegal c
 bound_nowhere config h p e l w q = true≢false (sym (bound_waits config h e p l q) ∙ w)
 
 -- parked polls
-pub stands_open : (config : Config) (h : List Entry) (e t : ℕ) → IsLegal config h → poll_env (call_of h t) ≡ Some e → pending h t ≡ true → is_open (phase config h e) ≡ true
+pub stands_open : (config : Config) (h : List Entry) (e t : ℕ) → IsLegal config h → poll_env (call_of h t) ≡ Some e
+    → pending h t ≡ true → is_open (phase config h e) ≡ true
 stands_open config h e t l q w =
     let who : (actor : Actor) × (poll_of (call_of h t) ≡ Some (e, actor)) = some_actor (call_of h t) e q in
     (standing config h e t who.0 l who.1 w).opened
 
-pub stands_alone : (config : Config) (h : List Entry) (e t u : ℕ) (actor : Actor) → IsLegal config h → poll_env (call_of h t) ≡ Some e → asks actor (call_of h t) ≡ true → pending h t ≡ true
+pub stands_alone : (config : Config) (h : List Entry) (e t u : ℕ) (actor : Actor) → IsLegal config h
+    → poll_env (call_of h t) ≡ Some e → asks actor (call_of h t) ≡ true → pending h t ≡ true
     → poll_env (call_of h u) ≡ Some e → asks actor (call_of h u) ≡ true → pending h u ≡ true → t ≡ u
-stands_alone config h e t u actor l p a w q b v = one_standing config h e t u actor l (polled_by (call_of h t) e actor p a) w (polled_by (call_of h u) e actor q b) v
+stands_alone config h e t u actor l p a w q b v =
+    one_standing config h e t u actor l (polled_by (call_of h t) e actor p a) w (polled_by (call_of h u) e actor q b) v

@@ -1,5 +1,6 @@
 -- What one entry changes of what a history says of an environment.
-use Rattle.std.proofs.Common.{◌≡◌, ℕ, suc, ◌<◌, Bool, true, false, List, [], ◌∷◌, ◌++◌, length, Option, Some, None, sym, refl, ap, ◌∙◌, arith, is_some, is_none, not, ◌&&◌, ◌||◌, map, true≢false, if◌then◌else◌}
+use Rattle.std.proofs.Common.{◌≡◌, ℕ, suc, ◌<◌, Bool, true, false, List, [], ◌∷◌, ◌++◌, length, Option, Some, None, sym}
+use Rattle.std.proofs.Common.{refl, ap, ◌∙◌, arith, is_some, is_none, not, ◌&&◌, ◌||◌, map, true≢false, if◌then◌else◌}
 use Rattle.call_types.specs.declared.answer.Answer.{Answer}
 use Rattle.call_types.specs.declared.call.Call.{Call}
 use Rattle.call_types.specs.declared.call.Call.TheVariants.{RuntimeNext, ExtNext, Expire}
@@ -7,7 +8,9 @@ use Rattle.std.specs.List.{cons_option}
 use Rattle.call_types.specs.declared.call.Entry.{Entry}
 use Rattle.arn_ids.specs.declared.config.Config.{Config}
 use Rattle.call_model.specs.History.{answer_in, answer_of, pending, is_expiry, or_else}
-use Rattle.call_model.specs.Generation.{Generation, Extension, Actor, TheRuntime, TheExtension, Member, parked, if_pending, last_next, asks, extensions, member, members, told, asked_again, exited, answer_to_next, is_ending, reports_exit, is_accepted, as_registered}
+use Rattle.call_model.specs.Generation.{Generation, Extension, Actor, TheRuntime, TheExtension, Member, parked}
+use Rattle.call_model.specs.Generation.{if_pending, last_next, asks, extensions, member, members, told, asked_again}
+use Rattle.call_model.specs.Generation.{exited, answer_to_next, is_ending, reports_exit, is_accepted, as_registered}
 use Rattle.call_model.specs.Life.{life, lived, after, concerns, ends_here}
 use Rattle.call_model.specs.Next.{Follows, FollowsBy, IsTimely, Rule}
 use Rattle.call_model.proofs.Once.{pending_cons, silent}
@@ -51,7 +54,8 @@ last_below n (taken ∷ g) actor b t q = go (asks actor taken.1.call) (last_belo
     go false ih p = ih p
 
 -- an actor that doesn't ask keeps its pending Next, unless the entry answers it
-pub parked_other : (entry : Entry) (h : List Entry) (g : Generation) (actor : Actor) → IsBelow (length h) g → asks actor entry.call ≡ false → parked (entry ∷ h) ((length h, entry) ∷ g) actor ≡ still entry (parked h g actor)
+pub parked_other : (entry : Entry) (h : List Entry) (g : Generation) (actor : Actor) → IsBelow (length h) g
+    → asks actor entry.call ≡ false → parked (entry ∷ h) ((length h, entry) ∷ g) actor ≡ still entry (parked h g actor)
 parked_other entry h g actor b silent_call = rw silent_call (go (last_next g actor) refl)
   where
     go : (o : Option ℕ) → last_next g actor ≡ o → if_pending (entry ∷ h) o ≡ still entry (if_pending h o)
@@ -63,7 +67,9 @@ parked_other entry h g actor b silent_call = rw silent_call (go (last_next g act
         both false = refl
 
 -- an actor that asks has its Next of now, unless the entry answers it
-pub parked_asks : (entry : Entry) (h : List Entry) (g : Generation) (actor : Actor) → is_expiry entry.call ≡ false → answer_of h (length h) ≡ None → asks actor entry.call ≡ true → parked (entry ∷ h) ((length h, entry) ∷ g) actor ≡ still entry (Some (length h))
+pub parked_asks : (entry : Entry) (h : List Entry) (g : Generation) (actor : Actor) → is_expiry entry.call ≡ false
+    → answer_of h (length h) ≡ None → asks actor entry.call ≡ true
+    → parked (entry ∷ h) ((length h, entry) ∷ g) actor ≡ still entry (Some (length h))
 parked_asks entry h g actor call_kind none asks_now = rw (asks_now, eqb-self (length h), call_kind, none) (go (answer_in entry.answers (length h)))
   where
     go : (a : Option Answer) → (if not (is_some (or_else a None)) then Some (length h) else None) ≡ (if is_none a then Some (length h) else None)
@@ -96,12 +102,14 @@ pub parked_step : (e1 e2 : Entry) (h : List Entry) (g : Generation) (actor : Act
     → parked (e1 ∷ h) ((length h, e2) ∷ g) actor ≡ still e1 (asked actor e2.call (length h) (parked h g actor))
 parked_step e1 e2 h g actor same b none = go (asks actor e1.call) refl (ap (asks actor) same)
   where
-    go : (c : Bool) → asks actor e1.call ≡ c → asks actor e1.call ≡ asks actor e2.call → parked (e1 ∷ h) ((length h, e2) ∷ g) actor ≡ still e1 (asked actor e2.call (length h) (parked h g actor))
+    go : (c : Bool) → asks actor e1.call ≡ c → asks actor e1.call ≡ asks actor e2.call
+        → parked (e1 ∷ h) ((length h, e2) ∷ g) actor ≡ still e1 (asked actor e2.call (length h) (parked h g actor))
     go true q w = rw (sym w ∙ q) (rw q at (parked_asks e1 h g actor (not_expiry actor e1.call q) none q))
     go false q w = rw (sym w ∙ q) (rw q at (parked_other e1 h g actor b q))
 
 -- the answer that an actor's last Next gets is that of its pending one
-pub last_parked : (h : List Entry) (entry : Entry) (g : Generation) (actor : Actor) → IsSilent h entry → IsBelow (length h) g → answer_to_next entry (last_next g actor) ≡ answer_to_next entry (parked h g actor)
+pub last_parked : (h : List Entry) (entry : Entry) (g : Generation) (actor : Actor) → IsSilent h entry
+    → IsBelow (length h) g → answer_to_next entry (last_next g actor) ≡ answer_to_next entry (parked h g actor)
 last_parked h entry g actor quiet b = go (last_next g actor) refl
   where
     go : (o : Option ℕ) → last_next g actor ≡ o → answer_to_next entry o ≡ answer_to_next entry (if_pending h o)
@@ -132,7 +140,8 @@ member_steps e1 e2 h g same b none quiet x = λ i. record {
   exited = (reports_exit x.count e2.call && is_accepted (answer_in e2.answers (length h))) || exited g x.count;
 }
   where
-    told_is : (c : Bool) → answer_to_next e2 (if c then Some (length h) else last_next g (TheExtension x.count)) ≡ answer_to_next e2 (if c then Some (length h) else parked h g (TheExtension x.count))
+    told_is : (c : Bool)
+        → answer_to_next e2 (if c then Some (length h) else last_next g (TheExtension x.count)) ≡ answer_to_next e2 (if c then Some (length h) else parked h g (TheExtension x.count))
     told_is true = refl
     told_is false = last_parked h e2 g (TheExtension x.count) quiet b
 
@@ -148,8 +157,11 @@ unfolding members
 members_step e1 e2 h g same b none quiet = go (as_registered e2.call (answer_in e2.answers (length h)))
   where
     rest : map (member (e1 ∷ h) ((length h, e2) ∷ g)) (extensions g) ≡ map (member_step e1 e2 (length h)) (map (member h g) (extensions g))
-    rest = map_same (member (e1 ∷ h) ((length h, e2) ∷ g)) (λ x. member_step e1 e2 (length h) (member h g x)) (member_steps e1 e2 h g same b none quiet) (extensions g) ∙ map_map (member_step e1 e2 (length h)) (member h g) (extensions g)
+    rest =
+        map_same (member (e1 ∷ h) ((length h, e2) ∷ g)) (λ x. member_step e1 e2 (length h) (member h g x)) (member_steps e1 e2 h g same b none quiet) (extensions g)
+        ∙ map_map (member_step e1 e2 (length h)) (member h g) (extensions g)
 
-    go : (o : Option Extension) → map (member (e1 ∷ h) ((length h, e2) ∷ g)) (cons_option o (extensions g)) ≡ new_member (e1 ∷ h) ((length h, e2) ∷ g) o ++ map (member_step e1 e2 (length h)) (map (member h g) (extensions g))
+    go : (o : Option Extension)
+        → map (member (e1 ∷ h) ((length h, e2) ∷ g)) (cons_option o (extensions g)) ≡ new_member (e1 ∷ h) ((length h, e2) ∷ g) o ++ map (member_step e1 e2 (length h)) (map (member h g) (extensions g))
     go None = rest
     go (Some x) = ap (λ xs. member (e1 ∷ h) ((length h, e2) ∷ g) x ∷ xs) rest

@@ -1,5 +1,6 @@
 -- Tickets of a history: an entry's answers are to them, and beyond them stands no call.
-use Rattle.std.proofs.Common.{ℕ, ◌≤◌, List, [], ◌∷◌, ◌≡◌, ◌<◌, None, refl, arith, zero, suc, ◌+◌, Option, Some, Bool, true, false, filter, if◌then◌else◌, length, sym, subst}
+use Rattle.std.proofs.Common.{ℕ, ◌≤◌, List, [], ◌∷◌, ◌≡◌, ◌<◌, None, refl, arith, zero, suc, ◌+◌, Option, Some, Bool}
+use Rattle.std.proofs.Common.{true, false, filter, if◌then◌else◌, length, sym, subst}
 use Rattle.call_types.specs.declared.answer.Answer.{Answer}
 use Rattle.call_types.specs.declared.call.Call.{Call}
 use Rattle.call_types.specs.declared.call.Call.TheVariants.{Expire}
@@ -28,7 +29,8 @@ each_within n t (suc m) f le = go (f t) (each_within n (suc t) m f (omega (arith
     go None r = r
     go (Some a) r = (omega (arith, le), r)
 
-pub numbered_within : (n : ℕ) (h : List Entry) (entry : Entry) (before pairs : List (ℕ × Answer)) → IsWithin n pairs → IsWithin n (numbered h entry before pairs)
+pub numbered_within : (n : ℕ) (h : List Entry) (entry : Entry) (before pairs : List (ℕ × Answer)) → IsWithin n pairs
+    → IsWithin n (numbered h entry before pairs)
 numbered_within n h entry before [] w = tt
 numbered_within n h entry before (a ∷ rest) w = (w.0, numbered_within n h entry (a ∷ before) rest w.1)
 
@@ -42,7 +44,9 @@ filter_within n p (a ∷ rest) w = go (p a) (filter_within n p rest w.1)
 
 pub answers_within : (config : Config) (h : List Entry) (now : ℕ) (call : Call) → IsWithin (length h) (answers config h now call)
 unfolding answers
-answers_within config h now call = numbered_within (length h) h (first_entry config h now call) [] _ (each_within (length h) 0 (suc (length h)) (answer_to config h (first_entry config h now call)) (omega arith))
+answers_within config h now call =
+    numbered_within (length h) h (first_entry config h now call) [] _
+    (each_within (length h) 0 (suc (length h)) (answer_to config h (first_entry config h now call)) (omega arith))
 
 -- what is used of the newest entry: it may lack its second answers
 pub record IsFit (config : Config) (h : List Entry) (entry : Entry) : Type 0 where
@@ -50,7 +54,8 @@ pub record IsFit (config : Config) (h : List Entry) (entry : Entry) : Type 0 whe
   pub within : IsWithin (length h) entry.answers
 
 pub legal_fit : (config : Config) (h : List Entry) (entry : Entry) → Follows config h entry → IsFit config h entry
-legal_fit config h entry w = record { placed = w.place; within = subst (IsWithin (length h)) (sym (w.answers)) (answers_within config h entry.moment entry.call) }
+legal_fit config h entry w =
+    record { placed = w.place; within = subst (IsWithin (length h)) (sym (w.answers)) (answers_within config h entry.moment entry.call) }
 
 pub call_past : (h : List Entry) (t : ℕ) → length h ≤ t → call_of h t ≡ Expire 0
 call_past [] t le = refl

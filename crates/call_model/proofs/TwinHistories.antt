@@ -1,15 +1,19 @@
 -- Two histories whose tickets of one kind fare alike: what an environment's scans and its next phase make of them.
-use Rattle.std.proofs.Common.{◌≡◌, ℕ, Bool, true, false, List, [], ◌∷◌, length, Option, Some, None, sym, refl, ap, ap₂, ◌∙◌, subst, is_some, ◌&&◌, ◌||◌, map, true≢false, if◌then◌else◌}
+use Rattle.std.proofs.Common.{◌≡◌, ℕ, Bool, true, false, List, [], ◌∷◌, length, Option, Some, None, sym, refl, ap, ap₂}
+use Rattle.std.proofs.Common.{◌∙◌, subst, is_some, ◌&&◌, ◌||◌, map, true≢false, if◌then◌else◌}
 use Rattle.std.specs.List.{cons_option}
 use Rattle.call_types.specs.declared.call.Entry.{Entry}
 use Rattle.arn_ids.specs.declared.config.Config.{Config}
 use Rattle.call_model.specs.History.{answer_in, pending, stopped, requests, upto}
-use Rattle.call_model.specs.Generation.{Generation, Extension, Actor, TheRuntime, TheExtension, asks, last_next, parked, if_pending, extensions, as_registered, told, asked_again, exited, answer_to_next, is_ending, is_accepted, reports_exit, member, members, ready}
+use Rattle.call_model.specs.Generation.{Generation, Extension, Actor, TheRuntime, TheExtension, asks, last_next, parked}
+use Rattle.call_model.specs.Generation.{if_pending, extensions, as_registered, told, asked_again, exited}
+use Rattle.call_model.specs.Generation.{answer_to_next, is_ending, is_accepted, reports_exit, member, members, ready}
 use Rattle.call_types.specs.declared.answer.Phase.{Phase}
 use Rattle.arn_ids.specs.Environments.{expected_at, function_of}
 use Rattle.call_model.specs.Stand.{at_hand, bound_of}
 use Rattle.call_model.specs.Table.{reborn, settled, after_cell}
-use Rattle.call_model.specs.Life.{Lifecycle, Visit, after, ends, ends_here, seen, request_at, first_part, limit_of, history_with, generation_with, members_with, phase_by_table, waits}
+use Rattle.call_model.specs.Life.{Lifecycle, Visit, after, ends, ends_here, seen, request_at, first_part, limit_of}
+use Rattle.call_model.specs.Life.{history_with, generation_with, members_with, phase_by_table, waits}
 use Rattle.call_model.proofs.Basics.{map_same, some-none}
 use Rattle.call_model.proofs.Visits.{visit_from, if_ended}
 
@@ -108,11 +112,14 @@ members_alike P o h g k w a = ap (map (member o g)) (extensions_alike P g k a) �
 abbrev pub IsMine : (ℕ → Bool) → Phase → Type 0
 IsMine P phase = (p : ℕ) → at_hand phase ≡ Some p → P p ≡ true
 
-waits_alike : (config : Config) (P : ℕ → Bool) (o h : List Entry) (e : ℕ) (hand : Option ℕ) → IsTwin P o h → ((p : ℕ) → hand ≡ Some p → P p ≡ true) → is_some (request_at config o e hand) ≡ is_some (request_at config h e hand)
+waits_alike : (config : Config) (P : ℕ → Bool) (o h : List Entry) (e : ℕ) (hand : Option ℕ) → IsTwin P o h
+    → ((p : ℕ) → hand ≡ Some p → P p ≡ true)
+    → is_some (request_at config o e hand) ≡ is_some (request_at config h e hand)
 waits_alike config P o h e None w mine = refl
 waits_alike config P o h e (Some p) w mine = go (pending o p) (pending h p) (w.pend p (mine p refl))
   where
-    go : (a b : Bool) → a ≡ b → is_some (if a then Some (requests (upto o p) (function_of config e)) else None) ≡ is_some (if b then Some (requests (upto h p) (function_of config e)) else None)
+    go : (a b : Bool) → a ≡ b
+        → is_some (if a then Some (requests (upto o p) (function_of config e)) else None) ≡ is_some (if b then Some (requests (upto h p) (function_of config e)) else None)
     go true true q = refl
     go false false q = refl
     go true false q = absurd (true≢false q)
@@ -122,7 +129,9 @@ abbrev pub IsSameLife : (ℕ → Bool) → Lifecycle → Lifecycle → Type 0
 IsSameLife P l m = (l.phase ≡ m.phase) × AreAlike P l.generation m.generation
 
 -- what an entry makes of an environment that it concerns
-pub after_alike : (config : Config) (P : ℕ → Bool) (o h : List Entry) (e : ℕ) (x y : Entry) (l m : Lifecycle) → x.call ≡ y.call → x.moment ≡ y.moment → seen config o e l ≡ seen config h e m → IsTwin P o h → IsTwin P (first_part x ∷ o) (first_part y ∷ h)
+pub after_alike : (config : Config) (P : ℕ → Bool) (o h : List Entry) (e : ℕ) (x y : Entry) (l m : Lifecycle)
+    → x.call ≡ y.call → x.moment ≡ y.moment → seen config o e l ≡ seen config h e m → IsTwin P o h
+    → IsTwin P (first_part x ∷ o) (first_part y ∷ h)
     → AreAlike P ((length o, x) ∷ l.generation) ((length h, y) ∷ m.generation) → l.phase ≡ m.phase
     → IsMine P (phase_by_table (visit_from config h e y m))
     → IsSameLife P (after (visit_from config o e x l)) (after (visit_from config h e y m))
@@ -146,8 +155,11 @@ after_alike config P o h e x y l m call moment same old new a phase mine =
     over = λ i. ends (phase i) (call i) (cells i) (extensions i)
 
     waiting : waits v ≡ waits w
-    waiting = ap (λ (c : Phase). is_some (request_at config (history_with v) e (at_hand c))) cells ∙ waits_alike config P (history_with v) (history_with w) e (at_hand (phase_by_table w)) new mine
+    waiting =
+        ap (λ (c : Phase). is_some (request_at config (history_with v) e (at_hand c))) cells
+        ∙ waits_alike config P (history_with v) (history_with w) e (at_hand (phase_by_table w)) new mine
 
     go : (b : Bool) → IsSameLife P (if_ended b v) (if_ended b w)
     go true = ((λ i. reborn (new.stop i) (moment i) (bound_of (cells i))), tt)
-    go false = ((λ i. settled (limit_of config e (moment i)) (ready (parked_alike P (history_with v) (history_with w) (generation_with v) (generation_with w) TheRuntime new a i) (extensions i) (expected_at config e)) (waiting i) (cells i)), a)
+    go false =
+        ((λ i. settled (limit_of config e (moment i)) (ready (parked_alike P (history_with v) (history_with w) (generation_with v) (generation_with w) TheRuntime new a i) (extensions i) (expected_at config e)) (waiting i) (cells i)), a)

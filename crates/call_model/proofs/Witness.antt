@@ -25,29 +25,36 @@ crowded_is_local = (refl, refl)
 
 -- the first call is legal
 first_call : List Entry
-unfolding run next added due answers first_answers first_answer second_answer answer_to own_first role own_answer closes kept to_waiting members seen after lived life verdict in_flight reservation place
+unfolding run next added due answers first_answers first_answer second_answer answer_to own_first role own_answer closes
+    kept to_waiting members seen after lived life verdict in_flight reservation place
 first_call = run one [] ((500, RuntimeNext 1) ∷ (1000, invoke 1) ∷ (1200, Response 1 1 []) ∷ [])
 
 first_call_legal : IsLegal one first_call
-unfolding first_call run next added due answers first_answers first_answer second_answer answer_to own_first role own_answer closes kept to_waiting members seen after lived life verdict in_flight reservation place
-first_call_legal = (((tt, record { later = omega arith; timely = refl; answers = refl; place = refl }), record { later = omega arith; timely = refl; answers = refl; place = refl }), record { later = omega arith; timely = refl; answers = refl; place = refl })
+unfolding first_call run next added due answers first_answers first_answer second_answer answer_to own_first role
+    own_answer closes kept to_waiting members seen after lived life verdict in_flight reservation place
+first_call_legal =
+    (((tt, record { later = omega arith; timely = refl; answers = refl; place = refl }), record { later = omega arith; timely = refl; answers = refl; place = refl }), record { later = omega arith; timely = refl; answers = refl; place = refl })
 
 first_call_counts : (deliveries first_call 1 ≡ 1) × (times first_call 1 ≡ 1) × (charged_in one first_call 1 ≡ 1)
-unfolding first_call run next added due answers first_answers first_answer second_answer answer_to own_first role own_answer closes kept to_waiting members seen after lived life verdict in_flight reservation place
+unfolding first_call run next added due answers first_answers first_answer second_answer answer_to own_first role
+    own_answer closes kept to_waiting members seen after lived life verdict in_flight reservation place
 first_call_counts = (refl, refl, refl)
 
 -- it has no Reserve
 first_call_unnamed : IsUnnamed 1 first_call
-unfolding first_call run next added due answers first_answers first_answer second_answer answer_to own_first role own_answer closes kept to_waiting members seen after lived life verdict in_flight reservation place
+unfolding first_call run next added due answers first_answers first_answer second_answer answer_to own_first role
+    own_answer closes kept to_waiting members seen after lived life verdict in_flight reservation place
 first_call_unnamed = (((tt, refl), refl), refl)
 
 -- a lowered reservation: without re_reserved h ≡ false always_reserved is false
 lowered : List Entry
-unfolding run next added due answers first_answers first_answer second_answer answer_to own_first role own_answer closes kept to_waiting members seen after lived life verdict in_flight reservation place
+unfolding run next added due answers first_answers first_answer second_answer answer_to own_first role own_answer closes
+    kept to_waiting members seen after lived life verdict in_flight reservation place
 lowered = run reserved_two [] ((1, RuntimeNext 1) ∷ (2, RuntimeNext 2) ∷ (3, invoke 1) ∷ (4, invoke 1) ∷ (5, Reserve 1 (Some 1)) ∷ [])
 
 lowered_is_over : (in_flight reserved_two lowered 1 ≡ 2) × (reservation reserved_two lowered 1 ≡ Some 1)
-unfolding lowered run next added due answers first_answers first_answer second_answer answer_to own_first role own_answer closes kept to_waiting members seen after lived life verdict in_flight reservation place
+unfolding lowered run next added due answers first_answers first_answer second_answer answer_to own_first role
+    own_answer closes kept to_waiting members seen after lived life verdict in_flight reservation place
 lowered_is_over = (refl, refl)
 
 -- a new reservation of another function: without it always_unreserved is false
@@ -55,9 +62,11 @@ small : Config
 small = account 2 0 ((function 3 None [] 2) ∷ (function 3 None [] 1) ∷ [])
 
 taken_away : List Entry
-unfolding run next added due answers first_answers first_answer second_answer answer_to own_first role own_answer closes kept to_waiting members seen after lived life verdict in_flight reservation place small
+unfolding run next added due answers first_answers first_answer second_answer answer_to own_first role own_answer closes
+    kept to_waiting members seen after lived life verdict in_flight reservation place small
 taken_away = run small [] ((1, RuntimeNext 1) ∷ (2, RuntimeNext 2) ∷ (3, invoke 1) ∷ (4, invoke 1) ∷ (5, Reserve 2 (Some 1)) ∷ [])
 
 taken_is_over : (unreserved_in_flight small taken_away ≡ 2) × (remainder small taken_away ≡ 1)
-unfolding taken_away run next added due answers first_answers first_answer second_answer answer_to own_first role own_answer closes kept to_waiting members seen after lived life verdict in_flight reservation place small
+unfolding taken_away run next added due answers first_answers first_answer second_answer answer_to own_first role
+    own_answer closes kept to_waiting members seen after lived life verdict in_flight reservation place small
 taken_is_over = (refl, refl)

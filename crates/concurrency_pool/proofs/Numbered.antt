@@ -1,5 +1,6 @@
 -- Lists by numbers.
-use Rattle.std.proofs.Common.{◌≡◌, ℕ, zero, suc, ◌+◌, ◌-◌, ◌<◌, ◌≤◌, List, [], ◌∷◌, ◌++◌, length, map, get_or, sym, refl, ap, ◌∙◌, arith, append_assoc, length-append, sum_by, ap₂}
+use Rattle.std.proofs.Common.{◌≡◌, ℕ, zero, suc, ◌+◌, ◌-◌, ◌<◌, ◌≤◌, List, [], ◌∷◌, ◌++◌, length, map, get_or, sym}
+use Rattle.std.proofs.Common.{refl, ap, ◌∙◌, arith, append_assoc, length-append, sum_by, ap₂}
 use Rattle.std.proofs.lemmas.List.Sums.{sum_by-cons}
 use Rattle.arn_ids.specs.Environments.{at, numbered, count_from}
 use Rattle.arn_ids.proofs.Counting.{numbered_at, at_get_or, at_back}
@@ -40,7 +41,8 @@ sum_nothing r none [] = refl
 sum_nothing r none (x ∷ xs) = sum_by-cons r x xs ∙ ap₂ ◌+◌ (none x) (sum_nothing r none xs)
 
 -- what is said of a list's elements, in the order of their numbers
-map_behind : {A B : Type 0} (d : A) (r : A → B) (before xs : List A) → map (λ f. r (numbered d (before ++ xs) f)) (count_from (suc (length before)) (length xs)) ≡ map r xs
+map_behind : {A B : Type 0} (d : A) (r : A → B) (before xs : List A)
+    → map (λ f. r (numbered d (before ++ xs) f)) (count_from (suc (length before)) (length xs)) ≡ map r xs
 map_behind d r before [] = refl
 map_behind {A} d r before (x ∷ xs) =
     let front : at d (before ++ x ∷ xs) (length before) ≡ x = at_back d before (x ∷ xs) (length before) (omega arith) ∙ (let e : length before - length before ≡ 0 = omega arith in rw e refl) in

@@ -1,5 +1,6 @@
 -- The totals that a pool keeps are the sums over its functions, and stay so.
-use Rattle.std.proofs.Common.{◌≡◌, ℕ, ◌+◌, ◌-◌, ◌*◌, ◌^◌, ◌<◌, ◌≤◌, Bool, true, false, length, None, set, sum_by, is_none, refl, sym, le_trans, ◌∙◌, arith, if◌then◌else◌}
+use Rattle.std.proofs.Common.{◌≡◌, ℕ, ◌+◌, ◌-◌, ◌*◌, ◌^◌, ◌<◌, ◌≤◌, Bool, true, false, length, None, set, sum_by}
+use Rattle.std.proofs.Common.{is_none, refl, sym, le_trans, ◌∙◌, arith, if◌then◌else◌}
 use Rattle.std.proofs.lemmas.List.{length-set, length-map}
 use Rattle.std.proofs.lemmas.List.Elements.{All-map, All-set}
 use Rattle.std.proofs.lemmas.List.Sums.{sum_by-le, sum_by-set}
@@ -16,14 +17,18 @@ use Rattle.concurrency_pool.proofs.Numbered.{usage_is_at, sum_map, sum_nothing}
 use Rattle.concurrency_pool.proofs.Leaves.{opened_leaves, within_sum}
 
 -- the pool of a configuration without a fault has nothing in flight
-pub opened_totals : (config : Config) (reserved : ℕ) → first_fault config ≡ None → reserved ≡ reserved_in_all (opened config) → AreTotals (opened config) reserved 0 0
+pub opened_totals : (config : Config) (reserved : ℕ) → first_fault config ≡ None
+    → reserved ≡ reserved_in_all (opened config) → AreTotals (opened config) reserved 0 0
 opened_totals config reserved sound all = record {
   few = rw length-map (functions_64 config sound);
   limited = (limit_between config sound).1;
   leaves = opened_leaves config sound;
   all_reserved = all;
-  all_unreserved = sym (sum_map unreserved_by usage_of config.functions ∙ sum_nothing (λ function. unreserved_by (usage_of function)) (λ function. none (is_none function.reserved)) config.functions);
-  all_in_flight = sym (sum_map charged_by usage_of config.functions ∙ sum_nothing (λ function. charged_by (usage_of function)) (λ function. refl) config.functions);
+  all_unreserved =
+      sym
+      (sum_map unreserved_by usage_of config.functions ∙ sum_nothing (λ function. unreserved_by (usage_of function)) (λ function. none (is_none function.reserved)) config.functions);
+  all_in_flight =
+      sym (sum_map charged_by usage_of config.functions ∙ sum_nothing (λ function. charged_by (usage_of function)) (λ function. refl) config.functions);
   counted = All-map (λ usage. charged_by usage ≤ 2 ^ 32) usage_of config.functions (λ k d there. omega arith);
 }
   where
@@ -38,14 +43,16 @@ sum_with r pool f usage from_one there =
     rw (usage_is_at pool f no_usage from_one there) (sum_by-set r pool.functions (f - 1) usage no_usage (omega (arith, from_one, there)))
 
 -- a sum of at most 64 numbers of 32 bits
-few_fit : (r : Usage → ℕ) (pool : Numbers) → ((usage : Usage) → r usage ≤ charged_by usage) → length pool.functions ≤ 64 → All (λ usage. charged_by usage ≤ 2 ^ 32) pool.functions → sum_by r pool.functions ≤ 64 * 2 ^ 32
+few_fit : (r : Usage → ℕ) (pool : Numbers) → ((usage : Usage) → r usage ≤ charged_by usage) → length pool.functions ≤ 64
+    → All (λ usage. charged_by usage ≤ 2 ^ 32) pool.functions → sum_by r pool.functions ≤ 64 * 2 ^ 32
 few_fit r pool less few counted =
     let each : All (λ usage. r usage ≤ 2 ^ 32) pool.functions = λ k d there. le_trans (less (slice_index_or pool.functions k d)) (counted k d there) in
     let sum : sum_by r pool.functions ≤ length pool.functions * 2 ^ 32 = sum_by-le r (2 ^ 32) pool.functions each in
     omega (arith, sum, few)
 
 -- a function's parts are within the totals
-pub parts_within : {pool : Numbers} {reserved unreserved in_flight : ℕ} (f : ℕ) → 1 ≤ f → f ≤ length pool.functions → AreTotals pool reserved unreserved in_flight
+pub parts_within : {pool : Numbers} {reserved unreserved in_flight : ℕ} (f : ℕ) → 1 ≤ f → f ≤ length pool.functions
+    → AreTotals pool reserved unreserved in_flight
     → (reserved_by (usage_at pool f) ≤ reserved) × (unreserved_by (usage_at pool f) ≤ unreserved) × (charged_by (usage_at pool f) ≤ in_flight)
 parts_within {pool} f from_one there totals =
     (rw totals.all_reserved (within_sum reserved_by pool f from_one there), rw totals.all_unreserved (within_sum unreserved_by pool f from_one there), rw totals.all_in_flight (within_sum charged_by pool f from_one there))
@@ -65,7 +72,8 @@ pub in_flight_fit : {pool : Numbers} {reserved unreserved in_flight : ℕ} → A
 in_flight_fit {pool} totals = rw totals.all_in_flight (few_fit charged_by pool (λ usage. omega arith) totals.few totals.counted)
 
 -- with another usage of a function, totals that change by its parts are the sums again
-pub totals_with : (pool : Numbers) (f : ℕ) (usage : Usage) (reserved unreserved in_flight reserved' unreserved' in_flight' : ℕ) → 1 ≤ f → f ≤ length pool.functions
+pub totals_with : (pool : Numbers) (f : ℕ) (usage : Usage) (reserved unreserved in_flight reserved' unreserved' in_flight' : ℕ)
+    → 1 ≤ f → f ≤ length pool.functions
     → (reserved_by (usage_at pool f) < reserved_by usage → taken_with pool f (reserved_by usage) ≤ pool.account_limit)
     → charged_by usage ≤ 2 ^ 32
     → reserved' + reserved_by (usage_at pool f) ≡ reserved + reserved_by usage
@@ -79,12 +87,15 @@ totals_with pool f usage reserved unreserved in_flight reserved' unreserved' in_
     record {
       few = rw length-set totals.few;
       limited = totals.limited;
-      leaves = still pool.least_remainder (reserved_in_all pool) (reserved_by (usage_at pool f)) (reserved_by usage) (sum_by reserved_by (set pool.functions (f - 1) usage)) pool.account_limit leaves sum part totals.leaves;
+      leaves =
+          still pool.least_remainder (reserved_in_all pool) (reserved_by (usage_at pool f)) (reserved_by usage)
+          (sum_by reserved_by (set pool.functions (f - 1) usage)) pool.account_limit leaves sum part totals.leaves;
       all_reserved = omega (arith, sum, by_reserved, totals.all_reserved);
       all_unreserved = omega (arith, sum_with unreserved_by pool f usage from_one there, by_unreserved, totals.all_unreserved);
       all_in_flight = omega (arith, sum_with charged_by pool f usage from_one there, by_charged, totals.all_in_flight);
       counted = All-set (λ usage. charged_by usage ≤ 2 ^ 32) pool.functions (f - 1) usage small totals.counted;
     }
   where
-    still : (least all last part all' limit : ℕ) → (last < part → ((all - last) + part) + least ≤ limit) → all' + last ≡ all + part → last ≤ all → least + all ≤ limit → least + all' ≤ limit
+    still : (least all last part all' limit : ℕ) → (last < part → ((all - last) + part) + least ≤ limit)
+        → all' + last ≡ all + part → last ≤ all → least + all ≤ limit → least + all' ≤ limit
     still least all last part all' limit fits sum within leaves = grind arith

@@ -1,5 +1,6 @@
 -- The connection that a search at the environments' ports finds is at the port that holds most.
-use Rattle.std.proofs.Common.{◌≡◌, ℕ, zero, suc, ◌<◌, ◌≤◌, Bool, true, false, ◌||◌, ◌&&◌, ◌==◌, nat_lt, List, [], ◌∷◌, length, get_or, fold, Option, Some, None, IfSome, refl, ap, arith, if◌then◌else◌}
+use Rattle.std.proofs.Common.{◌≡◌, ℕ, zero, suc, ◌<◌, ◌≤◌, Bool, true, false, ◌||◌, ◌&&◌, ◌==◌, nat_lt, List, [], ◌∷◌}
+use Rattle.std.proofs.Common.{length, get_or, fold, Option, Some, None, IfSome, refl, ap, arith, if◌then◌else◌}
 use Rattle.std.proofs.lemmas.Bool.Decides.{nat_tests}
 use Rattle.connection_places.specs.Choices.{SearchOfPorts, fuller, held_of, offered, spare_at, searched_ports, count_at, GivesWay, IsFullest}
 use Rattle.connection_places.specs.Looks.{looks_of_environment}
@@ -65,7 +66,8 @@ module _ {Y V : Type 0} (e : ℕ) (all : List (Slot Y V)) where
       → held_of (spare_at e all 0 (get_or slots k d).running) ≤ held_of (fold (searched_ports e all) search slots).best
   fullest_from search [] k d within = absurd (omega arith)
   fullest_from search (slot ∷ slots) zero d within =
-      omega (arith, second_holds search.best (spare_at e all search.at slot.running), same_held search.at slot.running, grows (searched_ports e all search slot) slots)
+      omega
+      (arith, second_holds search.best (spare_at e all search.at slot.running), same_held search.at slot.running, grows (searched_ports e all search slot) slots)
   fullest_from search (slot ∷ slots) (suc k) d within = fullest_from (searched_ports e all search slot) slots k d (omega arith)
 
   pub fullest : (best : Option Spare) → (fold (searched_ports e all) (record { at = 0; best = None }) all).best ≡ best → IfSome best (IsFullest e all)

@@ -1,5 +1,7 @@
 -- The first of what is due, one environment after the other.
-use Rattle.std.proofs.Common.{◌≡◌, ℕ, zero, suc, ◌≤◌, Bool, true, false, not, List, [], ◌∷◌, length, map, filter_map, Option, Some, None, IfSome, refl, ap, ◌∙◌, arith, nat_le, nat_lt, if◌then◌else◌, option_map, replicate}
+use Rattle.std.proofs.Common.{◌≡◌, ℕ, zero, suc, ◌≤◌, Bool, true, false, not, List, [], ◌∷◌, length, map, filter_map}
+use Rattle.std.proofs.Common.{Option, Some, None, IfSome, refl, ap, ◌∙◌, arith, nat_le, nat_lt, if◌then◌else◌}
+use Rattle.std.proofs.Common.{option_map, replicate}
 use Rattle.std.specs.List.{cons_option}
 use Rattle.std.proofs.lemmas.Bool.Decides.{nat_tests}
 use Rattle.arn_ids.specs.declared.config.Config.{Config}
@@ -34,11 +36,13 @@ not_less : (d m : ℕ) → nat_le d m ≡ not (nat_lt m d)
 not_less d m = grind (arith, nat_tests)
 
 -- one environment before the others
-first_of_more : (now e : ℕ) (deadline : Option ℕ) (rest : List (ℕ × ℕ)) → first (by_deadline (cons_option (due_at now e deadline) rest)) ≡ earlier now deadline e (first (by_deadline rest))
+first_of_more : (now e : ℕ) (deadline : Option ℕ) (rest : List (ℕ × ℕ))
+    → first (by_deadline (cons_option (due_at now e deadline) rest)) ≡ earlier now deadline e (first (by_deadline rest))
 first_of_more now e None rest = refl
 first_of_more now e (Some d) rest = rw (not_less d now) (go (nat_lt now d) refl)
   where
-    go : (b : Bool) → nat_lt now d ≡ b → first (by_deadline (cons_option (if not b then Some (d, e) else None) rest)) ≡ (if b then first (by_deadline rest) else earlier_of d e (first (by_deadline rest)))
+    go : (b : Bool) → nat_lt now d ≡ b
+        → first (by_deadline (cons_option (if not b then Some (d, e) else None) rest)) ≡ (if b then first (by_deadline rest) else earlier_of d e (first (by_deadline rest)))
     go true q = refl
     go false q = in_order_first (d, e) (by_deadline rest)
 
@@ -47,7 +51,8 @@ abbrev pub if_come : ℕ → Option (ℕ × ℕ) → Option (ℕ × ℕ)
 if_come now None = None
 if_come now (Some a) = if nat_lt now a.0 then None else Some a
 
-earlier_come : (now e : ℕ) (deadline : Option ℕ) (rest : Option (ℕ × ℕ)) → IfSome rest (λ a. suc e ≤ a.1) → earlier now deadline e (if_come now rest) ≡ if_come now (sooner (with_number e deadline) rest)
+earlier_come : (now e : ℕ) (deadline : Option ℕ) (rest : Option (ℕ × ℕ)) → IfSome rest (λ a. suc e ≤ a.1)
+    → earlier now deadline e (if_come now rest) ≡ if_come now (sooner (with_number e deadline) rest)
 earlier_come now e None rest from = refl
 earlier_come now e (Some d) None from = refl
 earlier_come now e (Some d) (Some b) from = grind (arith, nat_tests)
@@ -63,7 +68,8 @@ sooner_from e (Some a) (Some b) p q = go (comes_before b a)
 
 numbers_from : (e : ℕ) (deadlines : List (Option ℕ)) → IfSome (first_of e deadlines) (λ a. e ≤ a.1)
 numbers_from e [] = tt
-numbers_from e (deadline ∷ deadlines) = sooner_from e (with_number e deadline) (first_of (suc e) deadlines) (own deadline) (behind (first_of (suc e) deadlines) (numbers_from (suc e) deadlines))
+numbers_from e (deadline ∷ deadlines) =
+    sooner_from e (with_number e deadline) (first_of (suc e) deadlines) (own deadline) (behind (first_of (suc e) deadlines) (numbers_from (suc e) deadlines))
   where
     own : (deadline : Option ℕ) → IfSome (with_number e deadline) (λ a. e ≤ a.1)
     own None = tt

@@ -1,7 +1,9 @@
 -- What a list is that is cut into blocks of one width.
 use Rattle.std.proofs.Common.{◌≡◌, sym, ◌∙◌, ap, ap₂, arith, ℕ, zero, suc, ◌+◌, ◌*◌, ◌<◌, ◌≤◌, List, [], ◌∷◌, ◌++◌, length, take, drop, set, get_or}
 use Rattle.std.specs.List.{flat_map}
-use Rattle.std.proofs.lemmas.List.{drop-drop, take_all, drop_all, take-set-le, drop-set-lt, drop-set-add, take-append-le, drop-append-le, take-append-drop, length-drop, length_push, nil_from_length}
+use Rattle.std.proofs.lemmas.List.{drop-drop, take_all, drop_all, take-set-le, drop-set-lt, drop-set-add}
+use Rattle.std.proofs.lemmas.List.{take-append-le, drop-append-le, take-append-drop, length-drop, length_push}
+use Rattle.std.proofs.lemmas.List.{nil_from_length}
 use Rattle.std.proofs.Math.Seq.{take-set-lt}
 use Rattle.entry_blocks.specs.Rows.{cut}
 
@@ -22,7 +24,8 @@ get_or-cut w (suc n) zero xs d lt = ap (take w) (sym (first_block w xs))
 get_or-cut w (suc n) (suc q) xs d lt = get_or-cut w n q (drop w xs) d (omega arith) ∙ ap (take w) (next_block w q xs)
 
 -- with one more item at the list's end, only the block is another where it goes
-pub set-cut : {X : Type 0} (w n q : ℕ) (xs : List X) (x : X) → length xs < w * n → w * q ≤ length xs → length xs < w * q + w → set (cut w n xs) q (take w (drop (w * q) xs) ++ x ∷ []) ≡ cut w n (xs ++ x ∷ [])
+pub set-cut : {X : Type 0} (w n q : ℕ) (xs : List X) (x : X) → length xs < w * n → w * q ≤ length xs
+    → length xs < w * q + w → set (cut w n xs) q (take w (drop (w * q) xs) ++ x ∷ []) ≡ cut w n (xs ++ x ∷ [])
 set-cut w zero q xs x within from to = absurd (omega arith)
 set-cut w (suc n) zero xs x within from to =
     let few : length xs ≤ w = omega arith in
@@ -39,7 +42,8 @@ set-cut w (suc n) (suc q) xs x within from to =
     ∙ ap (cut w n) (sym (drop-append-le w xs (x ∷ []) full)))
 
 -- with an item in the place of another, only the block is another where it stands
-pub set-in_cut : {X : Type 0} (w n q r : ℕ) (xs : List X) (x : X) → q < n → r < w → set (cut w n xs) q (set (take w (drop (w * q) xs)) r x) ≡ cut w n (set xs (w * q + r) x)
+pub set-in_cut : {X : Type 0} (w n q r : ℕ) (xs : List X) (x : X) → q < n → r < w
+    → set (cut w n xs) q (set (take w (drop (w * q) xs)) r x) ≡ cut w n (set xs (w * q + r) x)
 set-in_cut w zero q r xs x there inside = absurd (omega arith)
 set-in_cut w (suc n) zero r xs x there inside =
     let place : w * 0 + r ≡ r = omega arith in

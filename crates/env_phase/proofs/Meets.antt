@@ -1,5 +1,6 @@
 -- An environment meets its stand: what its words say of the definitions.
-use Rattle.std.proofs.Common.{◌≡◌, ◌*◌, ℕ, suc, ◌+◌, ◌≤◌, Bool, true, false, not, ◌&&◌, ◌||◌, List, [], ◌∷◌, length, Option, Some, None, inl, inr, sym, refl, ap, ◌∙◌, arith, subst, true≢false, if◌then◌else◌}
+use Rattle.std.proofs.Common.{◌≡◌, ◌*◌, ℕ, suc, ◌+◌, ◌≤◌, Bool, true, false, not, ◌&&◌, ◌||◌, List, [], ◌∷◌, length}
+use Rattle.std.proofs.Common.{Option, Some, None, inl, inr, sym, refl, ap, ◌∙◌, arith, subst, true≢false, if◌then◌else◌}
 use Rattle.std.proofs.lemmas.Bool.{cases_lt}
 use Rattle.arn_ids.specs.declared.config.Config.{Config}
 use Rattle.arn_ids.specs.Environments.{function_at, function_of, owners}
@@ -29,7 +30,8 @@ use Rattle.env_phase.proofs.Homes.{home_new, home_old, past}
 use Rattle.env_phase.proofs.Waiting.{few_tickets, moves_in, rising_few, tickets}
 
 -- before any call it is an opened one
-pub opens : (config : Config) (e : ℕ) → 1 ≤ e → e ≤ length (owners config) → opened (function_at config (function_of config e)) ≡ record { fixed = fixed_of config e; stand = stand config [] e }
+pub opens : (config : Config) (e : ℕ) → 1 ≤ e → e ≤ length (owners config)
+    → opened (function_at config (function_of config e)) ≡ record { fixed = fixed_of config e; stand = stand config [] e }
 unfolding seen life members
 opens config e low high = rw (sym (owner_is_function config e low high).2) refl
 
@@ -57,7 +59,8 @@ pub ends : (config : Config) (h : List Entry) (entry : Entry) (e p : ℕ) → Is
     → (is_number (place_of h p) e && (is_charged config h p && not (is_charged config (entry ∷ h) p)))
     ≡ is_number (ended_by (stand config h e).phase (taken (known_at config h e) (step_at h entry (count_at config h entry e)) entry.call).stand.phase) p
 unfolding seen
-ends config h entry e p l q = E.ended config h entry e p l ∙ ap (λ (k : Known). is_number (ended_by (stand config h e).phase k.stand.phase) p) (sym (takes config h entry e l q))
+ends config h entry e p l q =
+    E.ended config h entry e p l ∙ ap (λ (k : Known). is_number (ended_by (stand config h e).phase k.stand.phase) p) (sym (takes config h entry e l q))
 
 or_left : (a b : Bool) → (a || b) ≡ false → a ≡ false
 or_left true b q = q
@@ -70,7 +73,9 @@ no_answers (a ∷ rest) e = absurd (some-none (rw (eqb-self a.0) at (e a.0)))
 
 -- an entry that doesn't concern it answers none of its tickets
 none_here : (config : Config) (h : List Entry) (entry : Entry) (e : ℕ) → IsLegal config (entry ∷ h) → concerns h e entry ≡ false → answers_there h entry e ≡ []
-none_here config h entry e l q = no_answers (answers_there h entry e) (λ t. filter_answer (λ u. is_number (home (entry ∷ h) u) e) entry.answers t ∙ at t (is_number (home (entry ∷ h) t) e) refl)
+none_here config h entry e l q =
+    no_answers (answers_there h entry e)
+    (λ t. filter_answer (λ u. is_number (home (entry ∷ h) u) e) entry.answers t ∙ at t (is_number (home (entry ∷ h) t) e) refl)
   where
     own : is_number (or_else entry.place (env_of entry.call)) e ≡ false
     own = go entry.place q
@@ -85,17 +90,21 @@ none_here config h entry e l q = no_answers (answers_there h entry e) (λ t. fil
       | inl lt ↦ quiet_here IsTimely config h entry e t l.1 q lt (sym (home_old entry h t lt) ∙ number_some (home (entry ∷ h) t) e r)
       | inr ge ↦ elim (cases_lt (length h) t) [
         | inl lt ↦ past config h entry t l.1 lt
-        | inr le ↦ let same : t ≡ length h = omega (arith, ge, le) in absurd (true≢false (sym r ∙ ap (λ u. is_number (home (entry ∷ h) u) e) same ∙ ap (λ o. is_number o e) (home_new entry h) ∙ own))
+        | inr le ↦ let same : t ≡ length h =
+            omega (arith, ge, le) in absurd (true≢false (sym r ∙ ap (λ u. is_number (home (entry ∷ h) u) e) same ∙ ap (λ o. is_number o e) (home_new entry h) ∙ own))
       ]
     ]
 
 -- the answers of an entry stand in rising ticket order
 pub answers_rising : (config : Config) (h : List Entry) (entry : Entry) → Follows config h entry → IsRising 0 entry.answers
 unfolding answers
-answers_rising config h entry w = rw w.answers (numbered_rising h (first_entry config h entry.moment entry.call) [] _ 0 (each_rising 0 (suc (length h)) (answer_to config h (first_entry config h entry.moment entry.call))))
+answers_rising config h entry w =
+    rw w.answers
+    (numbered_rising h (first_entry config h entry.moment entry.call) [] _ 0 (each_rising 0 (suc (length h)) (answer_to config h (first_entry config h entry.moment entry.call))))
 
 -- how many they are at most: each ticket that waits there gets one, and the entry's own
-pub few_here : (config : Config) (h : List Entry) (entry : Entry) (e : ℕ) → IsLegal config (entry ∷ h) → length (answers_there h entry e) ≤ length (stand config h e).members + 3
+pub few_here : (config : Config) (h : List Entry) (entry : Entry) (e : ℕ) → IsLegal config (entry ∷ h)
+    → length (answers_there h entry e) ≤ length (stand config h e).members + 3
 few_here config h entry e l = go (concerns h e entry) refl
   where
     step : Step
@@ -110,7 +119,8 @@ few_here config h entry e l = go (concerns h e entry) refl
         let is = gives config h entry e l q in
         rw (sym is) (omega (
           arith,
-          rising_few 0 (tickets (length h) (stand config h e)) (given (known_at config h e) step entry.call) (subst (IsRising 0) (sym is) rising) (moves_in (fixed_of config e) step (stand config h e) entry.call),
+          rising_few 0 (tickets (length h) (stand config h e)) (given (known_at config h e) step entry.call)
+              (subst (IsRising 0) (sym is) rising) (moves_in (fixed_of config e) step (stand config h e) entry.call),
           few_tickets (length h) (stand config h e),
         ))
 

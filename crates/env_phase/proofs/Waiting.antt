@@ -1,10 +1,15 @@
 -- An entry answers at an environment its own ticket, that of the waiting call, the runtime's parked Next and those of the
 -- extensions, each once at most.
-use Rattle.std.proofs.Common.{◌≡◌, ◌≢◌, ℕ, suc, ◌+◌, ◌<◌, ◌≤◌, Bool, true, false, eqb, List, [], ◌∷◌, ◌++◌, length, map, Option, Some, None, sym, refl, ap, ◌∙◌, arith, if◌then◌else◌, ◌||◌, inl, inr, true≢false, nat_lt, length-append}
+use Rattle.std.proofs.Common.{◌≡◌, ◌≢◌, ℕ, suc, ◌+◌, ◌<◌, ◌≤◌, Bool, true, false, eqb, List, [], ◌∷◌, ◌++◌, length, map}
+use Rattle.std.proofs.Common.{Option, Some, None, sym, refl, ap, ◌∙◌, arith, if◌then◌else◌, ◌||◌, inl, inr, true≢false}
+use Rattle.std.proofs.Common.{nat_lt, length-append}
 use Rattle.std.proofs.lemmas.Bool.Decides.{eqb_tells}
 use Rattle.call_types.specs.declared.answer.Answer.{Answer}
 use Rattle.call_types.specs.declared.call.Call.{Call}
-use Rattle.environment_step.specs.After.{Fixed, Step, put, give, give_each, waiting_call, first_moves, first_stand, runtime_first, members_first, fresh_members, member_first, member_gets, actor_gets, poll_gets, left, turned_moves, served_moves, closing_ends, settled_phase, numbered_from, finished_moves, moves_of, expires_now}
+use Rattle.environment_step.specs.After.{Fixed, Step, put, give, give_each, waiting_call, first_moves, first_stand}
+use Rattle.environment_step.specs.After.{runtime_first, members_first, fresh_members, member_first, member_gets}
+use Rattle.environment_step.specs.After.{actor_gets, poll_gets, left, turned_moves, served_moves, closing_ends}
+use Rattle.environment_step.specs.After.{settled_phase, numbered_from, finished_moves, moves_of, expires_now}
 use Rattle.call_model.specs.Generation.{Extension, Member, TheRuntime, TheExtension, asks, as_registered}
 use Rattle.call_model.specs.Polls.{begun, delivered}
 use Rattle.call_model.specs.Stand.{Stand, RuntimePoll, ExtensionPoll}
@@ -27,7 +32,8 @@ one_less : (t : ℕ) (us : List ℕ) → has t us ≡ true → suc (length (with
 one_less t [] q = absurd (true≢false (sym q))
 one_less t (u ∷ us) q = go (eqb u t) (one_less t us) q
   where
-    go : (b : Bool) → (has t us ≡ true → suc (length (without t us)) ≡ length us) → (b || has t us) ≡ true → suc (length (if b then us else u ∷ without t us)) ≡ suc (length us)
+    go : (b : Bool) → (has t us ≡ true → suc (length (without t us)) ≡ length us) → (b || has t us) ≡ true
+        → suc (length (if b then us else u ∷ without t us)) ≡ suc (length us)
     go true ih r = refl
     go false ih r = ap suc (ih r)
 
@@ -60,7 +66,8 @@ fewer t n us (a ∷ rest) r lt k = (still t a.0 us (λ e. apart e) k.0, fewer t 
 -- rising tickets are no more than there are
 pub rising_few : (n : ℕ) (us : List ℕ) (xs : List (ℕ × Answer)) → IsRising n xs → AreIn us xs → length xs ≤ length us
 rising_few n us [] r k = omega arith
-rising_few n us (a ∷ rest) r k = omega (arith, rising_few (suc a.0) (without a.0 us) rest r.1 (fewer a.0 (suc a.0) us rest r.1 (omega arith) k.1), one_less a.0 us k.0)
+rising_few n us (a ∷ rest) r k =
+    omega (arith, rising_few (suc a.0) (without a.0 us) rest r.1 (fewer a.0 (suc a.0) us rest r.1 (omega arith) k.1), one_less a.0 us k.0)
 
 put_in : (us : List ℕ) (a : ℕ × Answer) (xs : List (ℕ × Answer)) → has a.0 us ≡ true → AreIn us xs → AreIn us (put a xs)
 put_in us a [] q k = (q, tt)
@@ -84,7 +91,8 @@ abbrev pub AllIn : List ℕ → List Member → Type 0
 AllIn us [] = Unit {0}
 AllIn us (x ∷ xs) = IsIn us x.next × AllIn us xs
 
-each_in : (us : List ℕ) (f : Member → Option Answer) (xs : List Member) (moves : List (ℕ × Answer)) → AllIn us xs → AreIn us moves → AreIn us (give_each f xs moves)
+each_in : (us : List ℕ) (f : Member → Option Answer) (xs : List Member) (moves : List (ℕ × Answer)) → AllIn us xs
+    → AreIn us moves → AreIn us (give_each f xs moves)
 each_in us f [] moves q k = k
 each_in us f (x ∷ xs) moves q k = give_in us x.next (f x) (give_each f xs moves) q.0 (each_in us f xs moves q.1 k)
 
@@ -129,16 +137,20 @@ behind_own own t us q = has_back t (own ∷ []) us q
 
 nexts_in : (us : List ℕ) (xs : List Member) → ((t : ℕ) → has t (nexts xs) ≡ true → has t us ≡ true) → AllIn us xs
 nexts_in us [] k = tt
-nexts_in us (x ∷ xs) k = ((λ t q. k t (has_front t (option_list x.next) (nexts xs) (option_in x.next t q))), nexts_in us xs (λ t q. k t (has_back t (option_list x.next) (nexts xs) q)))
+nexts_in us (x ∷ xs) k =
+    ((λ t q. k t (has_front t (option_list x.next) (nexts xs) (option_in x.next t q))), nexts_in us xs (λ t q. k t (has_back t (option_list x.next) (nexts xs) q)))
 
 waiting_in : (own : ℕ) (s : Stand) → IsIn (tickets own s) (waiting_call s)
 waiting_in own s t q = behind_own own t _ (has_front t (option_list (waiting_call s)) _ (option_in (waiting_call s) t q))
 
 runtime_in : (own : ℕ) (s : Stand) → IsIn (tickets own s) s.runtime
-runtime_in own s t q = behind_own own t _ (has_back t (option_list (waiting_call s)) _ (has_front t (option_list s.runtime) (nexts s.members) (option_in s.runtime t q)))
+runtime_in own s t q =
+    behind_own own t _ (has_back t (option_list (waiting_call s)) _ (has_front t (option_list s.runtime) (nexts s.members) (option_in s.runtime t q)))
 
 members_in : (own : ℕ) (s : Stand) → AllIn (tickets own s) s.members
-members_in own s = nexts_in (tickets own s) s.members (λ t q. behind_own own t _ (has_back t (option_list (waiting_call s)) _ (has_back t (option_list s.runtime) (nexts s.members) q)))
+members_in own s =
+    nexts_in (tickets own s) s.members
+    (λ t q. behind_own own t _ (has_back t (option_list (waiting_call s)) _ (has_back t (option_list s.runtime) (nexts s.members) q)))
 
 own_in : (own : ℕ) (s : Stand) → IsIn (tickets own s) (Some own)
 own_in own s t q = let same : own ≡ t = cc in rw (same, eqb-self t) refl
@@ -149,9 +161,11 @@ left_in us own None true o p q = p
 left_in us own None false o p q = q
 left_in us own (Some a) b o p q = λ t r. absurd (some-none (sym r))
 
-firsts_in : (us : List ℕ) (step : Step) (s : Stand) (call : Call) (xs : List Member) → IsIn us (Some step.ticket) → AllIn us xs → AllIn us (map (member_first step s call) xs)
+firsts_in : (us : List ℕ) (step : Step) (s : Stand) (call : Call) (xs : List Member) → IsIn us (Some step.ticket)
+    → AllIn us xs → AllIn us (map (member_first step s call) xs)
 firsts_in us step s call [] p k = tt
-firsts_in us step s call (x ∷ xs) p k = (left_in us step.ticket (member_gets step s call x) (asks (TheExtension x.extension.count) call) x.next p k.0, firsts_in us step s call xs p k.1)
+firsts_in us step s call (x ∷ xs) p k =
+    (left_in us step.ticket (member_gets step s call x) (asks (TheExtension x.extension.count) call) x.next p k.0, firsts_in us step s call xs p k.1)
 
 fresh_in : (us : List ℕ) (o : Option Extension) (xs : List Member) → AllIn us xs → AllIn us (fresh_members o ++ xs)
 fresh_in us None xs k = k
@@ -165,20 +179,24 @@ first_in step s call =
     (give_in (tickets step.ticket s) s.runtime (poll_gets step s call RuntimePoll s.runtime) _ (runtime_in step.ticket s)
     (give_in (tickets step.ticket s) (waiting_call s) (to_waiting step.ticket s call) [] (waiting_in step.ticket s) tt)))
 
-turned_in : (fixed : Fixed) (step : Step) (s : Stand) (call : Call) → AreIn (tickets step.ticket s) (turned_moves fixed step.now (expires_now s call) s.phase (first_stand fixed step s call) (first_moves step s call))
+turned_in : (fixed : Fixed) (step : Step) (s : Stand) (call : Call)
+    → AreIn (tickets step.ticket s) (turned_moves fixed step.now (expires_now s call) s.phase (first_stand fixed step s call) (first_moves step s call))
 unfolding turned_moves first_stand
-turned_in fixed step s call = go (closing_ends (expires_now s call) (first_stand fixed step s call)) (begun s.phase (settled_phase fixed step.now (first_stand fixed step s call)))
+turned_in fixed step s call =
+    go (closing_ends (expires_now s call) (first_stand fixed step s call)) (begun s.phase (settled_phase fixed step.now (first_stand fixed step s call)))
   where
     us : List ℕ
     us = tickets step.ticket s
 
-    go : (c : Bool) (b : Option (ℕ × ℕ)) → AreIn us (if c then first_moves step s call else served_moves b (first_stand fixed step s call) (first_moves step s call))
+    go : (c : Bool) (b : Option (ℕ × ℕ))
+        → AreIn us (if c then first_moves step s call else served_moves b (first_stand fixed step s call) (first_moves step s call))
     go true b = first_in step s call
     go false b =
         each_in us (λ x. delivered b (ExtensionPoll x)) (members_first step s call) _
         (fresh_in us (as_registered call (own_answer s call)) _ (firsts_in us step s call s.members (own_in step.ticket s) (members_in step.ticket s)))
         (give_in us (runtime_first step s call) (delivered b RuntimePoll) (first_moves step s call)
-        (left_in us step.ticket (actor_gets TheRuntime step s call RuntimePoll s.runtime) (asks TheRuntime call) s.runtime (own_in step.ticket s) (runtime_in step.ticket s)) (first_in step s call))
+        (left_in us step.ticket (actor_gets TheRuntime step s call RuntimePoll s.runtime) (asks TheRuntime call) s.runtime (own_in step.ticket s) (runtime_in step.ticket s))
+        (first_in step s call))
 
 -- An environment gives answers to these tickets alone.
 pub moves_in : (fixed : Fixed) (step : Step) (s : Stand) (call : Call) → AreIn (tickets step.ticket s) (moves_of fixed step s call)
@@ -196,4 +214,5 @@ few_nexts (x ∷ xs) = omega (arith, length-append (option_list x.next) (nexts x
 -- They are the call's own, that of the waiting call, the runtime's, and one of each extension.
 pub few_tickets : (own : ℕ) (s : Stand) → length (tickets own s) ≤ length s.members + 3
 few_tickets own s =
-    omega (arith, length-append (option_list (waiting_call s)) (option_list s.runtime ++ nexts s.members), length-append (option_list s.runtime) (nexts s.members), few_option (waiting_call s), few_option s.runtime, few_nexts s.members)
+    omega
+    (arith, length-append (option_list (waiting_call s)) (option_list s.runtime ++ nexts s.members), length-append (option_list s.runtime) (nexts s.members), few_option (waiting_call s), few_option s.runtime, few_nexts s.members)

@@ -1,5 +1,6 @@
 -- The invocation whose charge an entry ends at an environment.
-use Rattle.std.proofs.Common.{◌≡◌, ℕ, ◌<◌, ◌≤◌, Bool, true, false, eqb, List, [], ◌∷◌, length, Option, Some, None, sym, refl, ap, ap₂, ◌∙◌, inl, inr, arith, not, ◌&&◌, true≢false, if◌then◌else◌}
+use Rattle.std.proofs.Common.{◌≡◌, ℕ, ◌<◌, ◌≤◌, Bool, true, false, eqb, List, [], ◌∷◌, length, Option, Some, None, sym}
+use Rattle.std.proofs.Common.{refl, ap, ap₂, ◌∙◌, inl, inr, arith, not, ◌&&◌, true≢false, if◌then◌else◌}
 use Rattle.std.proofs.lemmas.Bool.{cases_lt}
 use Rattle.std.proofs.lemmas.Bool.Decides.{eqb_tells}
 use Rattle.call_types.specs.declared.call.Entry.{Entry}
@@ -19,7 +20,8 @@ use Rattle.call_model.proofs.Charges.{charged_here}
 with_ticket : List Entry → ℕ → ℕ × Entry
 with_ticket h t = (t, record { moment = 0; call = call_of h t; answers = []; place = place_of h t })
 
-charged_ticket : (config : Config) (h : List Entry) (e t : ℕ) → IsLegal config h → t < length h → (is_number (place_of h t) e && is_charged config h t) ≡ is_number (at_hand (phase config h e)) t
+charged_ticket : (config : Config) (h : List Entry) (e t : ℕ) → IsLegal config h → t < length h
+    → (is_number (place_of h t) e && is_charged config h t) ≡ is_number (at_hand (phase config h e)) t
 unfolding with_ticket
 charged_ticket config h e t l lt = charged_here config h e (with_ticket h t) l (lt, refl, refl)
 
@@ -41,7 +43,8 @@ no_longer_is (Some p) b t = elim (eqb_tells p t) [
     away false e = e
 
 -- An invocation of the environment was charged before the entry and isn't after just where the phases tell it.
-pub ended : (config : Config) (h : List Entry) (entry : Entry) (e t : ℕ) → IsLegal config (entry ∷ h) → (is_number (place_of h t) e && (is_charged config h t && not (is_charged config (entry ∷ h) t))) ≡ is_number (ended_by (phase config h e) (phase config (entry ∷ h) e)) t
+pub ended : (config : Config) (h : List Entry) (entry : Entry) (e t : ℕ) → IsLegal config (entry ∷ h)
+    → (is_number (place_of h t) e && (is_charged config h t && not (is_charged config (entry ∷ h) t))) ≡ is_number (ended_by (phase config h e) (phase config (entry ∷ h) e)) t
 ended config h entry e t l = elim (cases_lt t (length h)) [
   | inl lt ↦ old lt
   | inr ge ↦ rw (nowhere h ge) (sym (no_longer_is (at_hand (phase config h e)) (at_hand (phase config (entry ∷ h) e)) t ∙ ap (λ (b : Bool). b && not (is_number (at_hand (phase config (entry ∷ h) e)) t)) (not_held (at_hand (phase config h e)) refl ge)))
@@ -51,10 +54,12 @@ ended config h entry e t l = elim (cases_lt t (length h)) [
     both true c c' a b p q = ap₂ (λ (x y : Bool). x && not y) p q
     both false c c' a b p q = ap (λ (x : Bool). x && not b) p
 
-    old : t < length h → (is_number (place_of h t) e && (is_charged config h t && not (is_charged config (entry ∷ h) t))) ≡ is_number (ended_by (phase config h e) (phase config (entry ∷ h) e)) t
+    old : t < length h
+        → (is_number (place_of h t) e && (is_charged config h t && not (is_charged config (entry ∷ h) t))) ≡ is_number (ended_by (phase config h e) (phase config (entry ∷ h) e)) t
     old lt =
         let here : is_number (place_of h t) e ≡ is_number (place_of (entry ∷ h) t) e = ap (λ (o : Option ℕ). is_number o e) (sym (place_of_old entry h t lt)) in
-        both (is_number (place_of h t) e) (is_charged config h t) (is_charged config (entry ∷ h) t) (is_number (at_hand (phase config h e)) t) (is_number (at_hand (phase config (entry ∷ h) e)) t)
+        both (is_number (place_of h t) e) (is_charged config h t) (is_charged config (entry ∷ h) t)
+        (is_number (at_hand (phase config h e)) t) (is_number (at_hand (phase config (entry ∷ h) e)) t)
         (charged_ticket config h e t l.0 lt)
         (ap (λ (b : Bool). b && is_charged config (entry ∷ h) t) here ∙ charged_ticket config (entry ∷ h) e t l (omega (arith, lt)))
         ∙ sym (no_longer_is (at_hand (phase config h e)) (at_hand (phase config (entry ∷ h) e)) t)

@@ -1,5 +1,6 @@
 -- The numbers of the events of one environment, and how many there are.
-use Rattle.std.proofs.Common.{◌≡◌, ℕ, suc, ◌+◌, Bool, true, false, cond, List, [], ◌∷◌, Option, Some, None, sym, refl, ap, ap₂, ◌∙◌, arith, ◌&&◌, filter, if◌then◌else◌, true≢false}
+use Rattle.std.proofs.Common.{◌≡◌, ℕ, suc, ◌+◌, Bool, true, false, cond, List, [], ◌∷◌, Option, Some, None, sym, refl}
+use Rattle.std.proofs.Common.{ap, ap₂, ◌∙◌, arith, ◌&&◌, filter, if◌then◌else◌, true≢false}
 use Rattle.std.proofs.lemmas.List.Sums.{sum_by-cons}
 use Rattle.call_types.specs.declared.answer.Answer.{Answer}
 use Rattle.call_types.specs.declared.answer.Answer.TheVariants.{Told, Ending}
@@ -28,11 +29,13 @@ abbrev pub AreAt : (ℕ → Bool) → (ℕ → Option ℕ) → ℕ → List (ℕ
 AreAt p env e [] = Unit {0}
 AreAt p env e (a ∷ rest) = (is_event a.1 ≡ true → p a.0 ≡ is_number (env a.0) e) × AreAt p env e rest
 
-one_more : (h : List Entry) (e : ℕ) (a : ℕ × Answer) (before : List (ℕ × Answer)) → events_in h e (a ∷ before) ≡ cond (is_event a.1 && is_number (env_of (call_of h a.0)) e) 1 0 + events_in h e before
+one_more : (h : List Entry) (e : ℕ) (a : ℕ × Answer) (before : List (ℕ × Answer))
+    → events_in h e (a ∷ before) ≡ cond (is_event a.1 && is_number (env_of (call_of h a.0)) e) 1 0 + events_in h e before
 one_more h e a before = sum_by-cons (λ (b : ℕ × Answer). cond (is_event b.1 && is_number (env_of (call_of h b.0)) e) 1 0) a before
 
 -- The numbers of an environment's own answers go on from its count.
-pub numbered_own : (p : ℕ → Bool) (h : List Entry) (entry : Entry) (e : ℕ) (before pairs : List (ℕ × Answer)) → AreAt p (λ t. env_of (call_of (entry ∷ h) t)) e pairs
+pub numbered_own : (p : ℕ → Bool) (h : List Entry) (entry : Entry) (e : ℕ) (before pairs : List (ℕ × Answer))
+    → AreAt p (λ t. env_of (call_of (entry ∷ h) t)) e pairs
     → filter (λ a. p a.0) (numbered h entry before pairs) ≡ numbered_from (events_in (entry ∷ h) e before + events h e) (filter (λ a. p a.0) pairs)
 numbered_own p h entry e before [] k = refl
 numbered_own p h entry e before (a ∷ rest) k = go (p a.0) refl (is_event a.1) refl (numbered_own p h entry e (a ∷ before) rest k.1)
@@ -52,7 +55,8 @@ numbered_own p h entry e before (a ∷ rest) k = go (p a.0) refl (is_event a.1) 
     count : (c : Bool) → (is_event a.1 && is_number env e) ≡ c → events_in (entry ∷ h) e (a ∷ before) + events h e ≡ (if c then suc n else n)
     count c q = by c (one_more (entry ∷ h) e a before ∙ ap (λ (b : Bool). cond b 1 0 + events_in (entry ∷ h) e before) q)
       where
-        by : (c : Bool) → events_in (entry ∷ h) e (a ∷ before) ≡ cond c 1 0 + events_in (entry ∷ h) e before → events_in (entry ∷ h) e (a ∷ before) + events h e ≡ (if c then suc n else n)
+        by : (c : Bool) → events_in (entry ∷ h) e (a ∷ before) ≡ cond c 1 0 + events_in (entry ∷ h) e before
+            → events_in (entry ∷ h) e (a ∷ before) + events h e ≡ (if c then suc n else n)
         by true m = omega (arith, m)
         by false m = omega (arith, m)
 
@@ -69,18 +73,21 @@ numbered_own p h entry e before (a ∷ rest) k = go (p a.0) refl (is_event a.1) 
     silent None v = refl
     silent (Some d) v = no_number _ a.1 v
 
-    pair_of : event_at h entry before env a.1 ≡ a.1 → later ≡ numbered_from n kept → is_event a.1 ≡ false → (a.0, event_at h entry before env a.1) ∷ later ≡ (a.0, with_event (suc n) a.1) ∷ numbered_from n kept
+    pair_of : event_at h entry before env a.1 ≡ a.1 → later ≡ numbered_from n kept → is_event a.1 ≡ false
+        → (a.0, event_at h entry before env a.1) ∷ later ≡ (a.0, with_event (suc n) a.1) ∷ numbered_from n kept
     pair_of x y v = ap₂ ◌∷◌ (ap (λ (b : Answer). (a.0, b)) (x ∙ sym (no_number (suc n) a.1 v))) y
 
     go : (b : Bool) → p a.0 ≡ b → (v : Bool) → is_event a.1 ≡ v → later ≡ numbered_from (events_in (entry ∷ h) e (a ∷ before) + events h e) kept
         → (if b then (a.0, event_at h entry before env a.1) ∷ later else later) ≡ numbered_from n (if b then a ∷ kept else kept)
-    go true q true v ih = let at : env ≡ Some e = number_some env e (sym (k.0 v) ∙ q) in rw (at, v) (ap (λ xs. (a.0, with_event (suc n) a.1) ∷ xs) (ih ∙ ap (λ m. numbered_from m kept) (count true (by_two v (sym (k.0 v) ∙ q)))))
+    go true q true v ih =
+        let at : env ≡ Some e = number_some env e (sym (k.0 v) ∙ q) in rw (at, v) (ap (λ xs. (a.0, with_event (suc n) a.1) ∷ xs) (ih ∙ ap (λ m. numbered_from m kept) (count true (by_two v (sym (k.0 v) ∙ q)))))
     go true q false v ih = rw v (pair_of (silent env v) (ih ∙ ap (λ m. numbered_from m kept) (count false (by_none v))) v)
     go false q true v ih = ih ∙ ap (λ m. numbered_from m kept) (count false (by_left (sym (k.0 v) ∙ q)))
     go false q false v ih = ih ∙ ap (λ m. numbered_from m kept) (count false (by_none v))
 
 -- How many events the environment's own answers are.
-pub counted_own : (p : ℕ → Bool) (h : List Entry) (entry : Entry) (e : ℕ) (before pairs : List (ℕ × Answer)) → AreAt p (λ t. env_of (call_of (entry ∷ h) t)) e pairs
+pub counted_own : (p : ℕ → Bool) (h : List Entry) (entry : Entry) (e : ℕ) (before pairs : List (ℕ × Answer))
+    → AreAt p (λ t. env_of (call_of (entry ∷ h) t)) e pairs
     → events_in (entry ∷ h) e (numbered h entry before pairs) ≡ events_of (filter (λ a. p a.0) pairs)
 counted_own p h entry e before [] k = refl
 counted_own p h entry e before (a ∷ rest) k =

@@ -1,6 +1,7 @@
 -- An invocation is told no event: each event stands at a ticket whose call names its environment.
 use Rattle.std.proofs.lemmas.Bool.{cases_lt}
-use Rattle.std.proofs.Common.{◌≡◌, ℕ, zero, suc, ◌≤◌, Bool, true, false, List, [], ◌∷◌, length, Option, Some, None, sym, refl, ap, ◌∙◌, inl, inr, not, true≢false, if◌then◌else◌, ◌==◌}
+use Rattle.std.proofs.Common.{◌≡◌, ℕ, zero, suc, ◌≤◌, Bool, true, false, List, [], ◌∷◌, length, Option, Some, None, sym}
+use Rattle.std.proofs.Common.{refl, ap, ◌∙◌, inl, inr, not, true≢false, if◌then◌else◌, ◌==◌}
 use Rattle.call_types.specs.declared.answer.Answer.{Answer}
 use Rattle.call_types.specs.declared.call.Call.{Call}
 use Rattle.call_types.specs.declared.call.Call.TheVariants.{Invoke}
@@ -42,11 +43,13 @@ quiet_own config h (Invoke f qualified trace body) i = go (verdict config h f)
     go (Admits e) = refl
 quiet_own config h call i = absurd (true≢false (sym i))
 
-quiet_first : (config : Config) (h : List Entry) (entry : Entry) (t : ℕ) → is_invoke (call_of (entry ∷ h) t) ≡ true → is_quiet (first_answer config h entry.moment entry.call t) ≡ true
+quiet_first : (config : Config) (h : List Entry) (entry : Entry) (t : ℕ) → is_invoke (call_of (entry ∷ h) t) ≡ true
+    → is_quiet (first_answer config h entry.moment entry.call t) ≡ true
 unfolding first_answer
 quiet_first config h entry t i = go (t == length h) i
   where
-    by : (e : ℕ) → is_invoke (call_of h t) ≡ true → is_quiet (by_role (length h) entry.moment (stand config h e) entry.call t (role (stand config h e) t)) ≡ true
+    by : (e : ℕ) → is_invoke (call_of h t) ≡ true
+        → is_quiet (by_role (length h) entry.moment (stand config h e) entry.call t (role (stand config h e) t)) ≡ true
     by e j = rw (invoke_role config h e t j) (waits (waits_as (stand config h e) t))
       where
         waits : (b : Bool) → is_quiet (by_role (length h) entry.moment (stand config h e) entry.call t (if b then Waiting else NoRole)) ≡ true
@@ -61,7 +64,8 @@ quiet_first config h entry t i = go (t == length h) i
     other None j = refl
     other (Some e) j = at e (names h e entry.call) j
 
-    go : (b : Bool) → is_invoke (if b then entry.call else call_of h t) ≡ true → is_quiet (if b then own_first config h entry.call else other_answer config h entry.moment entry.call t (home h t)) ≡ true
+    go : (b : Bool) → is_invoke (if b then entry.call else call_of h t) ≡ true
+        → is_quiet (if b then own_first config h entry.call else other_answer config h entry.moment entry.call t (home h t)) ≡ true
     go true j = quiet_own config h entry.call j
     go false j = other (home h t) j
 
@@ -69,11 +73,14 @@ place_invoke : (config : Config) (h : List Entry) (t d : ℕ) → IsLegal config
 place_invoke config [] t d l q = absurd (some-none (sym q))
 place_invoke config (entry ∷ h) t d l q = go (t == length h) (place_invoke config h t d l.0) q
   where
-    go : (b : Bool) → (place_of h t ≡ Some d → is_invoke (call_of h t) ≡ true) → (if b then entry.place else place_of h t) ≡ Some d → is_invoke (if b then entry.call else call_of h t) ≡ true
+    go : (b : Bool) → (place_of h t ≡ Some d → is_invoke (call_of h t) ≡ true)
+        → (if b then entry.place else place_of h t) ≡ Some d → is_invoke (if b then entry.call else call_of h t) ≡ true
     go true ih r = placed_invoke config h entry.call d (sym (l.1.place) ∙ r)
     go false ih r = ih r
 
-at_each : (p : ℕ → Bool) (env : ℕ → Option ℕ) (e t n : ℕ) (f : ℕ → Option Answer) → ((u : ℕ) (a : Answer) → f u ≡ Some a → is_event a ≡ true → p u ≡ is_number (env u) e) → AreAt p env e (each_from t n f)
+at_each : (p : ℕ → Bool) (env : ℕ → Option ℕ) (e t n : ℕ) (f : ℕ → Option Answer)
+    → ((u : ℕ) (a : Answer) → f u ≡ Some a → is_event a ≡ true → p u ≡ is_number (env u) e)
+    → AreAt p env e (each_from t n f)
 at_each p env e t zero f k = tt
 at_each p env e t (suc n) f k = go (f t) refl (at_each p env e (suc t) n f k)
   where
@@ -84,7 +91,9 @@ at_each p env e t (suc n) f k = go (f t) refl (at_each p env e (suc t) n f k)
 -- Each event of an entry stands at a ticket whose call names its environment.
 pub are_named : (config : Config) (h : List Entry) (entry : Entry) (e : ℕ) → IsLegal config h → Follows config h entry → AreNamed config h entry e
 unfolding answer_to
-are_named config h entry e l w = at_each (is_here (entry ∷ h) e) (λ t. env_of (call_of (entry ∷ h) t)) e 0 (suc (length h)) (answer_to config h fe) (λ u a q v. go u a (place_of (entry ∷ h) u) refl q v)
+are_named config h entry e l w =
+    at_each (is_here (entry ∷ h) e) (λ t. env_of (call_of (entry ∷ h) t)) e 0 (suc (length h)) (answer_to config h fe)
+    (λ u a q v. go u a (place_of (entry ∷ h) u) refl q v)
   where
     fe : Entry
     fe = first_entry config h entry.moment entry.call
@@ -96,12 +105,16 @@ are_named config h entry e l w = at_each (is_here (entry ∷ h) e) (λ t. env_of
     ]
 
     quiet : (u : ℕ) → is_invoke (call_of (entry ∷ h) u) ≡ true → is_quiet (answer_to config h fe u) ≡ true
-    quiet u i = rw (invoke_second config h fe u i, first_valued config h entry.moment entry.call u (low u i)) (or_quiet (first_answer config h entry.moment entry.call u) (quiet_first config h entry u i))
+    quiet u i =
+        rw (invoke_second config h fe u i, first_valued config h entry.moment entry.call u (low u i))
+        (or_quiet (first_answer config h entry.moment entry.call u) (quiet_first config h entry u i))
       where
         or_quiet : (a : Option Answer) → is_quiet a ≡ true → is_quiet (or_else a None) ≡ true
         or_quiet None z = refl
         or_quiet (Some b) z = z
 
-    go : (u : ℕ) (a : Answer) (o : Option ℕ) → place_of (entry ∷ h) u ≡ o → answer_to config h fe u ≡ Some a → is_event a ≡ true → is_number (or_else (place_of (entry ∷ h) u) (env_of (call_of (entry ∷ h) u))) e ≡ is_number (env_of (call_of (entry ∷ h) u)) e
+    go : (u : ℕ) (a : Answer) (o : Option ℕ) → place_of (entry ∷ h) u ≡ o → answer_to config h fe u ≡ Some a
+        → is_event a ≡ true
+        → is_number (or_else (place_of (entry ∷ h) u) (env_of (call_of (entry ∷ h) u))) e ≡ is_number (env_of (call_of (entry ∷ h) u)) e
     go u a None q r v = ap (λ (m : Option ℕ). is_number (or_else m (env_of (call_of (entry ∷ h) u))) e) q
     go u a (Some d) q r v = absurd (true≢false (sym (quiet u (place_invoke config (entry ∷ h) u d (l, w) q)) ∙ ap is_quiet r ∙ ap not v))

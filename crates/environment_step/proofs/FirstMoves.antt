@@ -1,6 +1,7 @@
 -- The first answers at an environment, from its stand.
 use Rattle.std.proofs.lemmas.Bool.{cases_lt}
-use Rattle.std.proofs.Common.{◌≡◌, ℕ, ◌<◌, ◌≤◌, Bool, true, false, eqb, List, [], ◌∷◌, length, Option, Some, None, sym, refl, ap, ◌∙◌, inl, inr, arith, ◌≢◌, is_some, ◌&&◌, true≢false, if◌then◌else◌}
+use Rattle.std.proofs.Common.{◌≡◌, ℕ, ◌<◌, ◌≤◌, Bool, true, false, eqb, List, [], ◌∷◌, length, Option, Some, None, sym}
+use Rattle.std.proofs.Common.{refl, ap, ◌∙◌, inl, inr, arith, ◌≢◌, is_some, ◌&&◌, true≢false, if◌then◌else◌}
 use Rattle.call_types.specs.declared.answer.Answer.{Answer}
 use Rattle.call_types.specs.declared.call.Call.{Call}
 use Rattle.call_types.specs.declared.call.Entry.{Entry}
@@ -35,7 +36,9 @@ use Rattle.environment_step.proofs.PendingAfter.{no_own}
 -- A ticket of elsewhere has no role.
 pub role_away : (config : Config) (h : List Entry) (e t : ℕ) → IsLegal config h → is_number (home h t) e ≡ false → role (stand config h e) t ≡ NoRole
 unfolding role seen members
-role_away config h e t l away = rw (no_wait (is_some (request_at config h e (at_hand (phase config h e)))), other_number (parked h g TheRuntime) t (λ q. no ((runtime_actor config h e l).here t q)), none_holds h g t (extensions g) (λ x i q. no ((member_actor config h e x l i).here t q))) refl
+role_away config h e t l away =
+    rw
+    (no_wait (is_some (request_at config h e (at_hand (phase config h e)))), other_number (parked h g TheRuntime) t (λ q. no ((runtime_actor config h e l).here t q)), none_holds h g t (extensions g) (λ x i q. no ((member_actor config h e x l i).here t q))) refl
   where
     g : Generation
     g = (life config h e).generation
@@ -48,9 +51,12 @@ role_away config h e t l away = rw (no_wait (is_some (request_at config h e (at_
     no_wait true = other_number (at_hand (phase config h e)) t (λ q. no (held_home h e t (held config h e t l q)))
 
 -- what an environment's stand holds is orderly
-pub stand_orderly : (config : Config) (h : List Entry) (e : ℕ) → IsLegal config h → IsOrderly (stand config h e).runtime (stand config h e).members (at_hand (stand config h e).phase)
+pub stand_orderly : (config : Config) (h : List Entry) (e : ℕ) → IsLegal config h
+    → IsOrderly (stand config h e).runtime (stand config h e).members (at_hand (stand config h e).phase)
 unfolding seen
-stand_orderly config h e l = orderly h (life config h e).generation _ (at_hand (phase config h e)) (generation_part config h e) (counts_fall config h e l) (λ t q. (held config h e t l q).invoke)
+stand_orderly config h e l =
+    orderly h (life config h e).generation _ (at_hand (phase config h e)) (generation_part config h e)
+    (counts_fall config h e l) (λ t q. (held config h e t l q).invoke)
 
 -- what older tickets get, by the roles that they have
 abbrev pub older_moves : Step → Stand → Call → List (ℕ × Answer)
@@ -59,9 +65,11 @@ older_moves step s call =
     (give s.runtime (poll_gets step s call RuntimePoll s.runtime)
     (give (waiting_call s) (to_waiting step.ticket s call) []))
 
-pub older_roled : (config : Config) (h : List Entry) (step : Step) (call : Call) (e : ℕ) → IsLegal config h → IsRoled (by_role step.ticket step.now (stand config h e) call) (stand config h e) (older_moves step (stand config h e) call)
+pub older_roled : (config : Config) (h : List Entry) (step : Step) (call : Call) (e : ℕ) → IsLegal config h
+    → IsRoled (by_role step.ticket step.now (stand config h e) call) (stand config h e) (older_moves step (stand config h e) call)
 older_roled config h step call e l =
-    roled (by_role step.ticket step.now s call) s (λ x. poll_gets step s call (ExtensionPoll x) x.next) (poll_gets step s call RuntimePoll s.runtime) (to_waiting step.ticket s call) (stand_orderly config h e l)
+    roled (by_role step.ticket step.now s call) s (λ x. poll_gets step s call (ExtensionPoll x) x.next)
+    (poll_gets step s call RuntimePoll s.runtime) (to_waiting step.ticket s call) (stand_orderly config h e l)
     (λ x t q. ap (poll_gets step s call (ExtensionPoll x)) q) (λ t q. ap (poll_gets step s call RuntimePoll) q) (λ t q. refl) (λ t. refl)
   where
     s : Stand
@@ -97,11 +105,13 @@ own_part config h entry e w c = go (env_of entry.call) refl
     placed (Some d) q = at (eqb d e) refl
       where
         at : (b : Bool) → eqb d e ≡ b → nothing ≡ (if b then A else nothing)
-        at true k = sym (placed_silent config h entry e w (placed_invoke config h entry.call d (sym (w.place) ∙ q)) (ap (λ (o : Option ℕ). is_number o e) q ∙ k))
+        at true k =
+            sym (placed_silent config h entry e w (placed_invoke config h entry.call d (sym (w.place) ∙ q)) (ap (λ (o : Option ℕ). is_number o e) q ∙ k))
         at false k = refl
 
     go : (o : Option ℕ) → env_of entry.call ≡ o → own_answer s entry.call ≡ (if is_number (or_else entry.place o) e then A else None)
-    go (Some d) q = let same : d ≡ e = named_here config h entry e d w q c in rw (w.place ∙ env_place config h entry.call d q, same, eqb-self e) (sym (own_value config h entry.moment entry.call e (q ∙ ap (λ (n : ℕ). Some n) same)))
+    go (Some d) q =
+        let same : d ≡ e = named_here config h entry e d w q c in rw (w.place ∙ env_place config h entry.call d q, same, eqb-self e) (sym (own_value config h entry.moment entry.call e (q ∙ ap (λ (n : ℕ). Some n) same)))
     go None q = no_own s entry.call q ∙ placed entry.place refl
 
 pub record IsMoved (config : Config) (h : List Entry) (entry : Entry) (e : ℕ) (now : List (ℕ × Answer)) (A : ℕ → Option Answer) : Type 0 where
@@ -122,7 +132,9 @@ first_moved config h entry e count l w c = record {
     | inl lt ↦ older t lt
     | inr ge ↦ let same : t ≡ length h = omega (arith, le, ge) in rw same newest
   ];
-  past = λ t lt. give_answer (Some (length h)) own base t (k.rising) free ∙ other own t (λ q. let less : length h < t = lt in omega (arith, less, q)) ∙ nobody t (omega (arith, lt));
+  past =
+      λ t lt. give_answer (Some (length h)) own base t (k.rising) free
+      ∙ other own t (λ q. let less : length h < t = lt in omega (arith, less, q)) ∙ nobody t (omega (arith, lt));
 }
   where
     s : Stand
@@ -158,8 +170,12 @@ first_moved config h entry e count l w c = record {
     mine (Some a) b q = rw (eqb-self (length h)) refl
 
     newest : answer_in (give (Some (length h)) own base) (length h) ≡ (if is_here (entry ∷ h) e (length h) then first_answer config h entry.moment entry.call (length h) else None)
-    newest = give_answer (Some (length h)) own base (length h) (k.rising) free ∙ mine own (answer_in base (length h)) (nobody (length h) (omega arith)) ∙ own_part config h entry e w c
-        ∙ ap (λ (b : Bool). if is_number (or_else (if b then entry.place else place_of h (length h)) (env_of (if b then entry.call else call_of h (length h)))) e then first_answer config h entry.moment entry.call (length h) else None) (sym (eqb-self (length h)))
+    newest =
+        give_answer (Some (length h)) own base (length h) (k.rising) free
+        ∙ mine own (answer_in base (length h)) (nobody (length h) (omega arith)) ∙ own_part config h entry e w c
+        ∙ ap
+        (λ (b : Bool). if is_number (or_else (if b then entry.place else place_of h (length h)) (env_of (if b then entry.call else call_of h (length h)))) e then first_answer config h entry.moment entry.call (length h) else None)
+        (sym (eqb-self (length h)))
 
     named : (t : ℕ) (b : Bool) → names h e entry.call ≡ b → F t (role s t) ≡ answer_at config h entry.moment e entry.call t b
     named t true q = refl
@@ -169,7 +185,10 @@ first_moved config h entry e count l w c = record {
     at t true q = named t (names h e entry.call) refl ∙ ap (other_answer config h entry.moment entry.call t) (sym (number_some (home h t) e q))
     at t false q = ap (F t) (role_away config h e t l q)
 
-    older : (t : ℕ) → t < length h → answer_in (give (Some (length h)) own base) t ≡ (if is_here (entry ∷ h) e t then first_answer config h entry.moment entry.call t else None)
+    older : (t : ℕ) → t < length h
+        → answer_in (give (Some (length h)) own base) t ≡ (if is_here (entry ∷ h) e t then first_answer config h entry.moment entry.call t else None)
     older t lt = let ne : t ≢ length h = omega (arith, lt) in
         give_answer (Some (length h)) own base t (k.rising) free ∙ other own t (λ q. ne (sym q)) ∙ k.value t ∙ at t (is_here h e t) refl
-        ∙ ap (λ (b : Bool). if is_number (or_else (if b then entry.place else place_of h t) (env_of (if b then entry.call else call_of h t))) e then (if b then own_first config h entry.call else other_answer config h entry.moment entry.call t (home h t)) else None) (sym (eqb-other t (length h) ne))
+        ∙ ap
+        (λ (b : Bool). if is_number (or_else (if b then entry.place else place_of h t) (env_of (if b then entry.call else call_of h t))) e then (if b then own_first config h entry.call else other_answer config h entry.moment entry.call t (home h t)) else None)
+        (sym (eqb-other t (length h) ne))

@@ -1,5 +1,6 @@
 -- The first answers to an environment's Nexts, and its runtime and its extensions after them, from the stand alone.
-use Rattle.std.proofs.Common.{◌≡◌, ℕ, ◌<◌, ◌≤◌, Bool, true, false, List, length, Option, Some, None, sym, refl, ap, ◌∙◌, arith, is_none, ◌||◌, true≢false, if◌then◌else◌, ◌∷◌, ◌&&◌, suc, ◌++◌, ap₂, map}
+use Rattle.std.proofs.Common.{◌≡◌, ℕ, ◌<◌, ◌≤◌, Bool, true, false, List, length, Option, Some, None, sym, refl, ap, ◌∙◌}
+use Rattle.std.proofs.Common.{arith, is_none, ◌||◌, true≢false, if◌then◌else◌, ◌∷◌, ◌&&◌, suc, ◌++◌, ap₂, map}
 use Rattle.call_types.specs.declared.answer.Answer.{Answer}
 use Rattle.call_types.specs.declared.call.Call.{Call}
 use Rattle.call_types.specs.declared.call.Call.TheVariants.{Invoke, RuntimeNext, ExtNext, ExtInitFailure, ExtExitFailure, Register}
@@ -7,7 +8,9 @@ use Rattle.call_types.specs.declared.call.Entry.{Entry}
 use Rattle.arn_ids.specs.declared.config.Config.{Config}
 use Rattle.call_model.specs.History.{answer_in, pending}
 use Rattle.call_types.specs.Calls.{env_of, is_invoke}
-use Rattle.call_model.specs.Generation.{Actor, TheRuntime, TheExtension, asks, is_ending, answer_to_next, Generation, Extension, Member, parked, if_pending, last_next, extensions, member, is_accepted, reports_exit, members, as_registered}
+use Rattle.call_model.specs.Generation.{Actor, TheRuntime, TheExtension, asks, is_ending, answer_to_next, Generation}
+use Rattle.call_model.specs.Generation.{Extension, Member, parked, if_pending, last_next, extensions, member}
+use Rattle.call_model.specs.Generation.{is_accepted, reports_exit, members, as_registered}
 use Rattle.call_model.specs.Stand.{Stand, is_number, role, Role, NoRole, Waiting, RuntimePoll, ExtensionPoll}
 use Rattle.call_model.specs.Table.{own_answer, closes}
 use Rattle.call_model.specs.Polls.{by_role}
@@ -40,7 +43,8 @@ is_poll_role (ExtensionPoll x) = true
 is_poll_role r = false
 
 -- where a call that concerns an environment doesn't name it, it is an Invoke
-pub not_named_call : (h : List Entry) (entry : Entry) (e : ℕ) (config : Config) → Follows config h entry → concerns h e entry ≡ true → names h e entry.call ≡ false → is_invoke entry.call ≡ true
+pub not_named_call : (h : List Entry) (entry : Entry) (e : ℕ) (config : Config) → Follows config h entry
+    → concerns h e entry ≡ true → names h e entry.call ≡ false → is_invoke entry.call ≡ true
 not_named_call h entry e config w c q = go entry.call refl q
   where
     placed : is_number entry.place e ≡ true
@@ -54,7 +58,8 @@ not_named_call h entry e config w c q = go entry.call refl q
     go call p r = absurd (no_place (ap (place_for config h) p))
 
 -- an Invoke gives a poll nothing
-pub invoke_gives : (own now : ℕ) (s : Stand) (call : Call) (t : ℕ) (r : Role) → is_invoke call ≡ true → is_poll_role r ≡ true → by_role own now s call t r ≡ None
+pub invoke_gives : (own now : ℕ) (s : Stand) (call : Call) (t : ℕ) (r : Role) → is_invoke call ≡ true
+    → is_poll_role r ≡ true → by_role own now s call t r ≡ None
 unfolding closes
 invoke_gives own now s (Invoke f qualified trace body) t RuntimePoll i p = refl
 invoke_gives own now s (Invoke f qualified trace body) t (ExtensionPoll x) i p = refl
@@ -70,7 +75,8 @@ pub record IsActor (config : Config) (h : List Entry) (e : ℕ) (actor : Actor) 
   pub role_is : (t : ℕ) → next ≡ Some t → role (stand config h e) t ≡ r
 
 -- the first answer to an actor's Next
-pub actor_value : (config : Config) (h : List Entry) (entry : Entry) (e : ℕ) (actor : Actor) (r : Role) (next : Option ℕ) (count : ℕ) → Follows config h entry → concerns h e entry ≡ true → IsActor config h e actor r next
+pub actor_value : (config : Config) (h : List Entry) (entry : Entry) (e : ℕ) (actor : Actor) (r : Role) (next : Option ℕ) (count : ℕ)
+    → Follows config h entry → concerns h e entry ≡ true → IsActor config h e actor r next
     → gets (first_answer config h entry.moment entry.call) (asked actor entry.call (length h) next) ≡ actor_gets actor (record { ticket = length h; now = entry.moment; count = count }) (stand config h e) entry.call r next
 unfolding first_answer
 actor_value config h entry e actor r next count w c k = go (asks actor entry.call) refl
@@ -85,28 +91,36 @@ actor_value config h entry e actor r next count w c k = go (asks actor entry.cal
     asks_env (TheExtension x) (RuntimeNext d) q = absurd (true≢false (sym q))
     asks_env actor call q = absurd (true≢false (sym q))
 
-    older : (t : ℕ) (b : Bool) → names h e entry.call ≡ b → next ≡ Some t → answer_at config h now e entry.call t b ≡ by_role (length h) now (stand config h e) entry.call t r
+    older : (t : ℕ) (b : Bool) → names h e entry.call ≡ b → next ≡ Some t
+        → answer_at config h now e entry.call t b ≡ by_role (length h) now (stand config h e) entry.call t r
     older t true q m = ap (by_role (length h) now (stand config h e) entry.call t) (k.role_is t m)
     older t false q m = sym (invoke_gives (length h) now (stand config h e) entry.call t r (not_named_call h entry e config w c q) (k.poll))
 
-    at_next : (o : Option ℕ) → next ≡ o → gets (first_answer config h now entry.call) o ≡ poll_gets (record { ticket = length h; now = now; count = count }) (stand config h e) entry.call r o
+    at_next : (o : Option ℕ) → next ≡ o
+        → gets (first_answer config h now entry.call) o ≡ poll_gets (record { ticket = length h; now = now; count = count }) (stand config h e) entry.call r o
     at_next None q = refl
-    at_next (Some t) q = rw (eqb-other t (length h) (λ same. let lt : t < length h = k.below t q in omega (arith, lt, same)), k.here t q) (older t (names h e entry.call) refl q)
+    at_next (Some t) q =
+        rw (eqb-other t (length h) (λ same. let lt : t < length h = k.below t q in omega (arith, lt, same)), k.here t q) (older t (names h e entry.call) refl q)
 
-    go : (b : Bool) → asks actor entry.call ≡ b → gets (first_answer config h now entry.call) (if b then Some (length h) else next) ≡ (if b then own_answer (stand config h e) entry.call else poll_gets (record { ticket = length h; now = now; count = count }) (stand config h e) entry.call r next)
-    go true q = let a = asks_env actor entry.call q in own_value config h now entry.call e (a.1 ∙ ap (λ (d : ℕ). Some d) (named_here config h entry e a.0 w a.1 c))
+    go : (b : Bool) → asks actor entry.call ≡ b
+        → gets (first_answer config h now entry.call) (if b then Some (length h) else next) ≡ (if b then own_answer (stand config h e) entry.call else poll_gets (record { ticket = length h; now = now; count = count }) (stand config h e) entry.call r next)
+    go true q =
+        let a = asks_env actor entry.call q in own_value config h now entry.call e (a.1 ∙ ap (λ (d : ℕ). Some d) (named_here config h entry e a.0 w a.1 c))
     go false q = at_next next refl
 
 -- what is left of a Next after the first answers
-pub still_left : (n : ℕ) (A : ℕ → Option Answer) (entry : Entry) (o : Option ℕ) → IsFirst n A entry → ((t : ℕ) → o ≡ Some t → t ≤ n) → still (first_part entry) o ≡ left (gets A o) o
+pub still_left : (n : ℕ) (A : ℕ → Option Answer) (entry : Entry) (o : Option ℕ) → IsFirst n A entry
+    → ((t : ℕ) → o ≡ Some t → t ≤ n) → still (first_part entry) o ≡ left (gets A o) o
 still_left n A entry None k below = refl
-still_left n A entry (Some t) k below = ap (λ (b : Bool). if b then Some t else None) (plain_none (answer_in (first_part entry).answers t) (A t) (k.first t (below t refl))) ∙ go (A t)
+still_left n A entry (Some t) k below =
+    ap (λ (b : Bool). if b then Some t else None) (plain_none (answer_in (first_part entry).answers t) (A t) (k.first t (below t refl))) ∙ go (A t)
   where
     go : (a : Option Answer) → (if is_none a then Some t else None) ≡ left a (Some t)
     go None = refl
     go (Some a) = refl
 
-pub ending_gets : (n : ℕ) (A : ℕ → Option Answer) (entry : Entry) (o : Option ℕ) → IsFirst n A entry → ((t : ℕ) → o ≡ Some t → t ≤ n) → is_ending (answer_to_next entry o) ≡ is_ending (gets A o)
+pub ending_gets : (n : ℕ) (A : ℕ → Option Answer) (entry : Entry) (o : Option ℕ) → IsFirst n A entry
+    → ((t : ℕ) → o ≡ Some t → t ≤ n) → is_ending (answer_to_next entry o) ≡ is_ending (gets A o)
 ending_gets n A entry None k below = refl
 ending_gets n A entry (Some t) k below = first_ending n A entry t k (below t refl)
 
@@ -126,18 +140,21 @@ pub member_actor : (config : Config) (h : List Entry) (e : ℕ) (x : Extension) 
 member_actor config h e x l i = record {
   poll = refl;
   below = λ t q. last_below (length h) g (TheExtension x.count) (generation_below config h e) t (parked_last h g (TheExtension x.count) t q);
-  here = λ t q. poll_home IsTimely config h t e l (last_here e h g (TheExtension x.count) t (generation_here IsTimely config h e l) (generation_part config h e) (parked_last h g (TheExtension x.count) t q));
+  here =
+      λ t q. poll_home IsTimely config h t e l (last_here e h g (TheExtension x.count) t (generation_here IsTimely config h e l) (generation_part config h e) (parked_last h g (TheExtension x.count) t q));
   role_is = λ t q. role_member config h e t x l i q;
 }
   where
     g : Generation
     g = (life config h e).generation
 
-pub runtime_actor : (config : Config) (h : List Entry) (e : ℕ) → IsLegal config h → IsActor config h e TheRuntime RuntimePoll (parked h (life config h e).generation TheRuntime)
+pub runtime_actor : (config : Config) (h : List Entry) (e : ℕ) → IsLegal config h
+    → IsActor config h e TheRuntime RuntimePoll (parked h (life config h e).generation TheRuntime)
 runtime_actor config h e l = record {
   poll = refl;
   below = λ t q. last_below (length h) g TheRuntime (generation_below config h e) t (parked_last h g TheRuntime t q);
-  here = λ t q. poll_home IsTimely config h t e l (last_here e h g TheRuntime t (generation_here IsTimely config h e l) (generation_part config h e) (parked_last h g TheRuntime t q));
+  here =
+      λ t q. poll_home IsTimely config h t e l (last_here e h g TheRuntime t (generation_here IsTimely config h e l) (generation_part config h e) (parked_last h g TheRuntime t q));
   role_is = λ t q. role_runtime config h e t l q;
 }
   where
@@ -145,7 +162,8 @@ runtime_actor config h e l = record {
     g = (life config h e).generation
 
 -- the last Next after a call isn't newer than the call
-pub asked_below : (actor : Actor) (call : Call) (n : ℕ) (next : Option ℕ) → ((t : ℕ) → next ≡ Some t → t < n) → (t : ℕ) → asked actor call n next ≡ Some t → t ≤ n
+pub asked_below : (actor : Actor) (call : Call) (n : ℕ) (next : Option ℕ) → ((t : ℕ) → next ≡ Some t → t < n) → (t : ℕ)
+    → asked actor call n next ≡ Some t → t ≤ n
 asked_below actor call n next below t q = go (asks actor call) q
   where
     go : (b : Bool) → (if b then Some n else next) ≡ Some t → t ≤ n
@@ -153,14 +171,17 @@ asked_below actor call n next below t q = go (asks actor call) q
     go false r = let less : t < n = below t r in omega (arith, less)
 
 -- The runtime's pending Next after the first answers.
-pub runtime_stage : (config : Config) (h : List Entry) (entry given : Entry) (e count : ℕ) → IsLegal config h → Follows config h entry → concerns h e entry ≡ true → given.call ≡ entry.call → IsFirst (length h) (first_answer config h entry.moment entry.call) given
+pub runtime_stage : (config : Config) (h : List Entry) (entry given : Entry) (e count : ℕ) → IsLegal config h
+    → Follows config h entry → concerns h e entry ≡ true → given.call ≡ entry.call
+    → IsFirst (length h) (first_answer config h entry.moment entry.call) given
     → parked (first_part given ∷ h) ((length h, given) ∷ (life config h e).generation) TheRuntime ≡ runtime_first (step_at h entry count) (stand config h e) entry.call
 unfolding seen
 runtime_stage config h entry given e count l w c same k =
     parked_step (first_part given) given h g TheRuntime refl (generation_below config h e) (fresh config h (length h) l (omega arith))
     ∙ ap (λ (call : Call). still (first_part given) (asked TheRuntime call (length h) next)) same
     ∙ still_left (length h) A given (asked TheRuntime entry.call (length h) next) k (asked_below TheRuntime entry.call (length h) next (actor.below))
-    ∙ ap (λ (a : Option Answer). left a (asked TheRuntime entry.call (length h) next)) (actor_value config h entry e TheRuntime RuntimePoll next count w c actor)
+    ∙ ap (λ (a : Option Answer). left a (asked TheRuntime entry.call (length h) next))
+    (actor_value config h entry e TheRuntime RuntimePoll next count w c actor)
   where
     g : Generation
     g = (life config h e).generation
@@ -175,7 +196,9 @@ runtime_stage config h entry given e count l w c same k =
     actor = runtime_actor config h e l
 
 -- An extension after the first answers.
-pub member_stage : (config : Config) (h : List Entry) (entry given : Entry) (e count : ℕ) (x : Extension) → IsLegal config h → Follows config h entry → concerns h e entry ≡ true → given.call ≡ entry.call → IsFirst (length h) (first_answer config h entry.moment entry.call) given → IsSilent h given
+pub member_stage : (config : Config) (h : List Entry) (entry given : Entry) (e count : ℕ) (x : Extension)
+    → IsLegal config h → Follows config h entry → concerns h e entry ≡ true → given.call ≡ entry.call
+    → IsFirst (length h) (first_answer config h entry.moment entry.call) given → IsSilent h given
     → IsIn x (extensions (life config h e).generation)
     → member (first_part given ∷ h) ((length h, given) ∷ (life config h e).generation) x ≡ member_first (step_at h entry count) (stand config h e) entry.call (member h (life config h e).generation x)
 member_stage config h entry given e count x l w c same k quiet i =
@@ -209,25 +232,34 @@ member_stage config h entry given e count x l w c same k quiet i =
     value = actor_value config h entry e (TheExtension x.count) (ExtensionPoll y) y.next count w c actor
 
     next_is : still (first_part given) (asked (TheExtension x.count) given.call (length h) y.next) ≡ left (member_gets (step_at h entry count) (stand config h e) entry.call y) N
-    next_is = ap (λ (call : Call). still (first_part given) (asked (TheExtension x.count) call (length h) y.next)) same ∙ still_left (length h) A given N k low ∙ ap (λ (a : Option Answer). left a N) value
+    next_is =
+        ap (λ (call : Call). still (first_part given) (asked (TheExtension x.count) call (length h) y.next)) same
+        ∙ still_left (length h) A given N k low ∙ ap (λ (a : Option Answer). left a N) value
 
     told_is : is_ending (answer_to_next given (asked (TheExtension x.count) given.call (length h) y.next)) ≡ is_ending (member_gets (step_at h entry count) (stand config h e) entry.call y)
-    told_is = ap (λ (call : Call). is_ending (answer_to_next given (asked (TheExtension x.count) call (length h) y.next))) same ∙ ending_gets (length h) A given N k low ∙ ap is_ending value
+    told_is =
+        ap (λ (call : Call). is_ending (answer_to_next given (asked (TheExtension x.count) call (length h) y.next))) same
+        ∙ ending_gets (length h) A given N k low ∙ ap is_ending value
 
     exited_is : (reports_exit x.count given.call && is_accepted (answer_in given.answers (length h))) ≡ (reports_exit x.count entry.call && is_accepted (own_answer (stand config h e) entry.call))
-    exited_is = ap (λ (call : Call). reports_exit x.count call && is_accepted (answer_in given.answers (length h))) same ∙ go (reports_exit x.count entry.call) refl
+    exited_is =
+        ap (λ (call : Call). reports_exit x.count call && is_accepted (answer_in given.answers (length h))) same ∙ go (reports_exit x.count entry.call) refl
       where
         env : (call : Call) → reports_exit x.count call ≡ true → (d : ℕ) × (env_of call ≡ Some d)
         env (ExtInitFailure d z body) r = (d, refl)
         env (ExtExitFailure d z body) r = (d, refl)
         env call r = absurd (true≢false (sym r))
 
-        go : (b : Bool) → reports_exit x.count entry.call ≡ b → (b && is_accepted (answer_in given.answers (length h))) ≡ (b && is_accepted (own_answer (stand config h e) entry.call))
+        go : (b : Bool) → reports_exit x.count entry.call ≡ b
+            → (b && is_accepted (answer_in given.answers (length h))) ≡ (b && is_accepted (own_answer (stand config h e) entry.call))
         go false r = refl
-        go true r = let a = env entry.call r in first_accepted (length h) A given (length h) k (omega arith) ∙ ap is_accepted (own_value config h entry.moment entry.call e (a.1 ∙ ap (λ (d : ℕ). Some d) (named_here config h entry e a.0 w a.1 c)))
+        go true r =
+            let a = env entry.call r in first_accepted (length h) A given (length h) k (omega arith) ∙ ap is_accepted (own_value config h entry.moment entry.call e (a.1 ∙ ap (λ (d : ℕ). Some d) (named_here config h entry e a.0 w a.1 c)))
 
 pub first_silent : (config : Config) (h : List Entry) (now : ℕ) (call : Call) → IsSilent h (first_entry config h now call)
-first_silent config h now call t lt e = first_valued config h now call t (omega (arith, lt)) ∙ silent_first config h now call t (λ same. let less : t < length h = lt in omega (arith, less, same)) e
+first_silent config h now call t lt e =
+    first_valued config h now call t (omega (arith, lt))
+    ∙ silent_first config h now call t (λ same. let less : t < length h = lt in omega (arith, less, same)) e
 
 -- a registration is of the next count
 new_count : (s : Stand) (call : Call) (x : Extension) → as_registered call (own_answer s call) ≡ Some x → s.registrations < x.count
@@ -246,7 +278,9 @@ new_count s call x q = go call (own_answer s call) refl q
     go call o p r = absurd (some-none (sym r))
 
 -- The extensions after the first answers.
-pub members_stage : (config : Config) (h : List Entry) (entry given : Entry) (e count : ℕ) → IsLegal config h → Follows config h entry → concerns h e entry ≡ true → given.call ≡ entry.call → IsFirst (length h) (first_answer config h entry.moment entry.call) given → IsSilent h given
+pub members_stage : (config : Config) (h : List Entry) (entry given : Entry) (e count : ℕ) → IsLegal config h
+    → Follows config h entry → concerns h e entry ≡ true → given.call ≡ entry.call
+    → IsFirst (length h) (first_answer config h entry.moment entry.call) given → IsSilent h given
     → members (first_part given ∷ h) ((length h, given) ∷ (life config h e).generation) ≡ members_first (step_at h entry count) (stand config h e) entry.call
 unfolding members seen
 members_stage config h entry given e count l w c same k quiet =
@@ -262,13 +296,21 @@ members_stage config h entry given e count l w c same k quiet =
     new x = member (first_part given ∷ h) ((length h, given) ∷ g) x
 
     olds : map new (extensions g) ≡ map (member_first (step_at h entry count) s entry.call) (map (member h g) (extensions g))
-    olds = map_in new (λ x. member_first (step_at h entry count) s entry.call (member h g x)) (extensions g) (λ x i. member_stage config h entry given e count x l w c same k quiet i) ∙ map_map (member_first (step_at h entry count) s entry.call) (member h g) (extensions g)
+    olds =
+        map_in new (λ x. member_first (step_at h entry count) s entry.call (member h g x)) (extensions g) (λ x i. member_stage config h entry given e count x l w c same k quiet i)
+        ∙ map_map (member_first (step_at h entry count) s entry.call) (member h g) (extensions g)
 
     A_own : as_registered given.call (answer_in given.answers (length h)) ≡ as_registered entry.call (own_answer s entry.call)
-    A_own = ap (λ (call : Call). as_registered call (answer_in given.answers (length h))) same ∙ first_registered (length h) (first_answer config h entry.moment entry.call) given (length h) entry.call k (omega arith) ∙ own entry.call refl
+    A_own =
+        ap (λ (call : Call). as_registered call (answer_in given.answers (length h))) same
+        ∙ first_registered (length h) (first_answer config h entry.moment entry.call) given (length h) entry.call k (omega arith)
+        ∙ own entry.call refl
       where
-        own : (call : Call) → entry.call ≡ call → as_registered call (first_answer config h entry.moment entry.call (length h)) ≡ as_registered call (own_answer s entry.call)
-        own (Register d name invoke shutdown account) p = ap (as_registered (Register d name invoke shutdown account)) (own_value config h entry.moment entry.call e (ap env_of p ∙ ap (λ (n : ℕ). Some n) (named_here config h entry e d w (ap env_of p) c)))
+        own : (call : Call) → entry.call ≡ call
+            → as_registered call (first_answer config h entry.moment entry.call (length h)) ≡ as_registered call (own_answer s entry.call)
+        own (Register d name invoke shutdown account) p =
+            ap (as_registered (Register d name invoke shutdown account))
+            (own_value config h entry.moment entry.call e (ap env_of p ∙ ap (λ (n : ℕ). Some n) (named_here config h entry e d w (ap env_of p) c)))
         own call p = refl
 
     fresh_member : (x : Extension) → as_registered entry.call (own_answer s entry.call) ≡ Some x → new x ≡ blank x
@@ -277,10 +319,16 @@ members_stage config h entry given e count l w c same k quiet =
         ∙ ap (λ (call : Call). member_step (first_part given) (record given { call = call }) (length h) (blank x)) same
         ∙ at_register entry.call (own_answer s entry.call) q
       where
-        at_register : (call : Call) (o : Option Answer) → as_registered call o ≡ Some x → member_step (first_part given) (record given { call = call }) (length h) (blank x) ≡ blank x
+        at_register : (call : Call) (o : Option Answer) → as_registered call o ≡ Some x
+            → member_step (first_part given) (record given { call = call }) (length h) (blank x) ≡ blank x
         at_register (Register d name invoke shutdown account) o r = refl
         at_register call o r = absurd (some-none (sym r))
 
-    go : (o : Option Extension) → as_registered given.call (answer_in given.answers (length h)) ≡ o → map new (cons_option o (extensions g)) ≡ fresh_members (as_registered entry.call (own_answer s entry.call)) ++ map (member_first (step_at h entry count) s entry.call) (map (member h g) (extensions g))
-    go None q = olds ∙ ap (λ (o : Option Extension). fresh_members o ++ map (member_first (step_at h entry count) s entry.call) (map (member h g) (extensions g))) (sym q ∙ A_own)
-    go (Some x) q = ap₂ ◌∷◌ (fresh_member x (sym A_own ∙ q)) olds ∙ ap (λ (o : Option Extension). fresh_members o ++ map (member_first (step_at h entry count) s entry.call) (map (member h g) (extensions g))) (sym q ∙ A_own)
+    go : (o : Option Extension) → as_registered given.call (answer_in given.answers (length h)) ≡ o
+        → map new (cons_option o (extensions g)) ≡ fresh_members (as_registered entry.call (own_answer s entry.call)) ++ map (member_first (step_at h entry count) s entry.call) (map (member h g) (extensions g))
+    go None q =
+        olds
+        ∙ ap (λ (o : Option Extension). fresh_members o ++ map (member_first (step_at h entry count) s entry.call) (map (member h g) (extensions g))) (sym q ∙ A_own)
+    go (Some x) q =
+        ap₂ ◌∷◌ (fresh_member x (sym A_own ∙ q)) olds
+        ∙ ap (λ (o : Option Extension). fresh_members o ++ map (member_first (step_at h entry count) s entry.call) (map (member h g) (extensions g))) (sym q ∙ A_own)

@@ -1,5 +1,6 @@
 -- What an entry answers first: its answers without those of a Busy that begins, up to the numbers of its events.
-use Rattle.std.proofs.Common.{◌≡◌, ℕ, suc, ◌≤◌, Bool, true, false, List, [], ◌∷◌, length, Option, Some, None, sym, refl, ap, ◌∙◌, subst, arith, is_none, not, filter, if◌then◌else◌, true≢false}
+use Rattle.std.proofs.Common.{◌≡◌, ℕ, suc, ◌≤◌, Bool, true, false, List, [], ◌∷◌, length, Option, Some, None, sym, refl}
+use Rattle.std.proofs.Common.{ap, ◌∙◌, subst, arith, is_none, not, filter, if◌then◌else◌, true≢false}
 use Rattle.call_types.specs.declared.answer.Answer.{Answer}
 use Rattle.call_types.specs.declared.answer.Answer.TheVariants.{Delivered, Told, Ending}
 use Rattle.call_types.specs.declared.call.Call.{Call}
@@ -18,7 +19,8 @@ use Rattle.call_model.proofs.AnswerValues.{plain, valued}
 use Rattle.environment_step.proofs.Rising.{IsRising, each_rising, numbered_rising, rising_filter, passed}
 use Rattle.call_model.proofs.FirstAnswers.{second, first_first}
 
-pub first_valued : (config : Config) (h : List Entry) (now : ℕ) (call : Call) (t : ℕ) → t ≤ length h → answer_in (first_entry config h now call).answers t ≡ first_answer config h now call t
+pub first_valued : (config : Config) (h : List Entry) (now : ℕ) (call : Call) (t : ℕ) → t ≤ length h
+    → answer_in (first_entry config h now call).answers t ≡ first_answer config h now call t
 unfolding first_answers
 first_valued config h now call t le = in_each 0 (suc (length h)) t (first_answer config h now call) (omega arith) (omega (arith, le))
 
@@ -66,7 +68,8 @@ second_late config h entry t = go (home (entry ∷ h) t)
 
 -- An answer that is early, as the first answers have it.
 pub kept : (o a b : Option Answer) → plain o ≡ plain (or_else a b) → is_early a ≡ true → is_late b ≡ true → plain (passed early o) ≡ plain a
-kept o a b q e l = from (passed early o) (passed early (or_else a b)) (plain_passed o ∙ ap (passed early) q ∙ sym (plain_passed (or_else a b))) ∙ ap plain (only a b e l)
+kept o a b q e l =
+    from (passed early o) (passed early (or_else a b)) (plain_passed o ∙ ap (passed early) q ∙ sym (plain_passed (or_else a b))) ∙ ap plain (only a b e l)
   where
     from : (x y : Option Answer) → plain x ≡ plain y → plain x ≡ plain y
     from x y k = k
@@ -90,11 +93,16 @@ kept o a b q e l = from (passed early o) (passed early (or_else a b)) (plain_pas
     only None (Some d) e l = ap (λ (b : Bool). if not b then Some d else None) l
 
 -- The first answers of the entry are those of the table.
-pub entry_first : (config : Config) (h : List Entry) (entry : Entry) (t : ℕ) → Follows config h entry → t ≤ length h → plain (answer_in (first_part entry).answers t) ≡ plain (first_answer config h entry.moment entry.call t)
+pub entry_first : (config : Config) (h : List Entry) (entry : Entry) (t : ℕ) → Follows config h entry → t ≤ length h
+    → plain (answer_in (first_part entry).answers t) ≡ plain (first_answer config h entry.moment entry.call t)
 unfolding answers
 entry_first config h entry t w le =
-    ap plain (rising_filter early 0 t entry.answers (subst (IsRising 0) (sym (w.answers)) (numbered_rising h first [] (each_from 0 (suc (length h)) (answer_to config h first)) 0 (each_rising 0 (suc (length h)) (answer_to config h first)))))
-    ∙ kept (answer_in entry.answers t) (first_answer config h entry.moment entry.call t) (second_answer config h first t) (ap (λ xs. plain (answer_in xs t)) (w.answers) ∙ valued config h entry.moment entry.call t le) (first_early config h entry.moment entry.call t) (second_late config h first t)
+    ap plain
+    (rising_filter early 0 t entry.answers (subst (IsRising 0) (sym (w.answers)) (numbered_rising h first [] (each_from 0 (suc (length h)) (answer_to config h first)) 0 (each_rising 0 (suc (length h)) (answer_to config h first)))))
+    ∙ kept (answer_in entry.answers t) (first_answer config h entry.moment entry.call t)
+    (second_answer config h first t)
+    (ap (λ xs. plain (answer_in xs t)) (w.answers) ∙ valued config h entry.moment entry.call t le)
+    (first_early config h entry.moment entry.call t) (second_late config h first t)
   where
     first : Entry
     first = first_entry config h entry.moment entry.call
@@ -104,24 +112,29 @@ pub record IsFirst (n : ℕ) (A : ℕ → Option Answer) (entry : Entry) : Type 
   pub first : (t : ℕ) → t ≤ n → plain (answer_in (first_part entry).answers t) ≡ plain (A t)
   pub part : (t : ℕ) → answer_in (first_part entry).answers t ≡ passed early (answer_in entry.answers t)
 
-pub entry_is_first : (config : Config) (h : List Entry) (entry : Entry) → Follows config h entry → IsFirst (length h) (first_answer config h entry.moment entry.call) entry
+pub entry_is_first : (config : Config) (h : List Entry) (entry : Entry) → Follows config h entry
+    → IsFirst (length h) (first_answer config h entry.moment entry.call) entry
 unfolding answers
 entry_is_first config h entry w = record {
   first = λ t le. entry_first config h entry t w le;
-  part = λ t. rising_filter early 0 t entry.answers (subst (IsRising 0) (sym (w.answers)) (numbered_rising h first [] (each_from 0 (suc (length h)) (answer_to config h first)) 0 (each_rising 0 (suc (length h)) (answer_to config h first))));
+  part =
+      λ t. rising_filter early 0 t entry.answers (subst (IsRising 0) (sym (w.answers)) (numbered_rising h first [] (each_from 0 (suc (length h)) (answer_to config h first)) 0 (each_rising 0 (suc (length h)) (answer_to config h first))));
 }
   where
     first : Entry
     first = first_entry config h entry.moment entry.call
 
-pub first_is_first : (config : Config) (h : List Entry) (now : ℕ) (call : Call) → IsFirst (length h) (first_answer config h now call) (first_entry config h now call)
+pub first_is_first : (config : Config) (h : List Entry) (now : ℕ) (call : Call)
+    → IsFirst (length h) (first_answer config h now call) (first_entry config h now call)
 unfolding first_answers
 first_is_first config h now call = record {
-  first = λ t le. ap plain (filtered t ∙ ap (passed early) (first_valued config h now call t le) ∙ whole (first_answer config h now call t) (first_early config h now call t));
+  first =
+      λ t le. ap plain (filtered t ∙ ap (passed early) (first_valued config h now call t le) ∙ whole (first_answer config h now call t) (first_early config h now call t));
   part = filtered;
 }
   where
-    filtered : (t : ℕ) → answer_in (filter (λ a. early a.1) (first_entry config h now call).answers) t ≡ passed early (answer_in (first_entry config h now call).answers t)
+    filtered : (t : ℕ)
+        → answer_in (filter (λ a. early a.1) (first_entry config h now call).answers) t ≡ passed early (answer_in (first_entry config h now call).answers t)
     filtered t = rising_filter early 0 t (first_entry config h now call).answers (each_rising 0 (suc (length h)) (first_answer config h now call))
 
     whole : (o : Option Answer) → is_early o ≡ true → passed early o ≡ o
@@ -160,10 +173,16 @@ accepted_passed (Some (Delivered p d)) = refl
 accepted_passed (Some a) = refl
 
 pub first_ending : (n : ℕ) (A : ℕ → Option Answer) (entry : Entry) (t : ℕ) → IsFirst n A entry → t ≤ n → is_ending (answer_in entry.answers t) ≡ is_ending (A t)
-first_ending n A entry t k le = sym (ending_passed (answer_in entry.answers t)) ∙ ap is_ending (sym (k.part t)) ∙ sym (ending_plain (answer_in (first_part entry).answers t)) ∙ ap is_ending (k.first t le) ∙ ending_plain (A t)
+first_ending n A entry t k le =
+    sym (ending_passed (answer_in entry.answers t)) ∙ ap is_ending (sym (k.part t))
+    ∙ sym (ending_plain (answer_in (first_part entry).answers t)) ∙ ap is_ending (k.first t le) ∙ ending_plain (A t)
 
-pub first_accepted : (n : ℕ) (A : ℕ → Option Answer) (entry : Entry) (t : ℕ) → IsFirst n A entry → t ≤ n → is_accepted (answer_in entry.answers t) ≡ is_accepted (A t)
-first_accepted n A entry t k le = sym (accepted_passed (answer_in entry.answers t)) ∙ ap is_accepted (sym (k.part t)) ∙ sym (accepted_plain (answer_in (first_part entry).answers t)) ∙ ap is_accepted (k.first t le) ∙ accepted_plain (A t)
+pub first_accepted : (n : ℕ) (A : ℕ → Option Answer) (entry : Entry) (t : ℕ) → IsFirst n A entry → t ≤ n
+    → is_accepted (answer_in entry.answers t) ≡ is_accepted (A t)
+first_accepted n A entry t k le =
+    sym (accepted_passed (answer_in entry.answers t)) ∙ ap is_accepted (sym (k.part t))
+    ∙ sym (accepted_plain (answer_in (first_part entry).answers t)) ∙ ap is_accepted (k.first t le)
+    ∙ accepted_plain (A t)
 
 registered_plain : (call : Call) (a : Option Answer) → as_registered call (plain a) ≡ as_registered call a
 registered_plain (Register e name invoke shutdown account) None = refl
@@ -179,5 +198,9 @@ registered_passed (Register e name invoke shutdown account) (Some (Delivered p d
 registered_passed (Register e name invoke shutdown account) (Some a) = refl
 registered_passed call a = refl
 
-pub first_registered : (n : ℕ) (A : ℕ → Option Answer) (entry : Entry) (t : ℕ) (call : Call) → IsFirst n A entry → t ≤ n → as_registered call (answer_in entry.answers t) ≡ as_registered call (A t)
-first_registered n A entry t call k le = sym (registered_passed call (answer_in entry.answers t)) ∙ ap (as_registered call) (sym (k.part t)) ∙ sym (registered_plain call (answer_in (first_part entry).answers t)) ∙ ap (as_registered call) (k.first t le) ∙ registered_plain call (A t)
+pub first_registered : (n : ℕ) (A : ℕ → Option Answer) (entry : Entry) (t : ℕ) (call : Call) → IsFirst n A entry → t ≤ n
+    → as_registered call (answer_in entry.answers t) ≡ as_registered call (A t)
+first_registered n A entry t call k le =
+    sym (registered_passed call (answer_in entry.answers t)) ∙ ap (as_registered call) (sym (k.part t))
+    ∙ sym (registered_plain call (answer_in (first_part entry).answers t)) ∙ ap (as_registered call) (k.first t le)
+    ∙ registered_plain call (A t)

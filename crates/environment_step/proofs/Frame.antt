@@ -1,6 +1,8 @@
 -- An entry that doesn't concern an environment leaves its stand.
 use Rattle.std.proofs.lemmas.List.Sums.{sum_by-cons}
-use Rattle.std.proofs.Common.{◌≡◌, ℕ, ◌+◌, ◌<◌, Bool, true, false, cond, ltb, List, [], ◌∷◌, length, Option, Some, None, sym, refl, ap, ◌∙◌, inl, inr, arith, is_some, is_none, ◌&&◌, ◌||◌, ◌==◌, true≢false, if◌then◌else◌, count_by}
+use Rattle.std.proofs.Common.{◌≡◌, ℕ, ◌+◌, ◌<◌, Bool, true, false, cond, ltb, List, [], ◌∷◌, length, Option, Some, None}
+use Rattle.std.proofs.Common.{sym, refl, ap, ◌∙◌, inl, inr, arith, is_some, is_none, ◌&&◌, ◌||◌, ◌==◌, true≢false}
+use Rattle.std.proofs.Common.{if◌then◌else◌, count_by}
 use Rattle.std.proofs.lemmas.Bool.{eqb-true, cases_lt, or_parts}
 use Rattle.std.proofs.lemmas.Bool.Decides.{nat_tests}
 use Rattle.call_types.specs.declared.answer.Answer.{Answer}
@@ -10,7 +12,8 @@ use Rattle.call_types.specs.declared.call.Entry.{Entry}
 use Rattle.arn_ids.specs.declared.config.Config.{Config}
 use Rattle.call_model.specs.History.{answer_in, pending, call_of, place_of, poll_env, is_stop, stopped, upto, with_tickets, or_else}
 use Rattle.call_types.specs.Calls.{env_of}
-use Rattle.call_model.specs.Generation.{Generation, Extension, Actor, TheRuntime, TheExtension, parked, if_pending, last_next, asks, extensions, member, members, told, asked_again, exited}
+use Rattle.call_model.specs.Generation.{Generation, Extension, Actor, TheRuntime, TheExtension, parked, if_pending}
+use Rattle.call_model.specs.Generation.{last_next, asks, extensions, member, members, told, asked_again, exited}
 use Rattle.call_model.specs.Stand.{is_number, at_hand}
 use Rattle.call_model.specs.Table.{is_registered}
 use Rattle.call_model.specs.Life.{life, lived, after, phase, stand, seen, concerns, names, request_at, registrations, events, events_in, is_event, ends_here}
@@ -45,13 +48,18 @@ poll_home rule config h t d l q = rw (placed h l q, poll_named (call_of h t) d q
     placed [] l q = refl
     placed (entry ∷ h) l q = go (t == length h) (placed h l.0) q
       where
-        go : (b : Bool) → (poll_env (call_of h t) ≡ Some d → place_of h t ≡ None) → poll_env (if b then entry.call else call_of h t) ≡ Some d → (if b then entry.place else place_of h t) ≡ None
+        go : (b : Bool) → (poll_env (call_of h t) ≡ Some d → place_of h t ≡ None)
+            → poll_env (if b then entry.call else call_of h t) ≡ Some d
+            → (if b then entry.place else place_of h t) ≡ None
         go true ih r = l.1.place ∙ poll_place config h entry.call d r
         go false ih r = ih r
 
 -- an entry that doesn't concern an environment answers none of its tickets
-pub quiet_here : (rule : Rule) (config : Config) (h : List Entry) (entry : Entry) (e t : ℕ) → FollowsBy rule config h entry → concerns h e entry ≡ false → t < length h → home h t ≡ Some e → answer_in entry.answers t ≡ None
-quiet_here rule config h entry e t w c lt at = rw (w.answers) (elsewhere config h entry.moment entry.call t e lt at (ap (λ (o : Option ℕ). is_number o e || names h e entry.call) (sym (w.place)) ∙ c))
+pub quiet_here : (rule : Rule) (config : Config) (h : List Entry) (entry : Entry) (e t : ℕ)
+    → FollowsBy rule config h entry → concerns h e entry ≡ false → t < length h → home h t ≡ Some e
+    → answer_in entry.answers t ≡ None
+quiet_here rule config h entry e t w c lt at =
+    rw (w.answers) (elsewhere config h entry.moment entry.call t e lt at (ap (λ (o : Option ℕ). is_number o e || names h e entry.call) (sym (w.place)) ∙ c))
 
 -- the polls of a generation are those of its environment
 abbrev pub AreHere : ℕ → Generation → Type 0
@@ -87,18 +95,21 @@ asks_poll (TheExtension x) (RuntimeNext e) q = absurd (true≢false (sym q))
 asks_poll actor call q = absurd (true≢false (sym q))
 
 -- an actor's last Next is a poll of its environment
-pub last_here : (e : ℕ) (h : List Entry) (g : Generation) (actor : Actor) (t : ℕ) → AreHere e g → IsPart h g → last_next g actor ≡ Some t → poll_env (call_of h t) ≡ Some e
+pub last_here : (e : ℕ) (h : List Entry) (g : Generation) (actor : Actor) (t : ℕ) → AreHere e g → IsPart h g
+    → last_next g actor ≡ Some t → poll_env (call_of h t) ≡ Some e
 last_here e h [] actor t a p q = absurd (some-none (sym q))
 last_here e h (taken ∷ g) actor t a p q = go (asks actor taken.1.call) refl (last_here e h g actor t a.1 p.1) q
   where
-    go : (c : Bool) → asks actor taken.1.call ≡ c → (last_next g actor ≡ Some t → poll_env (call_of h t) ≡ Some e) → (if c then Some taken.0 else last_next g actor) ≡ Some t → poll_env (call_of h t) ≡ Some e
+    go : (c : Bool) → asks actor taken.1.call ≡ c → (last_next g actor ≡ Some t → poll_env (call_of h t) ≡ Some e)
+        → (if c then Some taken.0 else last_next g actor) ≡ Some t → poll_env (call_of h t) ≡ Some e
     go true k ih r =
         let at : taken.0 ≡ t = cc in let b = asks_poll actor taken.1.call k in
         ap (λ (n : ℕ). poll_env (call_of h n)) (sym at) ∙ ap poll_env p.0.1 ∙ b.1 ∙ ap (λ (n : ℕ). Some n) (a.0 b.0 b.1)
     go false k ih r = ih r
 
 -- the pending Next of an actor of an environment that the entry doesn't concern
-pub parked_elsewhere : (rule : Rule) (config : Config) (h : List Entry) (entry : Entry) (e : ℕ) (actor : Actor) → IsLegalBy rule config h → FollowsBy rule config h entry → concerns h e entry ≡ false
+pub parked_elsewhere : (rule : Rule) (config : Config) (h : List Entry) (entry : Entry) (e : ℕ) (actor : Actor)
+    → IsLegalBy rule config h → FollowsBy rule config h entry → concerns h e entry ≡ false
     → parked (entry ∷ h) (life config h e).generation actor ≡ parked h (life config h e).generation actor
 parked_elsewhere rule config h entry e actor l w c = go (last_next (life config h e).generation actor) refl
   where
@@ -113,13 +124,16 @@ parked_elsewhere rule config h entry e actor l w c = go (last_next (life config 
         below = last_below (length h) g actor (generation_below config h e) t q
 
         none : answer_in entry.answers t ≡ None
-        none = quiet_here rule config h entry e t w c below (poll_home rule config h t e l (last_here e h g actor t (generation_here rule config h e l) (generation_part config h e) q))
+        none =
+            quiet_here rule config h entry e t w c below
+            (poll_home rule config h t e l (last_here e h g actor t (generation_here rule config h e l) (generation_part config h e) q))
 
         both : (b : Bool) → (b && is_none (answer_in entry.answers t)) ≡ b
         both true = ap is_none none
         both false = refl
 
-members_elsewhere : (rule : Rule) (config : Config) (h : List Entry) (entry : Entry) (e : ℕ) → IsLegalBy rule config h → FollowsBy rule config h entry → concerns h e entry ≡ false
+members_elsewhere : (rule : Rule) (config : Config) (h : List Entry) (entry : Entry) (e : ℕ) → IsLegalBy rule config h
+    → FollowsBy rule config h entry → concerns h e entry ≡ false
     → members (entry ∷ h) (life config h e).generation ≡ members h (life config h e).generation
 unfolding members
 members_elsewhere rule config h entry e l w c = map_same (member (entry ∷ h) g) (member h g) each (extensions g)
@@ -128,10 +142,12 @@ members_elsewhere rule config h entry e l w c = map_same (member (entry ∷ h) g
     g = (life config h e).generation
 
     each : (x : Extension) → member (entry ∷ h) g x ≡ member h g x
-    each x = λ i. record { extension = x; next = parked_elsewhere rule config h entry e (TheExtension x.count) l w c i; told = told g x.count; again = asked_again g x.count; exited = exited g x.count }
+    each x =
+        λ i. record { extension = x; next = parked_elsewhere rule config h entry e (TheExtension x.count) l w c i; told = told g x.count; again = asked_again g x.count; exited = exited g x.count }
 
 -- the request count of what is at hand
-request_elsewhere : (rule : Rule) (config : Config) (h : List Entry) (entry : Entry) (e : ℕ) → IsLegalBy rule config h → FollowsBy rule config h entry → concerns h e entry ≡ false
+request_elsewhere : (rule : Rule) (config : Config) (h : List Entry) (entry : Entry) (e : ℕ) → IsLegalBy rule config h
+    → FollowsBy rule config h entry → concerns h e entry ≡ false
     → request_at config (entry ∷ h) e (at_hand (phase config h e)) ≡ request_at config h e (at_hand (phase config h e))
 request_elsewhere rule config h entry e l w c = go (at_hand (phase config h e)) refl
   where
@@ -155,7 +171,9 @@ request_elsewhere rule config h entry e l w c = go (at_hand (phase config h e)) 
         both b (Some a) r = absurd (some-none r)
 
         same_pending : pending (entry ∷ h) p ≡ pending h p
-        same_pending = pending_cons entry h p (let lt : p < length h = k.older in omega (arith, lt)) ∙ both (pending h p) (answer_in entry.answers p) (quiet_here rule config h entry e p w c (k.older) at)
+        same_pending =
+            pending_cons entry h p (let lt : p < length h = k.older in omega (arith, lt))
+            ∙ both (pending h p) (answer_in entry.answers p) (quiet_here rule config h entry e p w c (k.older) at)
 
         same_upto : upto (entry ∷ h) p ≡ upto h p
         same_upto = let yes : ltb p (length h) ≡ true = grind (arith, nat_tests, k.older) in rw yes refl
@@ -172,7 +190,8 @@ not_named h call e q = q
 -- no pair of the list is counted
 uncounted : (p : ℕ × Answer → Bool) (pairs : List (ℕ × Answer)) → ((a : ℕ × Answer) → is_some (answer_in pairs a.0) ≡ true → p a ≡ false) → count_by p pairs ≡ 0
 uncounted p [] e = refl
-uncounted p (a ∷ rest) e = let none : p a ≡ false = e a (here a rest) in let less : count_by p rest ≡ 0 = uncounted p rest (λ b q. e b (there b q)) in sum_by-cons (λ (b : ℕ × Answer). cond (p b) 1 0) a rest ∙ rw none (omega (arith, less))
+uncounted p (a ∷ rest) e =
+    let none : p a ≡ false = e a (here a rest) in let less : count_by p rest ≡ 0 = uncounted p rest (λ b q. e b (there b q)) in sum_by-cons (λ (b : ℕ × Answer). cond (p b) 1 0) a rest ∙ rw none (omega (arith, less))
   where
     here : (a : ℕ × Answer) (rest : List (ℕ × Answer)) → is_some (answer_in (a ∷ rest) a.0) ≡ true
     here a rest = rw (eqb-self a.0) refl
@@ -196,24 +215,29 @@ env_home rule config h t d l q = rw (placed h l q, q) refl
     placed [] l q = refl
     placed (entry ∷ h) l q = go (t == length h) (placed h l.0) q
       where
-        go : (b : Bool) → (env_of (call_of h t) ≡ Some d → place_of h t ≡ None) → env_of (if b then entry.call else call_of h t) ≡ Some d → (if b then entry.place else place_of h t) ≡ None
+        go : (b : Bool) → (env_of (call_of h t) ≡ Some d → place_of h t ≡ None)
+            → env_of (if b then entry.call else call_of h t) ≡ Some d → (if b then entry.place else place_of h t) ≡ None
         go true ih r = l.1.place ∙ env_place config h entry.call d r
         go false ih r = ih r
 
 -- no event is told at an environment that the entry doesn't concern
-events_elsewhere : (rule : Rule) (config : Config) (h : List Entry) (entry : Entry) (e : ℕ) → IsLegalBy rule config h → FollowsBy rule config h entry → concerns h e entry ≡ false → events_in (entry ∷ h) e entry.answers ≡ 0
+events_elsewhere : (rule : Rule) (config : Config) (h : List Entry) (entry : Entry) (e : ℕ) → IsLegalBy rule config h
+    → FollowsBy rule config h entry → concerns h e entry ≡ false → events_in (entry ∷ h) e entry.answers ≡ 0
 events_elsewhere rule config h entry e l w c = uncounted (λ a. is_event a.1 && is_number (env_of (call_of (entry ∷ h) a.0)) e) entry.answers each
   where
     older : (t : ℕ) (b : Bool) → is_number (env_of (call_of h t)) e ≡ b → t < length h → is_some (answer_in entry.answers t) ≡ true → b ≡ false
     older t false q lt r = refl
-    older t true q lt r = absurd (true≢false (sym r ∙ ap is_some (quiet_here rule config h entry e t w c lt (env_home rule config h t e l (number_some (env_of (call_of h t)) e q)))))
+    older t true q lt r =
+        absurd
+        (true≢false (sym r ∙ ap is_some (quiet_here rule config h entry e t w c lt (env_home rule config h t e l (number_some (env_of (call_of h t)) e q)))))
 
     at : (t : ℕ) → is_some (answer_in entry.answers t) ≡ true → is_number (env_of (call_of (entry ∷ h) t)) e ≡ false
     at t r = elim (cases_lt t (length h)) [
       | inl lt ↦ rw (eqb-other t (length h) (let less : t < length h = lt in omega (arith, less))) (older t (is_number (env_of (call_of h t)) e) refl lt r)
       | inr ge ↦ elim (cases_lt (length h) t) [
         | inl past ↦ absurd (true≢false (sym r ∙ ap is_some (ap (λ xs. answer_in xs t) (w.answers) ∙ answers_past config h entry.moment entry.call t past)))
-        | inr le ↦ let same : t ≡ length h = omega (arith, ge, le) in rw (same, eqb-self (length h)) (not_named h entry.call e ((or_parts (is_number entry.place e) (names h e entry.call) c).1))
+        | inr le ↦ let same : t ≡ length h =
+            omega (arith, ge, le) in rw (same, eqb-self (length h)) (not_named h entry.call e ((or_parts (is_number entry.place e) (names h e entry.call) c).1))
       ]
     ]
 
@@ -221,13 +245,16 @@ events_elsewhere rule config h entry e l w c = uncounted (λ a. is_event a.1 && 
     each a r = rw (at a.0 r) (and_false (is_event a.1))
 
 registrations_elsewhere : (h : List Entry) (entry : Entry) (e : ℕ) → concerns h e entry ≡ false → registrations (entry ∷ h) e ≡ registrations h e
-registrations_elsewhere h entry e c = sum_by-cons (λ (taken : ℕ × Entry). cond (is_number (env_of taken.1.call) e && is_registered (answer_in taken.1.answers taken.0)) 1 0) (length h, entry) (with_tickets h) ∙ rw no (omega arith)
+registrations_elsewhere h entry e c =
+    sum_by-cons (λ (taken : ℕ × Entry). cond (is_number (env_of taken.1.call) e && is_registered (answer_in taken.1.answers taken.0)) 1 0) (length h, entry) (with_tickets h)
+    ∙ rw no (omega arith)
   where
     no : is_number (env_of entry.call) e ≡ false
     no = not_named h entry.call e ((or_parts (is_number entry.place e) (names h e entry.call) c).1)
 
 -- An entry that doesn't concern an environment leaves its stand.
-pub stand_elsewhere : (rule : Rule) (config : Config) (h : List Entry) (entry : Entry) (e : ℕ) → IsLegalBy rule config h → FollowsBy rule config h entry → concerns h e entry ≡ false → stand config (entry ∷ h) e ≡ stand config h e
+pub stand_elsewhere : (rule : Rule) (config : Config) (h : List Entry) (entry : Entry) (e : ℕ) → IsLegalBy rule config h
+    → FollowsBy rule config h entry → concerns h e entry ≡ false → stand config (entry ∷ h) e ≡ stand config h e
 unfolding seen
 stand_elsewhere rule config h entry e l w c = ap (seen config (entry ∷ h) e) (life_elsewhere config h entry e c) ∙ (λ i. record {
   phase = phase config h e;

@@ -1,5 +1,7 @@
 -- The request count of what is at hand, and the phase after an entry, from the stand before it.
-use Rattle.std.proofs.Common.{◌≡◌, ℕ, ◌<◌, Bool, true, false, ltb, List, ◌∷◌, length, Option, Some, None, sym, refl, ap, ap₂, ◌∙◌, subst, inl, inr, arith, ◌≢◌, ◌⊎◌, is_some, is_none, not, ◌&&◌, ◌||◌, ◌==◌, true≢false, if◌then◌else◌}
+use Rattle.std.proofs.Common.{◌≡◌, ℕ, ◌<◌, Bool, true, false, ltb, List, ◌∷◌, length, Option, Some, None, sym, refl, ap}
+use Rattle.std.proofs.Common.{ap₂, ◌∙◌, subst, inl, inr, arith, ◌≢◌, ◌⊎◌, is_some, is_none, not, ◌&&◌, ◌||◌, ◌==◌}
+use Rattle.std.proofs.Common.{true≢false, if◌then◌else◌}
 use Rattle.std.proofs.lemmas.Bool.{eqb-true}
 use Rattle.std.proofs.lemmas.Bool.Decides.{nat_tests}
 use Rattle.call_types.specs.declared.answer.Answer.{Answer}
@@ -19,7 +21,9 @@ use Rattle.call_model.specs.Life.{life, lived, after, phase, stand, seen, concer
 use Rattle.call_model.specs.Limits.{place_for}
 use Rattle.call_model.specs.Answers.{first_answer, answer_at, home, first_entry}
 use Rattle.call_model.specs.Next.{IsLegal, Follows}
-use Rattle.environment_step.specs.After.{Step, step_at, fixed_of, count_at, first_stand, turned, expires_now, request_of, cell_at, closing_ends, members_first, runtime_first, restarted, settled_stand, stand_after, finished}
+use Rattle.environment_step.specs.After.{Step, step_at, fixed_of, count_at, first_stand, turned, expires_now}
+use Rattle.environment_step.specs.After.{request_of, cell_at, closing_ends, members_first, runtime_first, restarted}
+use Rattle.environment_step.specs.After.{settled_stand, stand_after, finished}
 use Rattle.call_model.proofs.Pairs.{eqb-other}
 use Rattle.call_model.proofs.Once.{fresh, pending_cons}
 use Rattle.call_model.proofs.Flight.{placed_silent}
@@ -34,7 +38,8 @@ no_expiry : (call : Call) → is_invoke call ≡ true → is_expiry call ≡ fal
 no_expiry (Invoke f qualified trace body) i = refl
 no_expiry call i = absurd (true≢false (sym i))
 
-new_pending : (entry : Entry) (h : List Entry) → is_expiry entry.call ≡ false → answer_of h (length h) ≡ None → is_none (answer_in entry.answers (length h)) ≡ true → pending (entry ∷ h) (length h) ≡ true
+new_pending : (entry : Entry) (h : List Entry) → is_expiry entry.call ≡ false → answer_of h (length h) ≡ None
+    → is_none (answer_in entry.answers (length h)) ≡ true → pending (entry ∷ h) (length h) ≡ true
 new_pending entry h x none q = rw (eqb-self (length h), x, none) (go (answer_in entry.answers (length h)) q)
   where
     go : (a : Option Answer) → is_none a ≡ true → not (is_some (or_else a None)) ≡ true
@@ -51,7 +56,8 @@ invoke_waits own s (Invoke f qualified trace body) i = refl
 invoke_waits own s call i = absurd (true≢false (sym i))
 
 -- the first answer to the waiting call
-pub waiting_value : (config : Config) (h : List Entry) (entry : Entry) (e p : ℕ) → IsLegal config h → Follows config h entry → concerns h e entry ≡ true → at_hand (phase config h e) ≡ Some p → pending h p ≡ true
+pub waiting_value : (config : Config) (h : List Entry) (entry : Entry) (e p : ℕ) → IsLegal config h
+    → Follows config h entry → concerns h e entry ≡ true → at_hand (phase config h e) ≡ Some p → pending h p ≡ true
     → first_answer config h entry.moment entry.call p ≡ to_waiting (length h) (stand config h e) entry.call
 unfolding first_answer
 waiting_value config h entry e p l w c q r = rw (eqb-other p (length h) ne, at) (named (names h e entry.call) refl)
@@ -74,7 +80,9 @@ waiting_value config h entry e p l w c q r = rw (eqb-other p (length h) ne, at) 
     named false m = sym (invoke_waits (length h) (stand config h e) entry.call (not_named_call h entry e config w c m))
 
 -- The request count after the first answers of what is at hand then.
-pub request_stage : (config : Config) (h : List Entry) (entry given : Entry) (e p : ℕ) → IsLegal config h → Follows config h entry → concerns h e entry ≡ true → given.call ≡ entry.call → IsFirst (length h) (first_answer config h entry.moment entry.call) given
+pub request_stage : (config : Config) (h : List Entry) (entry given : Entry) (e p : ℕ) → IsLegal config h
+    → Follows config h entry → concerns h e entry ≡ true → given.call ≡ entry.call
+    → IsFirst (length h) (first_answer config h entry.moment entry.call) given
     → ((length h ≡ p) × (is_invoke entry.call ≡ true)) ⊎ (at_hand (phase config h e) ≡ Some p)
     → request_at config (first_part given ∷ h) e (Some p) ≡ request_of (step_at h entry (count_at config h entry e)) (stand config h e) entry.call (Some p)
 unfolding seen
@@ -83,11 +91,17 @@ request_stage config h entry given e p l w c same k which = elim which [ inl new
     s : Stand
     s = stand config h e
 
-    newly : length h ≡ p → is_invoke entry.call ≡ true → request_at config (first_part given ∷ h) e (Some p) ≡ request_of (step_at h entry (count_at config h entry e)) s entry.call (Some p)
-    newly at i = subst (λ n. request_at config (first_part given ∷ h) e (Some n) ≡ request_of (step_at h entry (count_at config h entry e)) s entry.call (Some n)) at here
+    newly : length h ≡ p → is_invoke entry.call ≡ true
+        → request_at config (first_part given ∷ h) e (Some p) ≡ request_of (step_at h entry (count_at config h entry e)) s entry.call (Some p)
+    newly at i =
+        subst
+        (λ n. request_at config (first_part given ∷ h) e (Some n) ≡ request_of (step_at h entry (count_at config h entry e)) s entry.call (Some n)) at here
       where
         here : request_at config (first_part given ∷ h) e (Some (length h)) ≡ request_of (step_at h entry (count_at config h entry e)) s entry.call (Some (length h))
-        here = if_yes (pending (first_part given ∷ h) (length h)) (Some (requests (upto (first_part given ∷ h) (length h)) (function_of config e))) None waits ∙ ap (λ (n : ℕ). Some n) counted ∙ sym (if_yes (length h == length h) (Some (count_at config h entry e)) (if is_some (to_waiting (length h) s entry.call) then None else s.request) (eqb-self (length h)))
+        here =
+            if_yes (pending (first_part given ∷ h) (length h)) (Some (requests (upto (first_part given ∷ h) (length h)) (function_of config e))) None waits
+            ∙ ap (λ (n : ℕ). Some n) counted
+            ∙ sym (if_yes (length h == length h) (Some (count_at config h entry e)) (if is_some (to_waiting (length h) s entry.call) then None else s.request) (eqb-self (length h)))
           where
             if_yes : (b : Bool) (x y : Option ℕ) → b ≡ true → (if b then x else y) ≡ x
             if_yes true x y r = refl
@@ -97,7 +111,9 @@ request_stage config h entry given e p l w c same k which = elim which [ inl new
             placed = placed_here h entry e i c
 
             no_answer : is_none (answer_in (first_part given).answers (length h)) ≡ true
-            no_answer = plain_none (answer_in (first_part given).answers (length h)) (first_answer config h entry.moment entry.call (length h)) (k.first (length h) (omega arith)) ∙ ap is_none (placed_silent config h entry e w i placed)
+            no_answer =
+                plain_none (answer_in (first_part given).answers (length h)) (first_answer config h entry.moment entry.call (length h)) (k.first (length h) (omega arith))
+                ∙ ap is_none (placed_silent config h entry e w i placed)
 
             waits : pending (first_part given ∷ h) (length h) ≡ true
             waits = new_pending (first_part given) h (ap is_expiry same ∙ no_expiry entry.call i) (fresh config h (length h) l (omega arith)) no_answer
@@ -111,8 +127,11 @@ request_stage config h entry given e p l w c same k which = elim which [ inl new
                 up : requests (upto (first_part given ∷ h) (length h)) (function_of config e) ≡ requests (given ∷ h) (function_of config e)
                 up = rw not_less refl
 
-    older : at_hand (phase config h e) ≡ Some p → request_at config (first_part given ∷ h) e (Some p) ≡ request_of (step_at h entry (count_at config h entry e)) s entry.call (Some p)
-    older q = ap₂ (λ (b : Bool) (xs : List Entry). if b then Some (requests xs (function_of config e)) else None) pend same_upto ∙ by_pending (pending h p) refl ∙ sym right
+    older : at_hand (phase config h e) ≡ Some p
+        → request_at config (first_part given ∷ h) e (Some p) ≡ request_of (step_at h entry (count_at config h entry e)) s entry.call (Some p)
+    older q =
+        ap₂ (λ (b : Bool) (xs : List Entry). if b then Some (requests xs (function_of config e)) else None) pend same_upto
+        ∙ by_pending (pending h p) refl ∙ sym right
       where
         kept_here : IsHeld h e p
         kept_here = held config h e p l q
@@ -127,12 +146,17 @@ request_stage config h entry given e p l w c same k which = elim which [ inl new
         same_upto = let yes : ltb p (length h) ≡ true = grind (arith, nat_tests, lt) in rw yes refl
 
         pend : pending (first_part given ∷ h) p ≡ (pending h p && is_none (first_answer config h entry.moment entry.call p))
-        pend = pending_cons (first_part given) h p ne ∙ ap (λ (b : Bool). pending h p && b) (plain_none (answer_in (first_part given).answers p) (first_answer config h entry.moment entry.call p) (k.first p (omega (arith, lt))))
+        pend =
+            pending_cons (first_part given) h p ne
+            ∙ ap (λ (b : Bool). pending h p && b) (plain_none (answer_in (first_part given).answers p) (first_answer config h entry.moment entry.call p) (k.first p (omega (arith, lt))))
 
         right : request_of (step_at h entry (count_at config h entry e)) s entry.call (Some p) ≡ (if is_some (to_waiting (length h) s entry.call) then None else request_at config h e (Some p))
-        right = ap (λ (b : Bool). if b then Some (count_at config h entry e) else (if is_some (to_waiting (length h) s entry.call) then None else s.request)) (eqb-other p (length h) ne) ∙ ap (λ (o : Option ℕ). if is_some (to_waiting (length h) s entry.call) then None else request_at config h e o) q
+        right =
+            ap (λ (b : Bool). if b then Some (count_at config h entry e) else (if is_some (to_waiting (length h) s entry.call) then None else s.request)) (eqb-other p (length h) ne)
+            ∙ ap (λ (o : Option ℕ). if is_some (to_waiting (length h) s entry.call) then None else request_at config h e o) q
 
-        by_pending : (b : Bool) → pending h p ≡ b → (if b && is_none (first_answer config h entry.moment entry.call p) then Some (requests (upto h p) (function_of config e)) else None)
+        by_pending : (b : Bool) → pending h p ≡ b
+            → (if b && is_none (first_answer config h entry.moment entry.call p) then Some (requests (upto h p) (function_of config e)) else None)
             ≡ (if is_some (to_waiting (length h) s entry.call) then None else (if b then Some (requests (upto h p) (function_of config e)) else None))
         by_pending false r = none (is_some (to_waiting (length h) s entry.call))
           where
@@ -142,23 +166,29 @@ request_stage config h entry given e p l w c same k which = elim which [ inl new
             none : (x : Bool) → nothing ≡ (if x then nothing else nothing)
             none true = refl
             none false = refl
-        by_pending true r = ap (λ (a : Option Answer). if is_none a then Some (requests (upto h p) (function_of config e)) else None) (waiting_value config h entry e p l w c q r) ∙ turn (to_waiting (length h) s entry.call)
+        by_pending true r =
+            ap (λ (a : Option Answer). if is_none a then Some (requests (upto h p) (function_of config e)) else None) (waiting_value config h entry e p l w c q r)
+            ∙ turn (to_waiting (length h) s entry.call)
           where
-            turn : (a : Option Answer) → (if is_none a then Some (requests (upto h p) (function_of config e)) else None) ≡ (if is_some a then None else Some (requests (upto h p) (function_of config e)))
+            turn : (a : Option Answer)
+                → (if is_none a then Some (requests (upto h p) (function_of config e)) else None) ≡ (if is_some a then None else Some (requests (upto h p) (function_of config e)))
             turn None = refl
             turn (Some a) = refl
 
 -- the phase after an entry, by what the first answers leave
-pub phase_stage : (config : Config) (h : List Entry) (entry : Entry) (pairs : List (ℕ × Answer)) (place : Option ℕ) (e : ℕ) → IsLegal config h → Follows config h entry → concerns h e entry ≡ true
+pub phase_stage : (config : Config) (h : List Entry) (entry : Entry) (pairs : List (ℕ × Answer)) (place : Option ℕ) (e : ℕ)
+    → IsLegal config h → Follows config h entry → concerns h e entry ≡ true
     → concerns h e (record { moment = entry.moment; call = entry.call; answers = pairs; place = place }) ≡ true
-    → IsFirst (length h) (first_answer config h entry.moment entry.call) (record { moment = entry.moment; call = entry.call; answers = pairs; place = place }) → IsSilent h (record { moment = entry.moment; call = entry.call; answers = pairs; place = place })
+    → IsFirst (length h) (first_answer config h entry.moment entry.call) (record { moment = entry.moment; call = entry.call; answers = pairs; place = place })
+    → IsSilent h (record { moment = entry.moment; call = entry.call; answers = pairs; place = place })
     → phase config (record { moment = entry.moment; call = entry.call; answers = pairs; place = place } ∷ h) e
     ≡ (turned (fixed_of config e) entry.moment (expires_now (stand config h e) entry.call) (phase config h e) (first_stand (fixed_of config e) (step_at h entry (count_at config h entry e)) (stand config h e) entry.call)).phase
 unfolding life lived after turned first_stand seen
 phase_stage config h entry pairs place e l w c d k quiet =
     ap (λ (b : Bool). (if_concerned b (visit config h e given)).phase) d
     ∙ two (ends_here (visit config h e given))
-    ∙ (λ i. made (members_stage config h entry given e count l w c refl k quiet i) (runtime_stage config h entry given e count l w c refl k i) (request_is (at_hand cell) refl i))
+    ∙
+    (λ i. made (members_stage config h entry given e count l w c refl k quiet i) (runtime_stage config h entry given e count l w c refl k i) (request_is (at_hand cell) refl i))
     ∙ sym (whole (closing_ends (expires_now s entry.call) (first_stand (fixed_of config e) step s entry.call)))
   where
     given : Entry
@@ -186,9 +216,12 @@ phase_stage config h entry pairs place e l w c d k quiet =
 
     request_is : (o : Option ℕ) → at_hand cell ≡ o → request_at config (first_part given ∷ h) e o ≡ request_of step s entry.call o
     request_is None q = refl
-    request_is (Some p) q = request_stage config h entry given e p l w c refl k (which (from_kept entry.moment (limit_of config e entry.moment) (length h) s entry.call p (from_closing entry.moment (closes s entry.call) (kept entry.moment (limit_of config e entry.moment) (length h) s entry.call) p q).1))
+    request_is (Some p) q =
+        request_stage config h entry given e p l w c refl k
+        (which (from_kept entry.moment (limit_of config e entry.moment) (length h) s entry.call p (from_closing entry.moment (closes s entry.call) (kept entry.moment (limit_of config e entry.moment) (length h) s entry.call) p q).1))
       where
-        which : ((length h ≡ p) × (is_invoke entry.call ≡ true)) ⊎ (at_hand s.phase ≡ Some p) → ((length h ≡ p) × (is_invoke entry.call ≡ true)) ⊎ (at_hand (phase config h e) ≡ Some p)
+        which : ((length h ≡ p) × (is_invoke entry.call ≡ true)) ⊎ (at_hand s.phase ≡ Some p)
+            → ((length h ≡ p) × (is_invoke entry.call ≡ true)) ⊎ (at_hand (phase config h e) ≡ Some p)
         which x = x
 
     two : (b : Bool) → (if_ended b (visit config h e given)).phase
@@ -196,7 +229,8 @@ phase_stage config h entry pairs place e l w c d k quiet =
     two true = refl
     two false = refl
 
-    whole : (b : Bool) → (if b then restarted entry.moment (first_stand (fixed_of config e) step s entry.call) else settled_stand (fixed_of config e) entry.moment (phase config h e) (first_stand (fixed_of config e) step s entry.call)).phase
+    whole : (b : Bool)
+        → (if b then restarted entry.moment (first_stand (fixed_of config e) step s entry.call) else settled_stand (fixed_of config e) entry.moment (phase config h e) (first_stand (fixed_of config e) step s entry.call)).phase
         ≡ (if b then reborn (is_stop entry.call || stopped h) entry.moment (bound_of cell) else settled (limit_of config e entry.moment) (ready (runtime_first step s entry.call) (members_first step s entry.call) (expected_at config e)) (is_some (request_of step s entry.call (at_hand cell))) cell)
     whole true = refl
     whole false = refl
@@ -205,11 +239,15 @@ phase_stage config h entry pairs place e l w c d k quiet =
 pub phase_meets : (config : Config) (h : List Entry) (entry : Entry) (e : ℕ) → IsLegal config h → Follows config h entry → concerns h e entry ≡ true
     → (stand config (entry ∷ h) e).phase ≡ (stand_after (fixed_of config e) (step_at h entry (count_at config h entry e)) (stand config h e) entry.call).phase
 unfolding seen stand_after finished
-phase_meets config h entry e l w c = phase_stage config h entry entry.answers entry.place e l w c c (entry_is_first config h entry w) (legal_silent config h entry w)
+phase_meets config h entry e l w c =
+    phase_stage config h entry entry.answers entry.place e l w c c (entry_is_first config h entry w) (legal_silent config h entry w)
 
 -- The phase with the first answers alone is the phase with all.
 pub phase_first : (config : Config) (h : List Entry) (entry : Entry) (e : ℕ) → IsLegal config h → Follows config h entry → concerns h e entry ≡ true
     → phase config (first_entry config h entry.moment entry.call ∷ h) e ≡ phase config (entry ∷ h) e
 phase_first config h entry e l w c =
-    phase_stage config h entry (first_entry config h entry.moment entry.call).answers (place_for config h entry.call) e l w c (ap (λ (o : Option ℕ). is_number o e || names h e entry.call) (sym (w.place)) ∙ c) (first_is_first config h entry.moment entry.call) (first_silent config h entry.moment entry.call)
+    phase_stage config h entry (first_entry config h entry.moment entry.call).answers
+    (place_for config h entry.call) e l w c
+    (ap (λ (o : Option ℕ). is_number o e || names h e entry.call) (sym (w.place)) ∙ c)
+    (first_is_first config h entry.moment entry.call) (first_silent config h entry.moment entry.call)
     ∙ sym (phase_stage config h entry entry.answers entry.place e l w c c (entry_is_first config h entry w) (legal_silent config h entry w))

@@ -1,6 +1,7 @@
 -- The spec's put and give keep rising order, and what a ticket gets in them.
 use Rattle.std.proofs.lemmas.Bool.{cases_lt}
-use Rattle.std.proofs.Common.{◌≡◌, ℕ, suc, ◌<◌, ◌≤◌, Bool, true, false, eqb, ltb, List, [], ◌∷◌, Option, Some, None, sym, refl, ap, ◌∙◌, inl, inr, arith, ◌≢◌, filter, if◌then◌else◌, true≢false}
+use Rattle.std.proofs.Common.{◌≡◌, ℕ, suc, ◌<◌, ◌≤◌, Bool, true, false, eqb, ltb, List, [], ◌∷◌, Option, Some, None}
+use Rattle.std.proofs.Common.{sym, refl, ap, ◌∙◌, inl, inr, arith, ◌≢◌, filter, if◌then◌else◌, true≢false}
 use Rattle.std.proofs.lemmas.Bool.Decides.{eqb_tells, nat_tests}
 use Rattle.call_types.specs.declared.answer.Answer.{Answer}
 use Rattle.call_model.specs.History.{answer_in}
@@ -36,14 +37,19 @@ put_rising t a (b ∷ rest) r le q =
     keep true e k = absurd (true≢false e)
 
 -- what a ticket gets
-pub put_answer : (t : ℕ) (a : ℕ × Answer) (pairs : List (ℕ × Answer)) (u : ℕ) → IsRising t pairs → answer_in pairs a.0 ≡ None → answer_in (put a pairs) u ≡ answer_in (a ∷ pairs) u
+pub put_answer : (t : ℕ) (a : ℕ × Answer) (pairs : List (ℕ × Answer)) (u : ℕ) → IsRising t pairs
+    → answer_in pairs a.0 ≡ None → answer_in (put a pairs) u ≡ answer_in (a ∷ pairs) u
 put_answer t a [] u r q = refl
-put_answer t a (b ∷ rest) u r q = go (ltb a.0 b.0) (put_answer (suc b.0) b rest u r.1 (rising_none (suc b.0) b.0 rest r.1 (omega arith))) (put_answer (suc b.0) a rest u r.1 (sym (skip_at b rest a.0 ne) ∙ q))
+put_answer t a (b ∷ rest) u r q =
+    go (ltb a.0 b.0) (put_answer (suc b.0) b rest u r.1 (rising_none (suc b.0) b.0 rest r.1 (omega arith)))
+    (put_answer (suc b.0) a rest u r.1 (sym (skip_at b rest a.0 ne) ∙ q))
   where
     ne : b.0 ≢ a.0
     ne = apart_from b rest a.0 q
 
-    go : (c : Bool) → answer_in (put b rest) u ≡ answer_in (b ∷ rest) u → answer_in (put a rest) u ≡ answer_in (a ∷ rest) u → answer_in (if c then a ∷ put b rest else b ∷ put a rest) u ≡ answer_in (a ∷ b ∷ rest) u
+    go : (c : Bool) → answer_in (put b rest) u ≡ answer_in (b ∷ rest) u
+        → answer_in (put a rest) u ≡ answer_in (a ∷ rest) u
+        → answer_in (if c then a ∷ put b rest else b ∷ put a rest) u ≡ answer_in (a ∷ b ∷ rest) u
     go true x y = ap (λ (o : Option Answer). if eqb a.0 u then Some a.1 else o) x
     go false x y = ap (λ (o : Option Answer). if eqb b.0 u then Some b.1 else o) y ∙ elim (eqb_tells a.0 u) [
       | inl p ↦ rw (p.0, eqb-other b.0 u (λ same. ne (same ∙ sym (p.1)))) refl
@@ -64,7 +70,8 @@ give_rising None a pairs r k = r
 give_rising (Some t) None pairs r k = r
 give_rising (Some t) (Some a) pairs r k = put_rising 0 (t, a) pairs r (omega arith) (k t refl)
 
-pub give_answer : (o : Option ℕ) (a : Option Answer) (pairs : List (ℕ × Answer)) (u : ℕ) → IsRising 0 pairs → IsFresh o pairs → answer_in (give o a pairs) u ≡ given_at o a u (answer_in pairs u)
+pub give_answer : (o : Option ℕ) (a : Option Answer) (pairs : List (ℕ × Answer)) (u : ℕ) → IsRising 0 pairs
+    → IsFresh o pairs → answer_in (give o a pairs) u ≡ given_at o a u (answer_in pairs u)
 give_answer None a pairs u r k = refl
 give_answer (Some t) None pairs u r k = refl
 give_answer (Some t) (Some a) pairs u r k = put_answer 0 (t, a) pairs u r (k t refl)

@@ -1,6 +1,7 @@
 -- The answers of an entry stand in rising ticket order, and are known by their tickets.
 use Rattle.std.proofs.lemmas.Bool.{cases_lt}
-use Rattle.std.proofs.Common.{le_refl, ◌≡◌, ℕ, zero, suc, ◌<◌, ◌≤◌, Bool, true, false, eqb, List, [], ◌∷◌, Option, Some, None, sym, refl, ap, ap₂, ◌∙◌, subst, inl, inr, arith, ◌≢◌, filter, if◌then◌else◌}
+use Rattle.std.proofs.Common.{le_refl, ◌≡◌, ℕ, zero, suc, ◌<◌, ◌≤◌, Bool, true, false, eqb, List, [], ◌∷◌, Option, Some}
+use Rattle.std.proofs.Common.{None, sym, refl, ap, ap₂, ◌∙◌, subst, inl, inr, arith, ◌≢◌, filter, if◌then◌else◌}
 use Rattle.std.proofs.lemmas.Bool.Decides.{eqb_tells}
 use Rattle.call_types.specs.declared.answer.Answer.{Answer}
 use Rattle.call_types.specs.declared.call.Entry.{Entry}
@@ -26,7 +27,8 @@ each_rising t (suc n) f = go (f t) (each_rising (suc t) n f)
     go None r = weaker t (suc t) (each_from (suc t) n f) (omega arith) r
     go (Some a) r = (omega arith, r)
 
-pub numbered_rising : (h : List Entry) (entry : Entry) (before pairs : List (ℕ × Answer)) (t : ℕ) → IsRising t pairs → IsRising t (numbered h entry before pairs)
+pub numbered_rising : (h : List Entry) (entry : Entry) (before pairs : List (ℕ × Answer)) (t : ℕ) → IsRising t pairs
+    → IsRising t (numbered h entry before pairs)
 numbered_rising h entry before [] t r = tt
 numbered_rising h entry before (a ∷ rest) t r = (r.0, numbered_rising h entry (a ∷ before) rest (suc a.0) r.1)
 
@@ -39,7 +41,8 @@ abbrev pub passed : (Answer → Bool) → Option Answer → Option Answer
 passed p None = None
 passed p (Some a) = if p a then Some a else None
 
-pub rising_filter : (p : Answer → Bool) (t u : ℕ) (pairs : List (ℕ × Answer)) → IsRising t pairs → answer_in (filter (λ a. p a.1) pairs) u ≡ passed p (answer_in pairs u)
+pub rising_filter : (p : Answer → Bool) (t u : ℕ) (pairs : List (ℕ × Answer)) → IsRising t pairs
+    → answer_in (filter (λ a. p a.1) pairs) u ≡ passed p (answer_in pairs u)
 rising_filter p t u [] r = refl
 rising_filter p t u (a ∷ rest) r =
     elim (eqb_tells a.0 u) [
@@ -47,11 +50,13 @@ rising_filter p t u (a ∷ rest) r =
       | inr q ↦ rw q.0 (there q.0 (p a.1) (rising_filter p (suc a.0) u rest r.1))
     ]
   where
-    here : eqb a.0 u ≡ true → (b : Bool) → answer_in (filter (λ c. p c.1) rest) u ≡ None → answer_in (if b then a ∷ filter (λ c. p c.1) rest else filter (λ c. p c.1) rest) u ≡ (if b then Some a.1 else None)
+    here : eqb a.0 u ≡ true → (b : Bool) → answer_in (filter (λ c. p c.1) rest) u ≡ None
+        → answer_in (if b then a ∷ filter (λ c. p c.1) rest else filter (λ c. p c.1) rest) u ≡ (if b then Some a.1 else None)
     here q true e = rw q refl
     here q false e = e
 
-    there : eqb a.0 u ≡ false → (b : Bool) → answer_in (filter (λ c. p c.1) rest) u ≡ passed p (answer_in rest u) → answer_in (if b then a ∷ filter (λ c. p c.1) rest else filter (λ c. p c.1) rest) u ≡ passed p (answer_in rest u)
+    there : eqb a.0 u ≡ false → (b : Bool) → answer_in (filter (λ c. p c.1) rest) u ≡ passed p (answer_in rest u)
+        → answer_in (if b then a ∷ filter (λ c. p c.1) rest else filter (λ c. p c.1) rest) u ≡ passed p (answer_in rest u)
     there q true e = rw q e
     there q false e = e
 
@@ -71,7 +76,8 @@ rising_same t (a ∷ xs) (b ∷ ys) r s e =
       | inl lt ↦ absurd (none-some (sym (rising_none b.0 a.0 (b ∷ ys) (le_refl b.0, s.1) lt) ∙ sym (e a.0) ∙ some_at a xs a.0 refl))
       | inr ge ↦ elim (cases_lt b.0 a.0) [
         | inl lt ↦ absurd (none-some (sym (rising_none a.0 b.0 (a ∷ xs) (le_refl a.0, r.1) lt) ∙ e b.0 ∙ some_at b ys b.0 refl))
-        | inr le ↦ let q : a.0 ≡ b.0 = omega (arith, ge, le) in ap₂ ◌∷◌ (λ i. (q i, value (sym (some_at a xs a.0 refl) ∙ e a.0 ∙ some_at b ys a.0 (sym q)) i)) (rising_same (suc a.0) xs ys r.1 (subst (λ n. IsRising (suc n) ys) (sym q) s.1) (λ u. rest u q))
+        | inr le ↦ let q : a.0 ≡ b.0 =
+            omega (arith, ge, le) in ap₂ ◌∷◌ (λ i. (q i, value (sym (some_at a xs a.0 refl) ∙ e a.0 ∙ some_at b ys a.0 (sym q)) i)) (rising_same (suc a.0) xs ys r.1 (subst (λ n. IsRising (suc n) ys) (sym q) s.1) (λ u. rest u q))
       ]
     ]
   where

@@ -26,4 +26,6 @@ pub stand_is : (config : Config) (h : List Entry) (entry : Entry) (e : ℕ) → 
 unfolding seen
 stand_is config h entry e l w c =
     stand_meets config h entry e l w c
-    ∙ ap (λ (n : ℕ). with_events n (stand_after (fixed_of config e) (step_at h entry (count_at config h entry e)) (stand config h e) entry.call)) (events_are config h entry e l w c)
+    ∙ ap
+    (λ (n : ℕ). with_events n (stand_after (fixed_of config e) (step_at h entry (count_at config h entry e)) (stand config h e) entry.call))
+    (events_are config h entry e l w c)

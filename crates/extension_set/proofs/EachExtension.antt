@@ -17,7 +17,8 @@ pub record IsEach (s : Member → Member) (f : Member → Option Answer) (i : �
   pub few : length moves ≤ length first + i
 
 -- one extension more
-pub each_more : (s : Member → Member) (f : Member → Option Answer) (i : ℕ) (d x : Member) (old now : List Member) (first moves moves' : List (ℕ × Answer)) → IsEach s f i old now first moves → i < length old → x ≡ get_or now i d
+pub each_more : (s : Member → Member) (f : Member → Option Answer) (i : ℕ) (d x : Member) (old now : List Member) (first moves moves' : List (ℕ × Answer))
+    → IsEach s f i old now first moves → i < length old → x ≡ get_or now i d
     → moves' ≡ give x.next (f x) moves → IsEach s f (suc i) old (set now i (s x)) first moves'
 each_more s f i d x old now first moves moves' k len same more = record {
   same_length = length-set now i (s x) ∙ k.same_length;
@@ -38,12 +39,16 @@ each_more s f i d x old now first moves moves' k len same more = record {
 
 reverse-map : (s : Member → Member) (xs : List Member) → reverse (map s xs) ≡ map s (reverse xs)
 reverse-map s [] = refl
-reverse-map s (x ∷ xs) = reverse-append (s x ∷ []) (map s xs) ∙ ap (λ ys. ys ++ s x ∷ []) (reverse-map s xs) ∙ sym (ap (map s) (reverse-append (x ∷ []) xs) ∙ map-append s (reverse xs) (x ∷ []))
+reverse-map s (x ∷ xs) =
+    reverse-append (s x ∷ []) (map s xs) ∙ ap (λ ys. ys ++ s x ∷ []) (reverse-map s xs)
+    ∙ sym (ap (map s) (reverse-append (x ∷ []) xs) ∙ map-append s (reverse xs) (x ∷ []))
 
 -- at the end of the loop
-pub each_whole : (s : Member → Member) (f : Member → Option Answer) (n : ℕ) (old now : List Member) (first moves : List (ℕ × Answer)) → IsEach s f n old now first moves → n ≡ length old
+pub each_whole : (s : Member → Member) (f : Member → Option Answer) (n : ℕ) (old now : List Member) (first moves : List (ℕ × Answer))
+    → IsEach s f n old now first moves → n ≡ length old
     → (reverse now ≡ map s (reverse old)) × (moves ≡ give_each f (reverse old) first)
-each_whole s f n old now first moves k e = (ap reverse (sym (whole now (k.same_length ∙ sym e)) ∙ k.done ∙ ap (map s) (whole old (sym e))) ∙ reverse-map s old, k.given ∙ ap (λ xs. give_each f (reverse xs) first) (whole old (sym e)))
+each_whole s f n old now first moves k e =
+    (ap reverse (sym (whole now (k.same_length ∙ sym e)) ∙ k.done ∙ ap (map s) (whole old (sym e))) ∙ reverse-map s old, k.given ∙ ap (λ xs. give_each f (reverse xs) first) (whole old (sym e)))
   where
     whole : (xs : List Member) → length xs ≡ n → take n xs ≡ xs
     whole xs p = take_all n xs (omega (arith, p))

@@ -9,7 +9,8 @@ pub put_length : (a : ℕ × Answer) (moves : List (ℕ × Answer)) → length (
 put_length a [] = refl
 put_length a (b ∷ rest) = go (ltb a.0 b.0) (put_length a rest) (put_length b rest)
   where
-    go : (c : Bool) → length (put a rest) ≡ suc (length rest) → length (put b rest) ≡ suc (length rest) → length (if c then a ∷ put b rest else b ∷ put a rest) ≡ suc (suc (length rest))
+    go : (c : Bool) → length (put a rest) ≡ suc (length rest) → length (put b rest) ≡ suc (length rest)
+        → length (if c then a ∷ put b rest else b ∷ put a rest) ≡ suc (suc (length rest))
     go true e f = ap suc f
     go false e f = ap suc e
 

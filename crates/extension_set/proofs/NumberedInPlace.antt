@@ -1,5 +1,6 @@
 -- The events of an array of pairs are numbered in place.
-use Rattle.std.proofs.Common.{◌≡◌, ℕ, suc, ◌+◌, ◌<◌, ◌≤◌, length, List, ◌∷◌, ◌++◌, take, drop, set, get_or, append_assoc, [], Bool, true, false, arith, refl, sym, ◌∙◌, ap, if◌then◌else◌}
+use Rattle.std.proofs.Common.{◌≡◌, ℕ, suc, ◌+◌, ◌<◌, ◌≤◌, length, List, ◌∷◌, ◌++◌, take, drop, set, get_or}
+use Rattle.std.proofs.Common.{append_assoc, [], Bool, true, false, arith, refl, sym, ◌∙◌, ap, if◌then◌else◌}
 use Rattle.std.proofs.Math.Seq.{take-suc-set}
 use Rattle.std.proofs.lemmas.List.{drop-set-lt, length-set}
 use Rattle.call_model.specs.Answers.{with_event}
@@ -20,7 +21,8 @@ pub record IsNumbered (place count first_count events last : ℕ) (old now : Lis
   pub so_far : take place now ++ numbered_from last (drop place (take count old)) ≡ numbered_from events (take count old)
 
 -- one pair more
-pub number_more : (place count first_count events last : ℕ) (d : ℕ × Answer) (old now : List (ℕ × Answer)) → IsNumbered place count first_count events last old now → place < count → place < length old
+pub number_more : (place count first_count events last : ℕ) (d : ℕ × Answer) (old now : List (ℕ × Answer))
+    → IsNumbered place count first_count events last old now → place < count → place < length old
     → (b : Bool) → is_event (get_or now place d).1 ≡ b
     → IsNumbered (suc place) count first_count events (last + (if b then 1 else 0)) old (set now place ((get_or now place d).0, with_event (suc last) (get_or now place d).1))
 number_more i n m events last d old now k lt len b q = record {
@@ -31,7 +33,9 @@ number_more i n m events last d old now k lt len b q = record {
   rest = drop-set-lt (suc i) now i x' (omega arith) ∙ both.1;
   few = at_most b;
   counted = count b q;
-  so_far = rw (take-suc-set now i x' at) (append_assoc (take i now) (x' ∷ []) (numbered_from (last + (if b then 1 else 0)) r) ∙ ap (λ ys. take i now ++ ys) (one b q) ∙ k.so_far);
+  so_far =
+      rw (take-suc-set now i x' at)
+      (append_assoc (take i now) (x' ∷ []) (numbered_from (last + (if b then 1 else 0)) r) ∙ ap (λ ys. take i now ++ ys) (one b q) ∙ k.so_far);
 }
   where
     x : ℕ × Answer
@@ -63,6 +67,7 @@ number_more i n m events last d old now k lt len b q = record {
     count : (b : Bool) → is_event x.1 ≡ b → events_of r + (last + (if b then 1 else 0)) ≡ events_of (take n old) + events
     count b p = shift b (ap events_of split ∙ ap (λ (c : Bool). (if c then 1 else 0) + events_of r) p)
       where
-        shift : (b : Bool) → events_of (drop i (take n old)) ≡ (if b then 1 else 0) + events_of r → events_of r + (last + (if b then 1 else 0)) ≡ events_of (take n old) + events
+        shift : (b : Bool) → events_of (drop i (take n old)) ≡ (if b then 1 else 0) + events_of r
+            → events_of r + (last + (if b then 1 else 0)) ≡ events_of (take n old) + events
         shift true e = omega (arith, e, k.counted)
         shift false e = omega (arith, e, k.counted)

@@ -1,5 +1,6 @@
 -- The history before an entry.
-use Rattle.std.proofs.Common.{◌≡◌, ℕ, zero, suc, ◌+◌, ◌-◌, ◌<◌, ◌≤◌, List, [], ◌∷◌, length, reverse, drop, get_or, None, refl, sym, ap, ap₂, ◌∙◌, arith, drop-cons}
+use Rattle.std.proofs.Common.{◌≡◌, ℕ, zero, suc, ◌+◌, ◌-◌, ◌<◌, ◌≤◌, List, [], ◌∷◌, length, reverse, drop, get_or, None}
+use Rattle.std.proofs.Common.{refl, sym, ap, ap₂, ◌∙◌, arith, drop-cons}
 use Rattle.std.proofs.lemmas.List.{get_or-reverse, length-drop, length-reverse}
 use Rattle.arn_ids.specs.declared.config.Config.{Config}
 use Rattle.call_types.specs.declared.call.Entry.{Entry}
@@ -30,7 +31,8 @@ call_of_drop (suc n) (entry ∷ h) t lt =
     shorter (suc m) (x ∷ k) = omega (arith, shorter m k)
 
 -- it grows by the entry
-pub one_later : (entries : List Entry) (t : ℕ) (d : Entry) → t < length entries → before (reverse entries) (t + 1) ≡ get_or entries t d ∷ before (reverse entries) t
+pub one_later : (entries : List Entry) (t : ℕ) (d : Entry) → t < length entries
+    → before (reverse entries) (t + 1) ≡ get_or entries t d ∷ before (reverse entries) t
 one_later entries t d lt =
     let long : length (reverse entries) ≡ length entries = length-reverse entries in
     let n : ℕ = length (reverse entries) - (t + 1) in
@@ -38,7 +40,8 @@ one_later entries t d lt =
     let there : n < length (reverse entries) = omega (arith, long, lt) in
     let back : length entries - 1 - n ≡ t = omega (arith, long, lt) in
     drop-cons (reverse entries) n d there
-    ∙ ap₂ (λ (x : Entry) (k : ℕ). x ∷ drop k (reverse entries)) (get_or-reverse entries n d (omega (arith, long, lt)) ∙ ap (λ (k : ℕ). get_or entries k d) back) next
+    ∙ ap₂ (λ (x : Entry) (k : ℕ). x ∷ drop k (reverse entries))
+    (get_or-reverse entries n d (omega (arith, long, lt)) ∙ ap (λ (k : ℕ). get_or entries k d) back) next
 
 -- a ticket that is not older has no call there
 pub far_call : (entries : List Entry) (own t : ℕ) → own ≤ length entries → own ≤ t → None ≡ poll_env (call_of (before (reverse entries) own) t)
@@ -47,10 +50,12 @@ far_call entries own t there far =
     sym (ap poll_env (no_call (before (reverse entries) own) t (omega (arith, long, far))))
 
 -- one that is older has its own
-pub near_call : (entries : List Entry) (own t : ℕ) (d : Entry) → own ≤ length entries → t < own → poll_env (get_or entries t d).call ≡ poll_env (call_of (before (reverse entries) own) t)
+pub near_call : (entries : List Entry) (own t : ℕ) (d : Entry) → own ≤ length entries → t < own
+    → poll_env (get_or entries t d).call ≡ poll_env (call_of (before (reverse entries) own) t)
 near_call entries own t d there near =
     let long : length (before (reverse entries) own) ≡ own = length_before (reverse entries) own (omega (arith, there, length-reverse entries)) in
-    ap poll_env (call_here entries t d (omega (arith, there, near)) ∙ sym (call_of_drop (length (reverse entries) - own) (reverse entries) t (omega (arith, long, near))))
+    ap poll_env
+    (call_here entries t d (omega (arith, there, near)) ∙ sym (call_of_drop (length (reverse entries) - own) (reverse entries) t (omega (arith, long, near))))
 
 -- before the next entry stand all
 pub before_next : (entries : List Entry) (t : ℕ) → t ≡ length entries → before (reverse entries) t ≡ reverse entries

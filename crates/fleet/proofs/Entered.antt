@@ -3,7 +3,10 @@ use Rattle.std.proofs.Common.{◌≡◌, ℕ, ◌≤◌, ◌^◌, Bool, true, fa
 use Rattle.arn_ids.specs.declared.config.Config.{Config}
 use Rattle.arn_ids.specs.Environments.{function_of}
 use Rattle.call_types.specs.declared.call.Call.{Call}
-use Rattle.call_types.specs.declared.call.Call.TheVariants.{Invoke, RuntimeNext, Response, ResponseTooLarge, Failure, InitFailure, Register, ExtNext, ExtInitFailure, ExtExitFailure, Tick, Withdraw, Spindown, Stop, Expire, Reserve}
+use Rattle.call_types.specs.declared.call.Call.TheVariants.{Invoke, RuntimeNext, Response, ResponseTooLarge, Failure}
+use Rattle.call_types.specs.declared.call.Call.TheVariants.{InitFailure, Register, ExtNext, ExtInitFailure}
+use Rattle.call_types.specs.declared.call.Call.TheVariants.{ExtExitFailure, Tick, Withdraw, Spindown, Stop, Expire}
+use Rattle.call_types.specs.declared.call.Call.TheVariants.{Reserve}
 use Rattle.call_types.specs.declared.call.Entry.{Entry}
 use Rattle.call_model.specs.History.{call_of, poll_env}
 use Rattle.call_model.specs.Life.{concerns, names}
@@ -29,7 +32,8 @@ or_none : (b : Bool) → (b || false) ≡ b
 or_none true = refl
 or_none false = refl
 
-pub concerns_reach : (config : Config) (h : List Entry) (entry : Entry) (d : ℕ) → Follows config h entry → concerns h d entry ≡ reaches (reach h entry.place entry.call) d
+pub concerns_reach : (config : Config) (h : List Entry) (entry : Entry) (d : ℕ) → Follows config h entry
+    → concerns h d entry ≡ reaches (reach h entry.place entry.call) d
 concerns_reach config h entry d w = go entry.call entry.place w.place
   where
     go : (call : Call) (place : Option ℕ) → place ≡ place_for config h call → (is_number place d || names h d call) ≡ reaches (reach h place call) d
@@ -57,14 +61,16 @@ abbrev with_environment : Config → ℕ → Known → Site
 with_environment config e k = record { function = function_of config e; environment = k }
 
 -- one that the entry does not reach stays as it is,
-pub site_elsewhere : (config : Config) (h : List Entry) (entry : Entry) (e : ℕ) → IsLegal config h → Follows config h entry → reaches (reach h entry.place entry.call) e ≡ false
+pub site_elsewhere : (config : Config) (h : List Entry) (entry : Entry) (e : ℕ) → IsLegal config h
+    → Follows config h entry → reaches (reach h entry.place entry.call) e ≡ false
     → site config (entry ∷ h) e ≡ site config h e
 site_elsewhere config h entry e l w away =
     ap (λ s. with_environment config e (record { fixed = fixed_of config e; stand = s }))
     (stand_elsewhere IsTimely config h entry e l w (concerns_reach config h entry e w ∙ away))
 
 -- and one that it reaches takes its call
-pub site_reached : (config : Config) (h : List Entry) (entry : Entry) (e : ℕ) → IsLegal config h → Follows config h entry → reaches (reach h entry.place entry.call) e ≡ true
+pub site_reached : (config : Config) (h : List Entry) (entry : Entry) (e : ℕ) → IsLegal config h
+    → Follows config h entry → reaches (reach h entry.place entry.call) e ≡ true
     → site config (entry ∷ h) e ≡ moved (step_there config h entry e) entry.call (site config h e)
 site_reached config h entry e l w here =
     ap (with_environment config e) (sym (takes config h entry e (l, w) (concerns_reach config h entry e w ∙ here)))

@@ -10,7 +10,8 @@ count_length a (suc n) = ap suc (count_length (suc a) n)
 -- one number more
 next_number : {A : Type 0} (g : ℕ → A) (a n : ℕ) → map g (count_from a (suc n)) ≡ map g (count_from a n) ++ g (a + n) ∷ []
 next_number g a zero = let same : a ≡ a + 0 = omega arith in ap (λ k. g k ∷ []) same
-next_number g a (suc n) = let same : suc a + n ≡ a + suc n = omega arith in ap (λ xs. g a ∷ xs) (next_number g (suc a) n ∙ ap (λ k. map g (count_from (suc a) n) ++ g k ∷ []) same)
+next_number g a (suc n) =
+    let same : suc a + n ≡ a + suc n = omega arith in ap (λ xs. g a ∷ xs) (next_number g (suc a) n ∙ ap (λ k. map g (count_from (suc a) n) ++ g k ∷ []) same)
 
 pub count_more : {A : Type 0} (g : ℕ → A) (a n j : ℕ) → a + n ≡ j → map g (count_from a (n + 1)) ≡ map g (count_from a n) ++ g j ∷ []
 count_more g a n j is = ap (λ k. map g (count_from a k)) (plus n) ∙ next_number g a n ∙ ap (λ k. map g (count_from a n) ++ g k ∷ []) is
@@ -25,7 +26,8 @@ not_yet move (x ∷ xs) zero d lt = refl
 not_yet move (x ∷ xs) (suc n) d lt = not_yet move xs n d (omega arith)
 
 -- one more has taken it
-pub one_more : {A : Type 0} (move : A → A) (xs : List A) (n : ℕ) (d : A) → n < length xs → set (map move (take n xs) ++ drop n xs) n (move (get_or xs n d)) ≡ map move (take (suc n) xs) ++ drop (suc n) xs
+pub one_more : {A : Type 0} (move : A → A) (xs : List A) (n : ℕ) (d : A) → n < length xs
+    → set (map move (take n xs) ++ drop n xs) n (move (get_or xs n d)) ≡ map move (take (suc n) xs) ++ drop (suc n) xs
 one_more move [] n d lt = absurd (omega arith)
 one_more move (x ∷ xs) zero d lt = refl
 one_more move (x ∷ xs) (suc n) d lt = ap (λ ys. move x ∷ ys) (one_more move xs n d (omega arith))

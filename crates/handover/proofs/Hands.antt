@@ -1,5 +1,6 @@
 -- Who has had a request, and who answers it.
-use Rattle.std.proofs.Common.{◌≡◌, ℕ, ◌+◌, ◌==◌, ◌≤◌, Bool, true, false, cond, if◌then◌else◌, is_some, List, [], ◌∷◌, ◌++◌, map, Option, Some, None, refl, sym, ap, subst, arith}
+use Rattle.std.proofs.Common.{◌≡◌, ℕ, ◌+◌, ◌==◌, ◌≤◌, Bool, true, false, cond, if◌then◌else◌, is_some, List, [], ◌∷◌}
+use Rattle.std.proofs.Common.{◌++◌, map, Option, Some, None, refl, sym, ap, subst, arith}
 use Rattle.std.proofs.lemmas.List.{append-nil, append_assoc}
 use Rattle.std.proofs.lemmas.List.Elements.{All-nil, All-cons, All-head, All-tail, All-append, All-weaker, All-filter}
 use Rattle.std.proofs.lemmas.List.Elements.{Contains-append_left, Contains-push}
@@ -134,11 +135,13 @@ module _ (handed : List (ℕ × ℕ)) (c : Counter) (known : All (Contains hande
 
   given_up_by : (waiting : List (ℕ × Request)) → AllByTakers handed (first_given_up waiting)
   given_up_by [] = All-nil (λ (e : ℕ × End). IsByTaker handed e.0 e.1)
-  given_up_by (first ∷ others) = All-cons (λ (e : ℕ × End). IsByTaker handed e.0 e.1) (first.0, GivenUp) [] tt (All-nil (λ (e : ℕ × End). IsByTaker handed e.0 e.1))
+  given_up_by (first ∷ others) =
+      All-cons (λ (e : ℕ × End). IsByTaker handed e.0 e.1) (first.0, GivenUp) [] tt (All-nil (λ (e : ℕ × End). IsByTaker handed e.0 e.1))
 
   failed_by : (handler : ℕ) (ids : List ℕ) → AllByTakers handed (map (λ id. (id, Failed handler)) ids)
   failed_by handler [] = All-nil (λ (e : ℕ × End). IsByTaker handed e.0 e.1)
-  failed_by handler (id ∷ ids) = All-cons (λ (e : ℕ × End). IsByTaker handed e.0 e.1) (id, Failed handler) (map (λ id. (id, Failed handler)) ids) tt (failed_by handler ids)
+  failed_by handler (id ∷ ids) =
+      All-cons (λ (e : ℕ × End). IsByTaker handed e.0 e.1) (id, Failed handler) (map (λ id. (id, Failed handler)) ids) tt (failed_by handler ids)
 
   ends_by : (event : Event) → AllByTakers handed (ends c event)
   ends_by (Comes request) = All-nil (λ (e : ℕ × End). IsByTaker handed e.0 e.1)

@@ -10,7 +10,8 @@ use Rattle.handover.specs.declared.fault.NotTaken.{NotTaken}
 use Rattle.handover.specs.Counters.{Counter, bytes_of, refusal, with_request, others_of, first_for, taken_of, is_at_handler, answered}
 use Rattle.handover.specs.Stages.{stage, stage_by, denial}
 use Rattle.handover.specs.Runs.{Event, Comes, Asks, Answers, HandlerEnds, RequesterEnds, GivesUp}
-use Rattle.handover.specs.Runs.{End, Answered, Failed, Withdrawn, after, unless, answered_unless, ended_if, first_given_up, ends, times, times_here, times_given}
+use Rattle.handover.specs.Runs.{End, Answered, Failed, Withdrawn, after, unless, answered_unless, ended_if}
+use Rattle.handover.specs.Runs.{first_given_up, ends, times, times_here, times_given}
 use Rattle.handover.proofs.Counting.{times_one, times_cons, keys_append, given_more, times_removed, times_filtered, keys_of_ends}
 
 module _ (id : ℕ) (c : Counter) where

@@ -6,7 +6,8 @@ use Rattle.arn_ids.specs.declared.config.Config.{Config}
 use Rattle.arn_ids.specs.declared.config.Function.{Function}
 use Rattle.http_front.specs.Ports.{ports_of, environment_ports}
 
-ports_from : (f : ℕ) (functions : List Function) → length (flat_map (λ (function : Function). ports_of function.slots) functions) ≡ length (owners_from f functions)
+ports_from : (f : ℕ) (functions : List Function)
+    → length (flat_map (λ (function : Function). ports_of function.slots) functions) ≡ length (owners_from f functions)
 ports_from f [] = refl
 ports_from f (function ∷ functions) = simp (length-append, length-map) (omega (arith, ports_from (suc f) functions))
 

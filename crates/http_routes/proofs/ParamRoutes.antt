@@ -1,5 +1,6 @@
 -- The route of a path whose parameter stands between a front and a back that are written out.
-use Rattle.std.proofs.Common.{◌≡◌, ◌≢◌, ℕ, zero, suc, ◌+◌, ◌-◌, ◌<◌, List, [], ◌∷◌, ◌++◌, length, drop, get_or, codes, Some, None, true, false, cond, ◌==◌, ltb, refl, ap, arith}
+use Rattle.std.proofs.Common.{◌≡◌, ◌≢◌, ℕ, zero, suc, ◌+◌, ◌-◌, ◌<◌, List, [], ◌∷◌, ◌++◌, length, drop, get_or, codes}
+use Rattle.std.proofs.Common.{Some, None, true, false, cond, ◌==◌, ltb, refl, ap, arith}
 use Rattle.std.proofs.lemmas.Bool.Decides.{nat_tests}
 use Rattle.std.proofs.lemmas.List.{length-append}
 use Rattle.std.proofs.lemmas.List.Elements.{All-from_get_or}
@@ -106,7 +107,9 @@ module _ {R : Type 0} where
       let seg = segment_is (b ∷ xs) (codes "response") h in
       let cut = cuts_slash b xs in
       let long : length (xs ++ (47 ∷ [])) ≡ length xs + 1 = length-append xs (47 ∷ []) in
-      by_param ((codes "next", next) ∷ (256 ∷ codes "/error", error) ∷ (256 ∷ codes "/response", response) ∷ []) b (length xs) (xs ++ codes "/response") ((codes "/error", error) ∷ (codes "/response", response) ∷ []) response.value
+      by_param ((codes "next", next) ∷ (256 ∷ codes "/error", error) ∷ (256 ∷ codes "/response", response) ∷ []) b
+      (length xs) (xs ++ codes "/response")
+      ((codes "/error", error) ∷ (codes "/response", response) ∷ []) response.value
       (rw (other, e) (seek-nothing 0 (xs ++ codes "/response")))
       (rw (seg, cut) (omega (arith, long)))
       (rw (seg, cut) refl)

@@ -1,5 +1,6 @@
 -- The name of a configured function is plain: the text reads as itself, without a qualifier.
-use Rattle.std.proofs.Common.{◌≡◌, ℕ, suc, Bool, true, false, ◌==◌, nat_lt, List, [], ◌∷◌, length, get_or, bytes_eq, position, Option, Some, None, option_map, Ok, refl, ap, sym, ◌∙◌, arith}
+use Rattle.std.proofs.Common.{◌≡◌, ℕ, suc, Bool, true, false, ◌==◌, nat_lt, List, [], ◌∷◌, length, get_or, bytes_eq}
+use Rattle.std.proofs.Common.{position, Option, Some, None, option_map, Ok, refl, ap, sym, ◌∙◌, arith}
 use Rattle.std.specs.List.{list_all}
 use Rattle.std.specs.Option.{IfSome}
 use Rattle.std.proofs.lemmas.Bool.{eqb-true, le-ltb}

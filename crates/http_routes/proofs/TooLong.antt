@@ -19,7 +19,9 @@ use Rattle.http_routes.specs.Paths.{name_of, qualifier_of}
 use Rattle.http_routes.specs.Heads.{asks_for_account, extension_name}
 use Rattle.http_routes.specs.Names.{invoked, reserved}
 use Rattle.http_routes.specs.Identifiers.{request_of, extension_of}
-use Rattle.http_routes.specs.EnvironmentDecisions.{submitted, response, failure, register, ext_next, ext_report, has_error_type, on_environment_route, at_environment, environment_decision}
+use Rattle.http_routes.specs.EnvironmentDecisions.{submitted, response, failure, register, ext_next, ext_report}
+use Rattle.http_routes.specs.EnvironmentDecisions.{has_error_type, on_environment_route, at_environment}
+use Rattle.http_routes.specs.EnvironmentDecisions.{environment_decision}
 use Rattle.http_routes.specs.AccountDecisions.{about, invoke, set_reservation, at_account, account_decision}
 use Rattle.http_routes.specs.Decisions.{Served, decision_on, decision}
 use Rattle.http_routes.specs.declared.names.Target.{Target}
@@ -77,7 +79,8 @@ module _ (a b : List ℕ) (la : longest_body < length a) (lb : longest_body < le
   report_alike true x y (Some ext) = both (x ext) (y ext)
   report_alike false x y (Some ext) = refl
 
-  route_alike : (config : Config) (salt e : ℕ) (p : Parts) (route : EnvironmentRoute) → on_environment_route config salt e p a route ≡ on_environment_route config salt e p b route
+  route_alike : (config : Config) (salt e : ℕ) (p : Parts) (route : EnvironmentRoute)
+      → on_environment_route config salt e p a route ≡ on_environment_route config salt e p b route
   unfolding on_environment_route
   route_alike config salt e p environment.Next = both _ _
   route_alike config salt e p environment.Response = response_alike e (request_of salt (function_of config e) p)
@@ -88,7 +91,8 @@ module _ (a b : List ℕ) (la : longest_body < length a) (lb : longest_body < le
   route_alike config salt e p environment.ExtInitFailure = report_alike (has_error_type p) _ _ (extension_of salt e p)
   route_alike config salt e p environment.ExtExitFailure = report_alike (has_error_type p) _ _ (extension_of salt e p)
 
-  at_environment_alike : (config : Config) (salt e : ℕ) (p : Parts) (route : Option EnvironmentRoute) → at_environment config salt e p a route ≡ at_environment config salt e p b route
+  at_environment_alike : (config : Config) (salt e : ℕ) (p : Parts) (route : Option EnvironmentRoute)
+      → at_environment config salt e p a route ≡ at_environment config salt e p b route
   at_environment_alike config salt e p None = refl
   at_environment_alike config salt e p (Some route) = rw (route_alike config salt e p route) refl
 
@@ -110,7 +114,8 @@ module _ (a b : List ℕ) (la : longest_body < length a) (lb : longest_body < le
   at_account_alike config p (Some account.Invoke) =
       rw (about_alike (invoked config (name_of p) (qualifier_of p)) (invoke p a) (invoke p b) (invoke_alike p)) refl
   at_account_alike config p (Some account.Concurrency) =
-      rw (about_alike (reserved config (name_of p)) (set_reservation (bytes_eq p.method put) a) (set_reservation (bytes_eq p.method put) b) (set_alike (bytes_eq p.method put))) refl
+      rw
+      (about_alike (reserved config (name_of p)) (set_reservation (bytes_eq p.method put) a) (set_reservation (bytes_eq p.method put) b) (set_alike (bytes_eq p.method put))) refl
   at_account_alike config p (Some route) = refl
 
   on_alike : (config : Config) (salt : ℕ) (port : Port) (p : Parts) → decision_on config salt port p a ≡ decision_on config salt port p b

@@ -1,5 +1,7 @@
 -- What a request's parts say is within the limits of the configuration.
-use Rattle.std.proofs.Common.{◌≡◌, ℕ, suc, ◌+◌, ◌-◌, ◌*◌, ◌/◌, ◌%◌, ◌^◌, ◌<◌, ◌≤◌, Bool, true, false, ◌&&◌, ◌||◌, cond, nat_le, nat_lt, ◌==◌, List, [], ◌∷◌, length, codes, bytes_eq, position, Option, Some, None, Result, Ok, Err, option_map, option_and_then, refl, arith}
+use Rattle.std.proofs.Common.{◌≡◌, ℕ, suc, ◌+◌, ◌-◌, ◌*◌, ◌/◌, ◌%◌, ◌^◌, ◌<◌, ◌≤◌, Bool, true, false, ◌&&◌, ◌||◌, cond}
+use Rattle.std.proofs.Common.{nat_le, nat_lt, ◌==◌, List, [], ◌∷◌, length, codes, bytes_eq, position, Option, Some}
+use Rattle.std.proofs.Common.{None, Result, Ok, Err, option_map, option_and_then, refl, arith}
 use Rattle.std.specs.Option.{IfSome, is_some}
 use Rattle.std.specs.Result.{IfOk}
 use Rattle.std.specs.Int.{w128, from_be_bytes}
@@ -55,7 +57,8 @@ anything None = nothing
 anything (Some a) = gives a tt
 
 -- one step after the other
-and_then : {A B : Type 0} {Q : B → Type 0} (P : A → Type 0) (o : Option A) (f : A → Option B) → Gives o P → ((a : A) → P a → Gives (f a) Q) → Gives (option_and_then f o) Q
+and_then : {A B : Type 0} {Q : B → Type 0} (P : A → Type 0) (o : Option A) (f : A → Option B) → Gives o P
+    → ((a : A) → P a → Gives (f a) Q) → Gives (option_and_then f o) Q
 and_then P None f h step = nothing
 and_then P (Some a) f h step = step a h.holds
 
@@ -81,7 +84,9 @@ digits_within : (most n : ℕ) (ds : List ℕ) → n ≤ most → Gives (digits_
 digits_within most n [] small = gives n small
 digits_within most n (b ∷ bs) small = go (is_digit b && nat_le (10 * n + (b - 48)) most) refl (digits_within most (10 * n + (b - 48)) bs)
   where
-    go : (t : Bool) → (is_digit b && nat_le (10 * n + (b - 48)) most) ≡ t → (10 * n + (b - 48) ≤ most → Gives (digits_in most (10 * n + (b - 48)) bs) (λ m. m ≤ most)) → Gives (cond t (digits_in most (10 * n + (b - 48)) bs) None) (λ m. m ≤ most)
+    go : (t : Bool) → (is_digit b && nat_le (10 * n + (b - 48)) most) ≡ t
+        → (10 * n + (b - 48) ≤ most → Gives (digits_in most (10 * n + (b - 48)) bs) (λ m. m ≤ most))
+        → Gives (cond t (digits_in most (10 * n + (b - 48)) bs) None) (λ m. m ≤ most)
     go true e later = later (leb-true (10 * n + (b - 48)) most (both (is_digit b) (nat_le (10 * n + (b - 48)) most) e).1)
     go false e later = nothing
 
@@ -96,7 +101,8 @@ env_within config field =
     (λ e small. where_true (nat_le 1 e) e (λ t. (leb-true 1 e t, small)))
 
 pub environment_within : (config : Config) (p : Parts) → Gives (environment_of config p) (IsEnv config)
-environment_within config p = and_then Anything (path_part 3 (uri_path p.uri)) (env_in config) (anything (path_part 3 (uri_path p.uri))) (λ field _. env_within config field)
+environment_within config p =
+    and_then Anything (path_part 3 (uri_path p.uri)) (env_in config) (anything (path_part 3 (uri_path p.uri))) (λ field _. env_within config field)
 
 named_within : (config : Config) (name : List ℕ) → Gives (number_named config name) (IsFunction config)
 named_within config name =
@@ -158,7 +164,8 @@ counted high low = either (high / 2 ^ 12 % 16 == 8) (option_map _ (kind_of (low 
 
 identifier_counted : (text : List ℕ) → Gives (identifier_in text) (λ id. IsCount id.count)
 unfolding identifier_in parts_of
-identifier_counted text = and_then Anything (parsed text) parts_of (anything (parsed text)) (λ id _. counted (from_be_bytes w128 id / 2 ^ 64) (from_be_bytes w128 id % 2 ^ 64))
+identifier_counted text =
+    and_then Anything (parsed text) parts_of (anything (parsed text)) (λ id _. counted (from_be_bytes w128 id / 2 ^ 64) (from_be_bytes w128 id % 2 ^ 64))
 
 count_within : (salt number : ℕ) (id : IdParts) → IsCount id.count → Gives (count_of salt number id) IsCount
 count_within salt number id h = either (id.salt_word == high_word salt && id.number == number) (Some id.count) None (gives id.count h) nothing
@@ -176,12 +183,15 @@ of_extension_within Event count h = nothing
 pub request_within : (salt function : ℕ) (p : Parts) → Gives (request_of salt function p) IsCount
 request_within salt function p =
     and_then Anything (path_part 4 (uri_path p.uri)) (request_count salt function) (anything (path_part 4 (uri_path p.uri))) (λ text _.
-    and_then (λ id. IsCount id.count) (identifier_in text) _ (identifier_counted text) (λ id h. of_request_within id.kind (count_of salt function id) (count_within salt function id h)))
+    and_then (λ id. IsCount id.count) (identifier_in text) _ (identifier_counted text)
+    (λ id h. of_request_within id.kind (count_of salt function id) (count_within salt function id h)))
 
 pub extension_within : (salt env : ℕ) (p : Parts) → Gives (extension_of salt env p) IsCount
 extension_within salt env p =
-    and_then Anything (header_text (codes "lambda-extension-identifier") p) (extension_count salt env) (anything (header_text (codes "lambda-extension-identifier") p)) (λ text _.
-    and_then (λ id. IsCount id.count) (identifier_in text) _ (identifier_counted text) (λ id h. of_extension_within id.kind (count_of salt env id) (count_within salt env id h)))
+    and_then Anything (header_text (codes "lambda-extension-identifier") p) (extension_count salt env)
+    (anything (header_text (codes "lambda-extension-identifier") p)) (λ text _.
+    and_then (λ id. IsCount id.count) (identifier_in text) _ (identifier_counted text)
+    (λ id h. of_extension_within id.kind (count_of salt env id) (count_within salt env id h)))
 
 -- texts of headers
 
@@ -218,7 +228,8 @@ payload_short : (bytes : List ℕ) → is_body bytes ≡ true → Reads (payload
 payload_short [] h = reads (codes "{}") refl
 payload_short (b ∷ bytes) h = then_reads (json_in (b ∷ bytes)) (λ _. Ok (b ∷ bytes)) (λ d. reads (b ∷ bytes) h)
 
-limited : {A : Type 0} {Q : A → Type 0} (bytes : List ℕ) (r : Result A WireFault) → (is_body bytes ≡ true → Reads r Q) → Reads (cond (nat_lt longest_body (length bytes)) (Err wire.TooLong) r) Q
+limited : {A : Type 0} {Q : A → Type 0} (bytes : List ℕ) (r : Result A WireFault) → (is_body bytes ≡ true → Reads r Q)
+    → Reads (cond (nat_lt longest_body (length bytes)) (Err wire.TooLong) r) Q
 limited {A = A} {Q = Q} bytes r h = go (nat_lt longest_body (length bytes)) refl
   where
     go : (b : Bool) → nat_lt longest_body (length bytes) ≡ b → Reads (cond b (Err wire.TooLong) r) Q

@@ -1,5 +1,6 @@
 -- What is written is read again.
-use Rattle.std.proofs.Common.{◌≡◌, ℕ, ◌<◌, ◌≤◌, ◌^◌, List, [], ◌∷◌, map, Option, Some, None, Result, Ok, Err, Vec, Global, IfOk, IsUtf8, All, refl, subst, arith, length, codes}
+use Rattle.std.proofs.Common.{◌≡◌, ℕ, ◌<◌, ◌≤◌, ◌^◌, List, [], ◌∷◌, map, Option, Some, None, Result, Ok, Err, Vec}
+use Rattle.std.proofs.Common.{Global, IfOk, IsUtf8, All, refl, subst, arith, length, codes}
 use Rattle.std.proofs.lemmas.List.Elements.{All-head, All-tail}
 use Rattle.serde_json.specs.Data.{Data, string, depth, items_depth, members_depth, no_members, member}
 use Rattle.serde_json.specs.Read.{read, max_depth}
@@ -39,10 +40,12 @@ functions_again : (fs : List Function) → All IsFunctionInRange fs → each fun
 functions_again [] h = refl
 functions_again (f ∷ fs) h = rw (function_again f (All-head IsFunctionInRange f fs h), functions_again fs (All-tail IsFunctionInRange f fs h)) refl
 
-pub setup_again : (config : Config) (salt max_entries : ℕ) → IsConfigInRange config → setup_of (setup_data config salt max_entries) ≡ Ok (record { config = config; salt = salt; max_entries = max_entries })
+pub setup_again : (config : Config) (salt max_entries : ℕ) → IsConfigInRange config
+    → setup_of (setup_data config salt max_entries) ≡ Ok (record { config = config; salt = salt; max_entries = max_entries })
 unfolding home_of config_of setup_of
 setup_again config salt max_entries h =
-    rw (functions_again config.functions h.3, below_again (2 ^ 32) config.account_limit h.0, below_again (2 ^ 32) config.least_remainder h.1, below_again (2 ^ 16) config.invoke_port h.2) refl
+    rw
+    (functions_again config.functions h.3, below_again (2 ^ 32) config.account_limit h.0, below_again (2 ^ 32) config.least_remainder h.1, below_again (2 ^ 16) config.invoke_port h.2) refl
 
 slots_flat : (ss : List Slot) → items_depth (items_of (map slot_data ss)) ≡ 0
 slots_flat [] = refl

@@ -24,7 +24,8 @@ pub throttle_written : (reason : List ℕ) → compact_text (throttle_data reaso
 unfolding throttle_text serde_json_on_literals
 throttle_written reason = search rules
 
-pub registered_written : (account : Option (List ℕ)) (function handler : List ℕ) → compact_text (registered_data account function handler) ≡ registered_text account function handler
+pub registered_written : (account : Option (List ℕ)) (function handler : List ℕ)
+    → compact_text (registered_data account function handler) ≡ registered_text account function handler
 unfolding registered_text serde_json_on_literals
 registered_written None function handler = search (rules, append_assoc)
 registered_written (Some account) function handler = search (rules, append_assoc)
@@ -47,11 +48,13 @@ nine_parts : (a b c d e f g h i : List ℕ) → a ++ b ++ c ++ d ++ e ++ f ++ g 
 nine_parts a b c d e f g h i = simp append_assoc
 
 -- the text of a trace, and what stands behind it
-tracing_written : (trace rest : List ℕ) → compact_text (tracing_data trace) ++ rest ≡ codes "{\"type\":\"X-Amzn-Trace-Id\",\"value\":" ++ (quoted trace ++ 125 ∷ rest)
+tracing_written : (trace rest : List ℕ)
+    → compact_text (tracing_data trace) ++ rest ≡ codes "{\"type\":\"X-Amzn-Trace-Id\",\"value\":" ++ (quoted trace ++ 125 ∷ rest)
 unfolding serde_json_on_literals
 tracing_written trace rest = search (rules, append_assoc)
 
-pub invoke_event_written : (deadline : ℕ) (arn request trace : List ℕ) → compact_text (invoke_event_data deadline arn request trace) ≡ invoke_event_text deadline arn request trace
+pub invoke_event_written : (deadline : ℕ) (arn request trace : List ℕ)
+    → compact_text (invoke_event_data deadline arn request trace) ≡ invoke_event_text deadline arn request trace
 unfolding invoke_event_text serde_json_on_literals
 invoke_event_written deadline arn request trace = rw (tracing_written trace (125 ∷ []))
     (sym (nine_parts (codes "{\"deadlineMs\":") (decimal deadline) (codes ",\"eventType\":\"INVOKE\",\"invokedFunctionArn\":") (quoted arn)

@@ -1,5 +1,6 @@
 -- A text is read as a value exactly where it is one value of the grammar and its numbers are all in range.
-use Rattle.std.proofs.Common.{◌≡◌, ℕ, Bool, true, false, ◌&&◌, List, [], ◌∷◌, ◌++◌, Option, Some, None, Err, IsUtf8, option_map, option_and_then, refl, sym, ap, ◌∙◌, append_assoc}
+use Rattle.std.proofs.Common.{◌≡◌, ℕ, Bool, true, false, ◌&&◌, List, [], ◌∷◌, ◌++◌, Option, Some, None, Err, IsUtf8}
+use Rattle.std.proofs.Common.{option_map, option_and_then, refl, sym, ap, ◌∙◌, append_assoc}
 use Rattle.std.specs.Prelude.{is_some, IsOk}
 use Rattle.json.specs.Token.{Token}
 use Rattle.json.specs.Lex.{tokens}
@@ -17,7 +18,8 @@ mapped : {A B : Type 0} (f : A → B) (o : Option A) → is_some (option_map f o
 mapped f None = refl
 mapped f (Some a) = refl
 
-chained : {A B : Type 0} (o : Option A) (f : A → Option B) (x r : Bool) → ((a : A) → x ≡ (is_some (f a) && r)) → (is_some o && x) ≡ (is_some (option_and_then f o) && r)
+chained : {A B : Type 0} (o : Option A) (f : A → Option B) (x r : Bool) → ((a : A) → x ≡ (is_some (f a) && r))
+    → (is_some o && x) ≡ (is_some (option_and_then f o) && r)
 chained None f x r h = refl
 chained (Some a) f x r h = h a
 
@@ -38,9 +40,11 @@ mutual
   items_ranged json.no_items rest = refl
   items_ranged (json.item j js) rest =
       ap all_in_range (append_assoc (json_tokens j) (items_tokens js) rest) ∙ json_ranged j (items_tokens js ++ rest)
-      ∙ chained (of_json j) (λ d. option_map _ (of_items js)) _ (all_in_range rest) (λ d. items_ranged js rest ∙ ap (λ b. b && all_in_range rest) (sym (mapped _ (of_items js))))
+      ∙ chained (of_json j) (λ d. option_map _ (of_items js)) _ (all_in_range rest)
+      (λ d. items_ranged js rest ∙ ap (λ b. b && all_in_range rest) (sym (mapped _ (of_items js))))
 
-  members_ranged : (ms : json.Members) (found : Members) (rest : List Token) → all_in_range (members_tokens ms ++ rest) ≡ (is_some (of_members ms found) && all_in_range rest)
+  members_ranged : (ms : json.Members) (found : Members) (rest : List Token)
+      → all_in_range (members_tokens ms ++ rest) ≡ (is_some (of_members ms found) && all_in_range rest)
   members_ranged json.no_members found rest = refl
   members_ranged (json.member k j ms) found rest =
       ap all_in_range (append_assoc (json_tokens j) (members_tokens ms) rest) ∙ json_ranged j (members_tokens ms ++ rest)

@@ -8,7 +8,8 @@ use Rattle.serde_json.specs.View.{members_view}
 use Rattle.serde_json.specs.declared.value.Value.{Value}
 use Rattle.lambda_wire.specs.Reading.{has_only, has_only_members}
 
-pub has_only_keys : (p : List ℕ → Bool) (es : List (String Global × Value)) → has_only_members p (members_view es) ≡ list_all (λ (k : String Global). p (string_bytes k)) (keys_of es)
+pub has_only_keys : (p : List ℕ → Bool) (es : List (String Global × Value))
+    → has_only_members p (members_view es) ≡ list_all (λ (k : String Global). p (string_bytes k)) (keys_of es)
 has_only_keys p [] = refl
 has_only_keys p (e ∷ es) = ap (λ (b : Bool). p (string_bytes e.0) && b) (has_only_keys p es)
 

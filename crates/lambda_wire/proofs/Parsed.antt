@@ -12,7 +12,8 @@ pub json_ok : (bytes : List ℕ) (d : Data) → IsUtf8 bytes → read bytes ≡ 
 unfolding json_in
 json_ok bytes d text found = rw (is_utf8-from_IsUtf8 bytes text, found) refl
 
-none_there : (bytes : List ℕ) (b : Bool) → is_utf8 bytes ≡ b → (IsUtf8 bytes → read bytes ≡ None) → (if b then json_or (read bytes) else Err NotJson) ≡ Err NotJson
+none_there : (bytes : List ℕ) (b : Bool) → is_utf8 bytes ≡ b → (IsUtf8 bytes → read bytes ≡ None)
+    → (if b then json_or (read bytes) else Err NotJson) ≡ Err NotJson
 none_there bytes true e none = rw (none (IsUtf8-from_is_utf8 bytes e)) refl
 none_there bytes false e none = refl
 

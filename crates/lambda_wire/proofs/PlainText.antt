@@ -1,5 +1,6 @@
 -- Compact JSON has no control byte.
-use Rattle.std.proofs.Common.{◌≡◌, ℕ, zero, suc, ◌/◌, ◌%◌, ◌+◌, ◌≤◌, ◌<◌, Bool, true, false, ◌==◌, nat_le, nat_lt, pos, negsuc, List, [], ◌∷◌, ◌++◌, decimal, refl, ◌∙◌, arith, if◌then◌else◌}
+use Rattle.std.proofs.Common.{◌≡◌, ℕ, zero, suc, ◌/◌, ◌%◌, ◌+◌, ◌≤◌, ◌<◌, Bool, true, false, ◌==◌, nat_le, nat_lt, pos}
+use Rattle.std.proofs.Common.{negsuc, List, [], ◌∷◌, ◌++◌, decimal, refl, ◌∙◌, arith, if◌then◌else◌}
 use Rattle.std.specs.List.{list_all}
 use Rattle.std.specs.Fmt.{digits, digits_onto, digit_glyph}
 use Rattle.std.proofs.lemmas.Bool.{le-leb, agree_below, agree_below_at}
@@ -7,7 +8,8 @@ use Rattle.std.proofs.lemmas.Bool.Decides.{nat_tests}
 use Rattle.std.proofs.lemmas.List.Folds.{list_all-append}
 use Rattle.json.specs.Print.{escape_byte, escape, quoted}
 use Rattle.json.proofs.Printed.Strings.{escape_byte_plain}
-use Rattle.serde_json.specs.Data.{Num, unsigned, negative, float, Data, null, boolean, number, string, array, object, Items, no_items, item, Members, no_members, member}
+use Rattle.serde_json.specs.Data.{Num, unsigned, negative, float, Data, null, boolean, number, string, array, object}
+use Rattle.serde_json.specs.Data.{Items, no_items, item, Members, no_members, member}
 use Rattle.serde_json.specs.Written.{number_text, comma_if, compact_text, items_text, members_text}
 use Rattle.arn_ids.specs.declared.config.Config.{Config}
 use Rattle.lambda_wire.specs.ConfigurationText.{setup_data, setup_text}
@@ -57,7 +59,8 @@ byte_plain x = go (nat_lt x 128) refl
   where
     go : (b : Bool) → nat_lt x 128 ≡ b → is_plain (escape_byte x) ≡ true
     go true e = let within : x < 128 = grind (arith, nat_tests) in agree_below_at (λ y. is_plain (escape_byte y)) (λ y. true) 128 x below_128 within
-    go false e = let far : 128 ≤ x = grind (arith, nat_tests) in rw (escape_byte_plain x (λ q. omega (arith, q, far)) (λ q. omega (arith, q, far)) (omega (arith, far)), le-leb 32 x (omega (arith, far))) refl
+    go false e =
+        let far : 128 ≤ x = grind (arith, nat_tests) in rw (escape_byte_plain x (λ q. omega (arith, q, far)) (λ q. omega (arith, q, far)) (omega (arith, far)), le-leb 32 x (omega (arith, far))) refl
 
 escape_plain : (s : List ℕ) → is_plain (escape s) ≡ true
 escape_plain [] = refl
@@ -82,7 +85,9 @@ mutual
 
   items_plain : (later : Bool) (ds : Items) → is_plain (items_text later ds) ≡ true
   items_plain later no_items = refl
-  items_plain later (item d ds) = plain_append (comma_if later) (compact_text d ++ items_text true ds) (comma_plain later) (plain_append (compact_text d) (items_text true ds) (value_plain d) (items_plain true ds))
+  items_plain later (item d ds) =
+      plain_append (comma_if later) (compact_text d ++ items_text true ds) (comma_plain later)
+      (plain_append (compact_text d) (items_text true ds) (value_plain d) (items_plain true ds))
 
   members_plain : (later : Bool) (ms : Members) → is_plain (members_text later ms) ≡ true
   members_plain later no_members = refl

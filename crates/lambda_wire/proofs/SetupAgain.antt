@@ -1,5 +1,7 @@
 -- The text of a configuration without a fault is read as that configuration.
-use Rattle.std.proofs.Common.{◌≡◌, ℕ, suc, ◌+◌, ◌*◌, ◌^◌, ◌<◌, ◌≤◌, Bool, true, false, not, ◌&&◌, ◌==◌, nat_le, nat_lt, List, [], ◌∷◌, length, map, codes, Option, Some, None, Ok, All, refl, ap, ◌∙◌, arith, length-append}
+use Rattle.std.proofs.Common.{◌≡◌, ℕ, suc, ◌+◌, ◌*◌, ◌^◌, ◌<◌, ◌≤◌, Bool, true, false, not, ◌&&◌, ◌==◌, nat_le, nat_lt}
+use Rattle.std.proofs.Common.{List, [], ◌∷◌, length, map, codes, Option, Some, None, Ok, All, refl, ap, ◌∙◌, arith}
+use Rattle.std.proofs.Common.{length-append}
 use Rattle.std.proofs.lemmas.List.{length-map}
 use Rattle.std.specs.List.{list_all, list_any}
 use Rattle.std.proofs.lemmas.Bool.{leb-true, ltb-false, eqb-true, or_parts}
@@ -21,7 +23,9 @@ use Rattle.lambda_wire.specs.ConfigurationText.{slot_data, number_data, list_dat
 use Rattle.lambda_wire.specs.Ranges.{IsSlotInRange, IsReservedInRange, IsFunctionInRange, IsConfigInRange}
 use Rattle.lambda_wire.proofs.Again.{setup_again, setup_flat, short_again}
 use Rattle.lambda_wire.proofs.Parsed.{json_ok}
-use Rattle.lambda_wire.proofs.TextAgain.{Fits, both, fits_weaker, fits_word, IsCarried, carried_number, carried_string, carried_list, carried_object, total, HasMembers, no_more, with_member, read_again, utf8_again}
+use Rattle.lambda_wire.proofs.TextAgain.{Fits, both, fits_weaker, fits_word, IsCarried, carried_number, carried_string}
+use Rattle.lambda_wire.proofs.TextAgain.{carried_list, carried_object, total, HasMembers, no_more, with_member}
+use Rattle.lambda_wire.proofs.TextAgain.{read_again, utf8_again}
 
 -- the texts of a function are ASCII and not long, and so are its lists
 pub record IsModest (f : Function) : Type 0 where
@@ -68,7 +72,9 @@ functions_total (x ∷ xs) = omega (arith, functions_total xs)
 
 strings_carried : (xs : List (List ℕ)) → All (λ e. Fits 128 e) xs → All (λ e. IsCarried 770 (string e)) xs
 strings_carried [] all = All-nil (λ e. IsCarried 770 (string e))
-strings_carried (x ∷ xs) all = All-cons (λ e. IsCarried 770 (string e)) x xs (carried_string 128 x (All-head (λ e. Fits 128 e) x xs all)) (strings_carried xs (All-tail (λ e. Fits 128 e) x xs all))
+strings_carried (x ∷ xs) all =
+    All-cons (λ e. IsCarried 770 (string e)) x xs (carried_string 128 x (All-head (λ e. Fits 128 e) x xs all))
+    (strings_carried xs (All-tail (λ e. Fits 128 e) x xs all))
 
 slots_carried : (xs : List Slot) → All IsSlotInRange xs → All (λ s. IsCarried 20 (slot_data s)) xs
 slots_carried [] all = All-nil (λ s. IsCarried 20 (slot_data s))
@@ -78,17 +84,21 @@ slots_carried (x ∷ xs) all =
 
 with_reserved_carried : (o : Option ℕ) (n : ℕ) (ms : Members) → IsReservedInRange o → HasMembers n ms → HasMembers (22 + (20 + n)) (with_reserved o ms)
 unfolding escape_byte
-with_reserved_carried None n ms h c = record { numbers = c.numbers; blanks = c.blanks; deep = c.deep; fits = λ later. fits_weaker n (22 + (20 + n)) _ (omega arith) (c.fits later) }
+with_reserved_carried None n ms h c =
+    record { numbers = c.numbers; blanks = c.blanks; deep = c.deep; fits = λ later. fits_weaker n (22 + (20 + n)) _ (omega arith) (c.fits later) }
 with_reserved_carried (Some r) n ms h c = with_member 20 n (codes "reserved") (number_data r) ms (fits_word 20 _ refl) (carried_number r (omega (arith, h))) c
 
 carried_weaker : (m n : ℕ) (d : Data) → m ≤ n → IsCarried m d → IsCarried n d
 carried_weaker m n d le c = record { reads = c.reads; numbers = c.numbers; blanks = c.blanks; deep = c.deep; fits = fits_weaker m n _ le c.fits }
 
 -- the members of a function, behind its lists and texts
-function_reads : (f : Function) (o : Option ℕ) → f.reserved ≡ o → IsReservedInRange o → IsCarried 7712 (list_data (map string f.extensions)) → IsCarried 5378 (list_data (map slot_data f.slots)) → IsCarried 20 (number_data f.timeout_s)
+function_reads : (f : Function) (o : Option ℕ) → f.reserved ≡ o → IsReservedInRange o
+    → IsCarried 7712 (list_data (map string f.extensions)) → IsCarried 5378 (list_data (map slot_data f.slots))
+    → IsCarried 20 (number_data f.timeout_s)
     → of_members (members_outline (function_members f)) no_members ≡ Some (function_members f)
 function_reads f None e h ext ports timeout = rw (e, ext.reads, ports.reads, timeout.reads) refl
-function_reads f (Some r) e h ext ports timeout = let count = carried_number r (omega (arith, h)) in rw (e, ext.reads, ports.reads, count.reads, timeout.reads) refl
+function_reads f (Some r) e h ext ports timeout =
+    let count = carried_number r (omega (arith, h)) in rw (e, ext.reads, ports.reads, count.reads, timeout.reads) refl
 
 function_carried : (f : Function) → IsModest f → IsCarried 20000 (function_data f)
 unfolding escape_byte
@@ -102,11 +112,13 @@ function_carried f m =
     (with_member 770 _ (codes "handler") (string f.handler) _ (fits_word 20 _ refl) (carried_string 128 f.handler m.handler)
     (with_member 770 _ (codes "name") (string f.name) _ (fits_word 20 _ refl) (carried_string 128 f.name m.name)
     (with_member 5378 _ (codes "ports") _ _ (fits_word 20 _ refl) ports behind))) in
-    carried_weaker _ 20000 (function_data f) (omega arith) (carried_object _ (function_members f) (function_reads f f.reserved refl m.in_range.1 ext ports timeout) all)
+    carried_weaker _ 20000 (function_data f) (omega arith)
+    (carried_object _ (function_members f) (function_reads f f.reserved refl m.in_range.1 ext ports timeout) all)
 
 functions_carried : (fs : List Function) → All IsModest fs → All (λ f. IsCarried 20000 (function_data f)) fs
 functions_carried [] all = All-nil (λ f. IsCarried 20000 (function_data f))
-functions_carried (f ∷ fs) all = All-cons (λ g. IsCarried 20000 (function_data g)) f fs (function_carried f (All-head IsModest f fs all)) (functions_carried fs (All-tail IsModest f fs all))
+functions_carried (f ∷ fs) all =
+    All-cons (λ g. IsCarried 20000 (function_data g)) f fs (function_carried f (All-head IsModest f fs all)) (functions_carried fs (All-tail IsModest f fs all))
 
 -- ---- what a configuration without a fault has
 
@@ -167,8 +179,10 @@ labels_fit (x ∷ xs) h =
     let p = or_parts (not (is_label x)) (list_any (λ name. not (is_label name)) xs) h in
     All-cons (λ e. Fits 128 e) x xs (word_fits is_printable printable_low 128 x (is_true (is_label x) p.0)) (labels_fit xs p.1)
 
-modest : (k : ℕ) (fs : List Function) → list_any (λ f. not (is_name f.name)) fs ≡ false → list_any (λ f. not (is_label f.handler)) fs ≡ false → list_any (λ f. nat_lt 10 (length f.extensions)) fs ≡ false
-    → list_any (λ f. list_any (λ name. not (is_label name)) f.extensions) fs ≡ false → length (owners_from k fs) ≤ 256 → All IsFunctionInRange fs → All IsModest fs
+modest : (k : ℕ) (fs : List Function) → list_any (λ f. not (is_name f.name)) fs ≡ false
+    → list_any (λ f. not (is_label f.handler)) fs ≡ false → list_any (λ f. nat_lt 10 (length f.extensions)) fs ≡ false
+    → list_any (λ f. list_any (λ name. not (is_label name)) f.extensions) fs ≡ false → length (owners_from k fs) ≤ 256
+    → All IsFunctionInRange fs → All IsModest fs
 modest k [] names handlers few labels owned in_range = All-nil IsModest
 modest k (f ∷ fs) names handlers few labels owned in_range =
     let name = or_parts (not (is_name f.name)) (list_any (λ g. not (is_name g.name)) fs) names in
@@ -176,7 +190,8 @@ modest k (f ∷ fs) names handlers few labels owned in_range =
     let count = or_parts (nat_lt 10 (length f.extensions)) (list_any (λ g. nat_lt 10 (length g.extensions)) fs) few in
     let label = or_parts (list_any (λ e. not (is_label e)) f.extensions) (list_any (λ g. list_any (λ e. not (is_label e)) g.extensions) fs) labels in
     let slots : length (owners_from k (f ∷ fs)) ≡ length f.slots + length (owners_from (suc k) fs) =
-    length-append (map (λ s. (k, f)) f.slots) (owners_from (suc k) fs) ∙ ap (λ (n : ℕ). n + length (owners_from (suc k) fs)) (length-map f.slots (λ s. (k, f))) in
+    length-append (map (λ s. (k, f)) f.slots) (owners_from (suc k) fs)
+    ∙ ap (λ (n : ℕ). n + length (owners_from (suc k) fs)) (length-map f.slots (λ s. (k, f))) in
     All-cons IsModest f fs (record {
       name = fits_weaker 64 128 f.name (omega arith) (word_fits is_name_byte name_low 64 f.name (is_true (is_name f.name) name.0));
       handler = word_fits is_printable printable_low 128 f.handler (is_true (is_label f.handler) handler.0);
@@ -196,12 +211,14 @@ account_fits text h =
     each [] k = refl
     each (b ∷ t) k = let q = both (is_digit b) (list_all is_digit t) k in rw (digit_low b q.0) (each t q.1)
 
-setup_carried : (config : Config) (salt max_entries : ℕ) → first_fault config ≡ None → IsConfigInRange config → salt < 2 ^ 64 → max_entries < 2 ^ 64 → IsCarried 20000000 (setup_data config salt max_entries)
+setup_carried : (config : Config) (salt max_entries : ℕ) → first_fault config ≡ None → IsConfigInRange config
+    → salt < 2 ^ 64 → max_entries < 2 ^ 64 → IsCarried 20000000 (setup_data config salt max_entries)
 unfolding has_bad_name has_bad_handler has_too_many_extensions has_bad_extension escape_byte
 setup_carried config salt max_entries none in_range small few =
     let s = sound config none in
     let functions : IsCarried 1280066 (list_data (map function_data config.functions)) =
-    carried_list 20000 1280065 function_data config.functions (functions_carried config.functions (modest 1 config.functions s.names s.handlers s.extensions s.extension_names (environments_256 config none) in_range.3))
+    carried_list 20000 1280065 function_data config.functions
+    (functions_carried config.functions (modest 1 config.functions s.names s.handlers s.extensions s.extension_names (environments_256 config none) in_range.3))
     (omega (arith, functions_total config.functions, functions_64 config none)) in
     let account = carried_string 12 config.home.account (account_fits config.home.account (account_is config none)) in
     let region = carried_string 32 config.home.region (word_fits is_region_byte region_low 32 config.home.region (region_is config none)) in

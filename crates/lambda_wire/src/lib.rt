@@ -1,21 +1,34 @@
 //! The bodies and headers of this service: their readers and writers.
+//!
+//! The groups of modules stand in the order in which to read them.
 #![tactic(auto)]
 
-mod body_writer;
+// A configuration as JSON: the contents of one, its reader, its writer, which is the reader's inverse, and why bytes
+// could not be read.
 mod config_reader;
 mod config_writer;
 mod fault;
+mod setup;
+
+// The bodies of requests: the other readers, and the members of an object, each of its type, from which all of them are
+// made.
+mod members;
+mod request_reader;
+
+// A payload is tested, not read: it is JSON or it is not. The memory of the test is kept from one payload to the next,
+// and that of long ones is shared.
+mod json_check;
+mod long_scratches;
+mod payload_scratch;
+
+// Replies: their bodies, which are objects written member by member; their headers, whose names are one of few sets;
+// and the whole of status, headers and body.
+mod body_writer;
 mod header_map;
 mod header_set;
 mod header_writer;
-mod json_check;
-mod long_scratches;
-mod members;
 mod object_writer;
-mod payload_scratch;
 mod reply;
-mod request_reader;
-mod setup;
 
 pub use body_writer::{
     InvokeFault, status_body, write_fault, write_invoke_event, write_invoke_fault,

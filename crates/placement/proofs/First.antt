@@ -1,5 +1,6 @@
 -- The first free environment of the sets is the definitions' one.
-use Rattle.std.proofs.Common.{◌≡◌, ℕ, suc, ◌-◌, ◌<◌, ◌≤◌, Bool, true, false, cond, ◌&&◌, ◌==◌, List, length, get_or, Option, Some, None, IfSome, IfNone, refl, sym, ap, ap₂, ◌∙◌, inl, inr, arith, subst}
+use Rattle.std.proofs.Common.{◌≡◌, ℕ, suc, ◌-◌, ◌<◌, ◌≤◌, Bool, true, false, cond, ◌&&◌, ◌==◌, List, length, get_or}
+use Rattle.std.proofs.Common.{Option, Some, None, IfSome, IfNone, refl, sym, ap, ap₂, ◌∙◌, inl, inr, arith, subst}
 use Rattle.std.specs.List.{position_or_len}
 use Rattle.std.specs.Option.{option_or}
 use Rattle.std.proofs.lemmas.Bool.{cases_lt, true≢false, lt-ltb, le-ltb, ne_eqb, and_left}
@@ -32,7 +33,8 @@ class_is class free f place = go (place.function == f)
     go false = free
 
 -- a list in which none passes has no first that does
-lowest_none : (f : ℕ) (class : Class) (places : List Place) → ((i : ℕ) → i < length places → is_of f class (get_or places i no_place) ≡ false) → lowest_of f class places ≡ None
+lowest_none : (f : ℕ) (class : Class) (places : List Place)
+    → ((i : ℕ) → i < length places → is_of f class (get_or places i no_place) ≡ false) → lowest_of f class places ≡ None
 lowest_none f class places none =
     let end : position_or_len (is_of f class) places ≡ length places =
     position_or_len_is (is_of f class) places (length places) no_place (omega arith) none (λ within. absurd (omega arith)) in
@@ -96,7 +98,8 @@ place_found free f places fits marks idle starting closing in_idle in_starting i
     either_of idle starting closing ∙ ap₂ or_else first (ap₂ or_else second third)
 
 -- the sets of a function
-pub marks_at : (sets : List Free) (places : List Place) (f : ℕ) (free : Free) → Follows sets places → f < length sets → free ≡ get_or sets f free → Marks free f places
+pub marks_at : (sets : List Free) (places : List Place) (f : ℕ) (free : Free) → Follows sets places → f < length sets
+    → free ≡ get_or sets f free → Marks free f places
 marks_at sets places f free follows there is = subst (λ (g : Free). Marks g f places) (sym is) (follows.marks f free there)
 
 -- a function that isn't there has no environment
@@ -107,4 +110,5 @@ none_found sets f places follows beyond = rw (none Idle, none StartingFree, none
     none : (class : Class) → lowest_of f class places ≡ None
     none class =
         lowest_none f class places (λ i there. let known = follows.known i there in
-        and_left ((get_or places i no_place).function == f) (is_class class (get_or places i no_place).class) (ne_eqb (get_or places i no_place).function f (λ same. absurd (omega (arith, known, beyond, same)))))
+        and_left ((get_or places i no_place).function == f) (is_class class (get_or places i no_place).class)
+        (ne_eqb (get_or places i no_place).function f (λ same. absurd (omega (arith, known, beyond, same)))))

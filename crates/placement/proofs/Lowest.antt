@@ -1,5 +1,6 @@
 -- The lowest numbered environment of a class is the definitions' one.
-use Rattle.std.proofs.Common.{◌≡◌, ℕ, zero, suc, ◌+◌, Bool, true, false, cond, not, List, [], ◌∷◌, length, map, Option, Some, None, sym, refl, ap, ap₂, ◌∙◌, arith, ◌&&◌, ◌==◌, nat_lt, option_map}
+use Rattle.std.proofs.Common.{◌≡◌, ℕ, zero, suc, ◌+◌, Bool, true, false, cond, not, List, [], ◌∷◌, length, map, Option}
+use Rattle.std.proofs.Common.{Some, None, sym, refl, ap, ap₂, ◌∙◌, arith, ◌&&◌, ◌==◌, nat_lt, option_map}
 use Rattle.std.specs.List.{find, position, position_or_len}
 use Rattle.std.proofs.lemmas.Bool.Decides.{nat_tests}
 use Rattle.arn_ids.specs.declared.config.Config.{Config}
@@ -24,7 +25,8 @@ position_cons q x xs = go (q x)
     k : ℕ
     k = position_or_len q xs
 
-    later : (b : Bool) → nat_lt (1 + k) (suc (length xs)) ≡ b → nat_lt k (length xs) ≡ b → cond (nat_lt (1 + k) (suc (length xs))) (Some (1 + k)) None ≡ option_map suc (cond (nat_lt k (length xs)) (Some k) None)
+    later : (b : Bool) → nat_lt (1 + k) (suc (length xs)) ≡ b → nat_lt k (length xs) ≡ b
+        → cond (nat_lt (1 + k) (suc (length xs))) (Some (1 + k)) None ≡ option_map suc (cond (nat_lt k (length xs)) (Some k) None)
     later true p r = let one : 1 + k ≡ suc k = omega arith in rw (p, r, one) refl
     later false p r = rw (p, r) refl
 
@@ -34,12 +36,14 @@ position_cons q x xs = go (q x)
     zero_less : nat_lt 0 (suc (length xs)) ≡ true
     zero_less = grind (arith, nat_tests)
 
-    go : (b : Bool) → cond (nat_lt (cond (not b) (1 + k) 0) (suc (length xs))) (Some (cond (not b) (1 + k) 0)) None ≡ cond b (Some 0) (option_map suc (position q xs))
+    go : (b : Bool)
+        → cond (nat_lt (cond (not b) (1 + k) 0) (suc (length xs))) (Some (cond (not b) (1 + k) 0)) None ≡ cond b (Some 0) (option_map suc (position q xs))
     go true = rw zero_less refl
     go false = later (nat_lt k (length xs)) same refl
 
 -- a search over numbers from a on is one over what they number
-find_numbered : {X : Type 0} (p : ℕ → Bool) (q : X → Bool) (g : ℕ → X) → ((e : ℕ) → q (g e) ≡ p e) → (a n : ℕ) → find p (count_from a n) ≡ option_map (λ i. a + i) (position q (map g (count_from a n)))
+find_numbered : {X : Type 0} (p : ℕ → Bool) (q : X → Bool) (g : ℕ → X) → ((e : ℕ) → q (g e) ≡ p e) → (a n : ℕ)
+    → find p (count_from a n) ≡ option_map (λ i. a + i) (position q (map g (count_from a n)))
 find_numbered p q g same a zero = refl
 find_numbered p q g same a (suc n) =
     rw (position_cons q (g a) (map g (count_from (suc a) n)), same a, find_numbered p q g same (suc a) n) (go (p a) (position q (map g (count_from (suc a) n))))
@@ -52,9 +56,12 @@ find_numbered p q g same a (suc n) =
     go true o = let e : a ≡ a + 0 = omega arith in ap (λ (k : ℕ). Some k) e
     go false o = shift o
 
-lowest_is : (config : Config) (h : List Entry) (f : ℕ) (class : Class) (passes : Phase → Bool) → ((P : Phase) → is_class class (class_of P) ≡ passes P) → lowest_of f class (places config h) ≡ lowest config h f passes
+lowest_is : (config : Config) (h : List Entry) (f : ℕ) (class : Class) (passes : Phase → Bool)
+    → ((P : Phase) → is_class class (class_of P) ≡ passes P)
+    → lowest_of f class (places config h) ≡ lowest config h f passes
 lowest_is config h f class passes same =
-    sym (find_numbered (λ e. (function_of config e == f) && passes (phase config h e)) (is_of f class) (place_of config h) (λ e. ap (λ (b : Bool). (function_of config e == f) && b) (same (phase config h e))) 1 (length (owners config))
+    sym
+    (find_numbered (λ e. (function_of config e == f) && passes (phase config h e)) (is_of f class) (place_of config h) (λ e. ap (λ (b : Bool). (function_of config e == f) && b) (same (phase config h e))) 1 (length (owners config))
     ∙ one (position (is_of f class) (places config h)))
   where
     one : (o : Option ℕ) → option_map (λ i. 1 + i) o ≡ option_map suc o

@@ -1,5 +1,7 @@
 -- The sets follow the environments where one of them is added or noted.
-use Rattle.std.proofs.Common.{◌≡◌, ◌≢◌, ℕ, zero, suc, ◌+◌, ◌<◌, ◌≤◌, List, [], ◌∷◌, ◌++◌, length, get_or, set, refl, sym, ap, ◌∙◌, inl, inr, arith, length-set, length-append, get_or-set_same, get_or-set_other, subst}
+use Rattle.std.proofs.Common.{◌≡◌, ◌≢◌, ℕ, zero, suc, ◌+◌, ◌<◌, ◌≤◌, List, [], ◌∷◌, ◌++◌, length, get_or, set, refl}
+use Rattle.std.proofs.Common.{sym, ap, ◌∙◌, inl, inr, arith, length-set, length-append, get_or-set_same}
+use Rattle.std.proofs.Common.{get_or-set_other, subst}
 use Rattle.std.proofs.lemmas.Bool.{cases_eq, cases_lt, ne_eqb, eq-eqb}
 use Rattle.std.proofs.lemmas.List.{get_or_past, get_or_push, get_or_default}
 use Rattle.arn_ids.specs.declared.config.Config.{Config}
@@ -90,7 +92,8 @@ module _ (sets : List Free) (places after : List Place) (k : ℕ) (place : Place
 
 -- an environment's class was noted, in place of the one before
 pub note_follows : (sets : List Free) (places : List Place) (k : ℕ) (found : Place) (class : Class) (old free : Free) → Follows sets places → k < length places
-    → found ≡ get_or places k found → old ≡ get_or sets found.function old → IsWhole free → HasClass free k class → ((i : ℕ) → i < 256 → i ≢ k → SameAt old free i)
+    → found ≡ get_or places k found → old ≡ get_or sets found.function old → IsWhole free → HasClass free k class
+    → ((i : ℕ) → i < 256 → i ≢ k → SameAt old free i)
     → Follows (set sets found.function free) (set places k (record { function = found.function; class = class }))
 note_follows sets places k found class old free follows there is was whole noted same =
     notes_follow sets places (set places k place) k place old free
@@ -121,7 +124,8 @@ push_other (p ∷ ps) place d zero other = refl
 push_other (p ∷ ps) place d (suc i) other = push_other ps place d i (λ same. other (ap suc same))
 
 pub push_follows : (sets : List Free) (places : List Place) (k : ℕ) (place : Place) (old free : Free) → Follows sets places → k ≡ length places → k < 256
-    → place.function < length sets → old ≡ get_or sets place.function old → IsWhole free → HasClass free k place.class → ((i : ℕ) → i < 256 → i ≢ k → SameAt old free i)
+    → place.function < length sets → old ≡ get_or sets place.function old → IsWhole free → HasClass free k place.class
+    → ((i : ℕ) → i < 256 → i ≢ k → SameAt old free i)
     → Follows (set sets place.function free) (places ++ place ∷ [])
 push_follows sets places k place old free follows last within function was whole noted same =
     notes_follow sets places (places ++ place ∷ []) k place old free
@@ -139,7 +143,8 @@ push_follows sets places k place old free follows last within function was whole
     follows
 
 -- an environment's function has its sets
-pub function_there : (config : Config) (index count function size : ℕ) → count ≡ length (owners config) → index < count → function ≡ function_of config (index + 1)
+pub function_there : (config : Config) (index count function size : ℕ) → count ≡ length (owners config) → index < count
+    → function ≡ function_of config (index + 1)
     → size ≡ length config.functions + 1 → function < size
 function_there config index count function size all within is sized =
     let owner = owner_is_function config (index + 1) (omega arith) (omega (arith, all, within)) in

@@ -13,7 +13,8 @@ place_is_at places e d from_one there = numbered_at no_place places e from_one �
 -- one number more
 next_number : {A : Type 0} (g : ℕ → A) (a n : ℕ) → map g (count_from a (suc n)) ≡ map g (count_from a n) ++ g (a + n) ∷ []
 next_number g a zero = let same : a ≡ a + 0 = omega arith in ap (λ k. g k ∷ []) same
-next_number g a (suc n) = let same : suc a + n ≡ a + suc n = omega arith in ap (λ xs. g a ∷ xs) (next_number g (suc a) n ∙ ap (λ k. map g (count_from (suc a) n) ++ g k ∷ []) same)
+next_number g a (suc n) =
+    let same : suc a + n ≡ a + suc n = omega arith in ap (λ xs. g a ∷ xs) (next_number g (suc a) n ∙ ap (λ k. map g (count_from (suc a) n) ++ g k ∷ []) same)
 
 pub count_more : {A : Type 0} (g : ℕ → A) (a n : ℕ) → map g (count_from a (n + 1)) ≡ map g (count_from a n) ++ g (a + n) ∷ []
 count_more g a n = ap (λ k. map g (count_from a k)) (plus n) ∙ next_number g a n

@@ -1,5 +1,6 @@
 -- The texts that headers hold are values of headers (RFC 9110, section 5.5).
-use Rattle.std.proofs.Common.{◌≡◌, ℕ, zero, suc, ap, ◌^◌, ◌<◌, ◌≤◌, Bool, true, false, cond, ◌&&◌, ◌==◌, nat_lt, nat_le, List, [], ◌++◌, length, codes, None, IsTrue, refl, arith}
+use Rattle.std.proofs.Common.{◌≡◌, ℕ, zero, suc, ap, ◌^◌, ◌<◌, ◌≤◌, Bool, true, false, cond, ◌&&◌, ◌==◌, nat_lt, nat_le}
+use Rattle.std.proofs.Common.{List, [], ◌++◌, length, codes, None, IsTrue, refl, arith}
 use Rattle.std.specs.List.{list_all}
 use Rattle.std.proofs.lemmas.Bool.Decides.{nat_tests}
 use Rattle.std.proofs.lemmas.List.Elements.{All-nil, All-append}
@@ -22,7 +23,8 @@ use Rattle.std.proofs.lemmas.Bool.{ltb-true, ltb-false}
 use Rattle.arn_ids.proofs.Bounds.{name_is, account_is, region_is}
 use Rattle.call_types.specs.declared.call.Call.{Call}
 use Rattle.call_types.specs.declared.answer.Rejection.{Rejection}
-use Rattle.call_types.specs.declared.answer.Rejection.TheVariants.{State, Replaced, BadId, Unknown, TooLarge, Container, NameInUse, TooMany, NotIdle, BadReservation}
+use Rattle.call_types.specs.declared.answer.Rejection.TheVariants.{State, Replaced, BadId, Unknown, TooLarge, Container}
+use Rattle.call_types.specs.declared.answer.Rejection.TheVariants.{NameInUse, TooMany, NotIdle, BadReservation}
 use Rattle.replies.specs.Words.{function_number, invoked_function, is_qualified, arn_text}
 use Rattle.replies.specs.Refusals.{refusal_words}
 use Rattle.call_model.proofs.NoFunction.{beyond}
@@ -71,17 +73,20 @@ name_fits config (suc f) sound = go (nat_lt (length config.functions) (suc f)) r
         rw none (All-nil (λ b. IsTrue (is_value_byte b)))
     go false e =
         let there : suc f ≤ length config.functions = ltb-false _ _ e in
-        from_test is_name_byte (λ b t. grind (arith, nat_tests)) (function_at config (suc f)).name (word_passes is_name_byte 64 (function_at config (suc f)).name (name_is config (suc f) sound (omega arith) there))
+        from_test is_name_byte (λ b t. grind (arith, nat_tests)) (function_at config (suc f)).name
+        (word_passes is_name_byte 64 (function_at config (suc f)).name (name_is config (suc f) sound (omega arith) there))
 
 account_fits : (config : Config) → first_fault config ≡ None → IsFieldValue config.home.account
-account_fits config sound = from_test is_digit (λ b e. grind (arith, nat_tests)) config.home.account (go (length config.home.account == 12) (account_is config sound))
+account_fits config sound =
+    from_test is_digit (λ b e. grind (arith, nat_tests)) config.home.account (go (length config.home.account == 12) (account_is config sound))
   where
     go : (b : Bool) → (b && list_all is_digit config.home.account) ≡ true → list_all is_digit config.home.account ≡ true
     go true h = h
     go false h = cc
 
 region_fits : (config : Config) → first_fault config ≡ None → IsFieldValue config.home.region
-region_fits config sound = from_test is_region_byte (λ b e. grind (arith, nat_tests)) config.home.region (word_passes is_region_byte 32 config.home.region (region_is config sound))
+region_fits config sound =
+    from_test is_region_byte (λ b e. grind (arith, nat_tests)) config.home.region (word_passes is_region_byte 32 config.home.region (region_is config sound))
 
 qualifier_fits : (qualified : Bool) → IsFieldValue (qualifier_text qualified)
 qualifier_fits true = AllPass-from_test is_value_byte (codes ":$LATEST") refl

@@ -1,5 +1,6 @@
 -- A line that is a call in form 1 is the same call in form 2.
-use Rattle.std.proofs.Common.{◌≡◌, ℕ, Bool, true, false, ◌&&◌, List, [], ◌∷◌, codes, bytes_eq, Option, Some, None, option_and_then, if◌then◌else◌, refl, sym, ap, ◌∙◌}
+use Rattle.std.proofs.Common.{◌≡◌, ℕ, Bool, true, false, ◌&&◌, List, [], ◌∷◌, codes, bytes_eq, Option, Some, None}
+use Rattle.std.proofs.Common.{option_and_then, if◌then◌else◌, refl, sym, ap, ◌∙◌}
 use Rattle.std.proofs.lemmas.Slice.Eq.{bytes_eq-Decides}
 use Rattle.arn_ids.specs.declared.config.Config.{Config}
 use Rattle.call_types.specs.declared.call.Call.{Call}
@@ -12,7 +13,9 @@ unfolding runtime_call_in extension_call_in
 no_call config line = refl
 
 -- the word of a reservation stands for no other call
-not_reserve : (config : Config) (word : List ℕ) (line : List (List ℕ)) (call : Call) (b : Bool) → bytes_eq word (codes "reserve") ≡ b → (if b && false then reserve_in config line else runtime_call_in config word line) ≡ Some call
+not_reserve : (config : Config) (word : List ℕ) (line : List (List ℕ)) (call : Call) (b : Bool)
+    → bytes_eq word (codes "reserve") ≡ b
+    → (if b && false then reserve_in config line else runtime_call_in config word line) ≡ Some call
     → (if b && true then reserve_in config line else runtime_call_in config word line) ≡ Some call
 not_reserve config word line call false is e = e
 not_reserve config word line call true is e =
@@ -25,7 +28,8 @@ either : (b : Bool) (x y z : Option Call) (call : Call) → (y ≡ Some call →
 either true x y z call h e = e
 either false x y z call h e = h e
 
-word_same : (config : Config) (word : List ℕ) (line : List (List ℕ)) (call : Call) → call_by_word false config word line ≡ Some call → call_by_word true config word line ≡ Some call
+word_same : (config : Config) (word : List ℕ) (line : List (List ℕ)) (call : Call)
+    → call_by_word false config word line ≡ Some call → call_by_word true config word line ≡ Some call
 unfolding call_by_word
 word_same config word line call =
     either (bytes_eq word (codes "invoke")) _ _ _ call
@@ -36,11 +40,13 @@ word_same config word line call =
     (not_reserve config word line call (bytes_eq word (codes "reserve")) refl)))))
 
 -- a moment, and then the call
-moment_same : (m : ℕ) (a b : Option Call) (timed : ℕ × Call) → ((call : Call) → a ≡ Some call → b ≡ Some call) → option_and_then (λ call. Some (m, call)) a ≡ Some timed → option_and_then (λ call. Some (m, call)) b ≡ Some timed
+moment_same : (m : ℕ) (a b : Option Call) (timed : ℕ × Call) → ((call : Call) → a ≡ Some call → b ≡ Some call)
+    → option_and_then (λ call. Some (m, call)) a ≡ Some timed → option_and_then (λ call. Some (m, call)) b ≡ Some timed
 moment_same m None b timed h e = cc
 moment_same m (Some call) b timed h e = rw (h call refl) e
 
-timed_same : (config : Config) (line : List (List ℕ)) (timed : ℕ × Call) → timed_call_in false config line ≡ Some timed → timed_call_in true config line ≡ Some timed
+timed_same : (config : Config) (line : List (List ℕ)) (timed : ℕ × Call) → timed_call_in false config line ≡ Some timed
+    → timed_call_in true config line ≡ Some timed
 timed_same config [] timed e = e
 timed_same config (moment ∷ []) timed e = e
 timed_same config (moment ∷ word ∷ line) timed e = go (number_in greatest_moment moment) e

@@ -1,5 +1,6 @@
 -- The line of a call or an answer has no control byte, so that it is one line, and is no longer than a line may be.
-use Rattle.std.proofs.Common.{◌≡◌, ℕ, suc, ◌+◌, ◌≤◌, Bool, true, false, ◌&&◌, ◌==◌, nat_le, List, [], ◌∷◌, ◌++◌, length, codes, Option, Some, None, decimal, refl, arith}
+use Rattle.std.proofs.Common.{◌≡◌, ℕ, suc, ◌+◌, ◌≤◌, Bool, true, false, ◌&&◌, ◌==◌, nat_le, List, [], ◌∷◌, ◌++◌, length}
+use Rattle.std.proofs.Common.{codes, Option, Some, None, decimal, refl, arith}
 use Rattle.std.specs.List.{list_all}
 use Rattle.std.proofs.lemmas.Bool.{leb-true}
 use Rattle.std.proofs.lemmas.Bool.Decides.{nat_tests}
@@ -10,16 +11,23 @@ use Rattle.arn_ids.specs.declared.identifiers.IdKind.TheVariants.{Request, Exten
 use Rattle.arn_ids.specs.declared.config.Config.{Config}
 use Rattle.arn_ids.proofs.Bounds.{name_is}
 use Rattle.call_types.specs.declared.call.Call.{Call}
-use Rattle.call_types.specs.declared.call.Call.TheVariants.{Invoke, RuntimeNext, Response, ResponseTooLarge, Failure, InitFailure, Register, ExtNext, ExtInitFailure, ExtExitFailure, Tick, Withdraw, Spindown, Stop, Expire, Reserve}
+use Rattle.call_types.specs.declared.call.Call.TheVariants.{Invoke, RuntimeNext, Response, ResponseTooLarge, Failure}
+use Rattle.call_types.specs.declared.call.Call.TheVariants.{InitFailure, Register, ExtNext, ExtInitFailure}
+use Rattle.call_types.specs.declared.call.Call.TheVariants.{ExtExitFailure, Tick, Withdraw, Spindown, Stop, Expire}
+use Rattle.call_types.specs.declared.call.Call.TheVariants.{Reserve}
 use Rattle.call_types.specs.declared.call.Entry.{Entry}
 use Rattle.call_types.specs.declared.answer.Answer.{Answer}
-use Rattle.call_types.specs.declared.answer.Answer.TheVariants.{Delivered, Told, Ending, Registered, Accepted, Done, Output, Error, TimedOut, InitTimedOut, OutputTooLarge, Throttled, Stopped, Withdrawn, Refused, Reserved, Unreserved}
+use Rattle.call_types.specs.declared.answer.Answer.TheVariants.{Delivered, Told, Ending, Registered, Accepted, Done}
+use Rattle.call_types.specs.declared.answer.Answer.TheVariants.{Output, Error, TimedOut, InitTimedOut, OutputTooLarge}
+use Rattle.call_types.specs.declared.answer.Answer.TheVariants.{Throttled, Stopped, Withdrawn, Refused, Reserved}
+use Rattle.call_types.specs.declared.answer.Answer.TheVariants.{Unreserved}
 use Rattle.call_types.specs.declared.answer.Reason.{Reason}
 use Rattle.call_types.specs.declared.answer.Reason.TheVariants.{Timeout, Failure as Failed, Spindown as SpunDown}
 use Rattle.call_types.specs.declared.answer.Throttle.{Throttle}
 use Rattle.call_types.specs.declared.answer.Throttle.TheVariants.{Function, Account, Environments}
 use Rattle.call_types.specs.declared.answer.Rejection.{Rejection}
-use Rattle.call_types.specs.declared.answer.Rejection.TheVariants.{State, Replaced, BadId, Unknown, TooLarge, Container, NameInUse, TooMany, NotIdle, BadReservation}
+use Rattle.call_types.specs.declared.answer.Rejection.TheVariants.{State, Replaced, BadId, Unknown, TooLarge, Container}
+use Rattle.call_types.specs.declared.answer.Rejection.TheVariants.{NameInUse, TooMany, NotIdle, BadReservation}
 use Rattle.call_model.specs.History.{call_of}
 use Rattle.call_types.specs.Within.{is_body, IsTrace, IsWithin}
 use Rattle.script.specs.TextFields.{text_field}
@@ -107,28 +115,54 @@ few n words f le = record { fit = fits_weaker n 18900000 (spaced words) le f.fit
 call_fits : (config : Config) (call : Call) → first_fault config ≡ None → IsWithin config call → Few (call_words config call)
 unfolding call_words
 call_fits config (Invoke f qualified trace body) sound (is_f, is_t, is_b) =
-    few _ _ (fits_more _ _ _ _ (fits_word 6 (codes "invoke") refl) (fits_more _ _ _ _ (fits_name (function_at config f).name (name_is config f sound is_f.0 is_f.1)) (fits_more _ _ _ _ (fits_flag (codes "q") qualified (fits_word 2 (codes "q") refl)) (fits_more _ _ _ _ (fits_trace trace is_t) (fits_more _ _ _ _ (fits_body body is_b) fits_none))))) (omega arith)
-call_fits config (RuntimeNext e) sound h = few _ _ (fits_more _ _ _ _ (fits_word 4 (codes "next") refl) (fits_more _ _ _ _ (fits_decimal e) fits_none)) (omega arith)
+    few _ _
+    (fits_more _ _ _ _ (fits_word 6 (codes "invoke") refl) (fits_more _ _ _ _ (fits_name (function_at config f).name (name_is config f sound is_f.0 is_f.1)) (fits_more _ _ _ _ (fits_flag (codes "q") qualified (fits_word 2 (codes "q") refl)) (fits_more _ _ _ _ (fits_trace trace is_t) (fits_more _ _ _ _ (fits_body body is_b) fits_none)))))
+    (omega arith)
+call_fits config (RuntimeNext e) sound h =
+    few _ _ (fits_more _ _ _ _ (fits_word 4 (codes "next") refl) (fits_more _ _ _ _ (fits_decimal e) fits_none)) (omega arith)
 call_fits config (Response e n body) sound (is_e, is_n, is_b) =
-    few _ _ (fits_more _ _ _ _ (fits_word 8 (codes "response") refl) (fits_more _ _ _ _ (fits_decimal e) (fits_more _ _ _ _ (fits_decimal n) (fits_more _ _ _ _ (fits_body body is_b) fits_none)))) (omega arith)
-call_fits config (ResponseTooLarge e n) sound h = few _ _ (fits_more _ _ _ _ (fits_word 18 (codes "response-too-large") refl) (fits_more _ _ _ _ (fits_decimal e) (fits_more _ _ _ _ (fits_decimal n) fits_none))) (omega arith)
+    few _ _
+    (fits_more _ _ _ _ (fits_word 8 (codes "response") refl) (fits_more _ _ _ _ (fits_decimal e) (fits_more _ _ _ _ (fits_decimal n) (fits_more _ _ _ _ (fits_body body is_b) fits_none))))
+    (omega arith)
+call_fits config (ResponseTooLarge e n) sound h =
+    few _ _
+    (fits_more _ _ _ _ (fits_word 18 (codes "response-too-large") refl) (fits_more _ _ _ _ (fits_decimal e) (fits_more _ _ _ _ (fits_decimal n) fits_none)))
+    (omega arith)
 call_fits config (Failure e n body) sound (is_e, is_n, is_b) =
-    few _ _ (fits_more _ _ _ _ (fits_word 7 (codes "failure") refl) (fits_more _ _ _ _ (fits_decimal e) (fits_more _ _ _ _ (fits_decimal n) (fits_more _ _ _ _ (fits_body body is_b) fits_none)))) (omega arith)
-call_fits config (InitFailure e body) sound (is_e, is_b) = few _ _ (fits_more _ _ _ _ (fits_word 12 (codes "init-failure") refl) (fits_more _ _ _ _ (fits_decimal e) (fits_more _ _ _ _ (fits_body body is_b) fits_none))) (omega arith)
+    few _ _
+    (fits_more _ _ _ _ (fits_word 7 (codes "failure") refl) (fits_more _ _ _ _ (fits_decimal e) (fits_more _ _ _ _ (fits_decimal n) (fits_more _ _ _ _ (fits_body body is_b) fits_none))))
+    (omega arith)
+call_fits config (InitFailure e body) sound (is_e, is_b) =
+    few _ _
+    (fits_more _ _ _ _ (fits_word 12 (codes "init-failure") refl) (fits_more _ _ _ _ (fits_decimal e) (fits_more _ _ _ _ (fits_body body is_b) fits_none)))
+    (omega arith)
 call_fits config (Register e name invoke shutdown account) sound (is_e, is_n) =
-    few _ _ (fits_more _ _ _ _ (fits_word 8 (codes "register") refl) (fits_more _ _ _ _ (fits_decimal e) (fits_more _ _ _ _ (fits_text 128 name (word_short 128 name is_n)) (fits_more _ _ _ _ (fits_events invoke shutdown) (fits_more _ _ _ _ (fits_flag (codes "a") account (fits_word 2 (codes "a") refl)) fits_none))))) (omega arith)
-call_fits config (ExtNext e x) sound h = few _ _ (fits_more _ _ _ _ (fits_word 8 (codes "ext-next") refl) (fits_more _ _ _ _ (fits_decimal e) (fits_more _ _ _ _ (fits_decimal x) fits_none))) (omega arith)
+    few _ _
+    (fits_more _ _ _ _ (fits_word 8 (codes "register") refl) (fits_more _ _ _ _ (fits_decimal e) (fits_more _ _ _ _ (fits_text 128 name (word_short 128 name is_n)) (fits_more _ _ _ _ (fits_events invoke shutdown) (fits_more _ _ _ _ (fits_flag (codes "a") account (fits_word 2 (codes "a") refl)) fits_none)))))
+    (omega arith)
+call_fits config (ExtNext e x) sound h =
+    few _ _
+    (fits_more _ _ _ _ (fits_word 8 (codes "ext-next") refl) (fits_more _ _ _ _ (fits_decimal e) (fits_more _ _ _ _ (fits_decimal x) fits_none)))
+    (omega arith)
 call_fits config (ExtInitFailure e x body) sound (is_e, is_x, is_b) =
-    few _ _ (fits_more _ _ _ _ (fits_word 16 (codes "ext-init-failure") refl) (fits_more _ _ _ _ (fits_decimal e) (fits_more _ _ _ _ (fits_decimal x) (fits_more _ _ _ _ (fits_body body is_b) fits_none)))) (omega arith)
+    few _ _
+    (fits_more _ _ _ _ (fits_word 16 (codes "ext-init-failure") refl) (fits_more _ _ _ _ (fits_decimal e) (fits_more _ _ _ _ (fits_decimal x) (fits_more _ _ _ _ (fits_body body is_b) fits_none))))
+    (omega arith)
 call_fits config (ExtExitFailure e x body) sound (is_e, is_x, is_b) =
-    few _ _ (fits_more _ _ _ _ (fits_word 16 (codes "ext-exit-failure") refl) (fits_more _ _ _ _ (fits_decimal e) (fits_more _ _ _ _ (fits_decimal x) (fits_more _ _ _ _ (fits_body body is_b) fits_none)))) (omega arith)
+    few _ _
+    (fits_more _ _ _ _ (fits_word 16 (codes "ext-exit-failure") refl) (fits_more _ _ _ _ (fits_decimal e) (fits_more _ _ _ _ (fits_decimal x) (fits_more _ _ _ _ (fits_body body is_b) fits_none))))
+    (omega arith)
 call_fits config Tick sound h = few _ _ (fits_more _ _ _ _ (fits_word 4 (codes "tick") refl) fits_none) (omega arith)
-call_fits config (Withdraw t) sound h = few _ _ (fits_more _ _ _ _ (fits_word 8 (codes "withdraw") refl) (fits_more _ _ _ _ (fits_decimal t) fits_none)) (omega arith)
-call_fits config (Spindown e) sound h = few _ _ (fits_more _ _ _ _ (fits_word 8 (codes "spindown") refl) (fits_more _ _ _ _ (fits_decimal e) fits_none)) (omega arith)
+call_fits config (Withdraw t) sound h =
+    few _ _ (fits_more _ _ _ _ (fits_word 8 (codes "withdraw") refl) (fits_more _ _ _ _ (fits_decimal t) fits_none)) (omega arith)
+call_fits config (Spindown e) sound h =
+    few _ _ (fits_more _ _ _ _ (fits_word 8 (codes "spindown") refl) (fits_more _ _ _ _ (fits_decimal e) fits_none)) (omega arith)
 call_fits config Stop sound h = few _ _ (fits_more _ _ _ _ (fits_word 4 (codes "stop") refl) fits_none) (omega arith)
 call_fits config (Expire e) sound h = absurd h
 call_fits config (Reserve f count) sound (is_f, is_c) =
-    few _ _ (fits_more _ _ _ _ (fits_word 7 (codes "reserve") refl) (fits_more _ _ _ _ (fits_name (function_at config f).name (name_is config f sound is_f.0 is_f.1)) (fits_more _ _ _ _ (fits_reservation count) fits_none))) (omega arith)
+    few _ _
+    (fits_more _ _ _ _ (fits_word 7 (codes "reserve") refl) (fits_more _ _ _ _ (fits_name (function_at config f).name (name_is config f sound is_f.0 is_f.1)) (fits_more _ _ _ _ (fits_reservation count) fits_none)))
+    (omega arith)
 
 expire_fits : (config : Config) (e : ℕ) → Few (call_words config (Expire e))
 unfolding call_words
@@ -155,10 +189,12 @@ mark_fits (Reserve f count) = fits_word 3 [] refl
 text_fits : (config : Config) (moment : ℕ) (call : Call) → Few (call_words config call) → Fits 20000000 (call_text config moment call)
 unfolding call_text
 text_fits config moment call f =
-    fits_weaker (3 + (64 + 18900000)) 20000000 _ (omega arith) (fits_append 3 (64 + 18900000) (before_moment call) (line_of (decimal moment ∷ call_words config call)) (mark_fits call) (fits_line 64 18900000 (decimal moment) (call_words config call) (fits_decimal moment) f))
+    fits_weaker (3 + (64 + 18900000)) 20000000 _ (omega arith)
+    (fits_append 3 (64 + 18900000) (before_moment call) (line_of (decimal moment ∷ call_words config call)) (mark_fits call) (fits_line 64 18900000 (decimal moment) (call_words config call) (fits_decimal moment) f))
 
 -- The line of a call within the limits.
-pub call_line_fits : (config : Config) (moment : ℕ) (call : Call) → first_fault config ≡ None → IsWithin config call → Fits 20000000 (call_text config moment call)
+pub call_line_fits : (config : Config) (moment : ℕ) (call : Call) → first_fault config ≡ None → IsWithin config call
+    → Fits 20000000 (call_text config moment call)
 call_line_fits config moment call sound within = text_fits config moment call (call_fits config call sound within)
 
 -- The line of an expiry.
@@ -199,24 +235,36 @@ body_fits h t short = fits_text 6291456 (body_of (call_of h t)) (short t)
 answer_fits : (salt : ℕ) (h : List Entry) (t : ℕ) (answer : Answer) → HasShortBodies h → Few (answer_words salt h t answer)
 unfolding answer_words
 answer_fits salt h t (Delivered p deadline) short =
-    few _ _ (fits_more _ _ _ _ (fits_word 7 (codes "deliver") refl) (fits_more _ _ _ _ (fits_id salt Request _ _) (fits_more _ _ _ _ (fits_decimal deadline) (fits_more _ _ _ _ (body_fits h p short) fits_none)))) (omega arith)
+    few _ _
+    (fits_more _ _ _ _ (fits_word 7 (codes "deliver") refl) (fits_more _ _ _ _ (fits_id salt Request _ _) (fits_more _ _ _ _ (fits_decimal deadline) (fits_more _ _ _ _ (body_fits h p short) fits_none))))
+    (omega arith)
 answer_fits salt h t (Told p deadline event) short =
-    few _ _ (fits_more _ _ _ _ (fits_word 4 (codes "tell") refl) (fits_more _ _ _ _ (fits_id salt Event _ event) (fits_more _ _ _ _ (fits_id salt Request _ _) (fits_more _ _ _ _ (fits_decimal deadline) fits_none)))) (omega arith)
+    few _ _
+    (fits_more _ _ _ _ (fits_word 4 (codes "tell") refl) (fits_more _ _ _ _ (fits_id salt Event _ event) (fits_more _ _ _ _ (fits_id salt Request _ _) (fits_more _ _ _ _ (fits_decimal deadline) fits_none))))
+    (omega arith)
 answer_fits salt h t (Ending reason until event) short =
-    few _ _ (fits_more _ _ _ _ (fits_word 8 (codes "shutdown") refl) (fits_more _ _ _ _ (fits_id salt Event _ event) (fits_more _ _ _ _ (reason_fits reason) (fits_more _ _ _ _ (fits_decimal until) fits_none)))) (omega arith)
-answer_fits salt h t (Registered count) short = few _ _ (fits_more _ _ _ _ (fits_word 10 (codes "registered") refl) (fits_more _ _ _ _ (fits_id salt Extension _ count) fits_none)) (omega arith)
+    few _ _
+    (fits_more _ _ _ _ (fits_word 8 (codes "shutdown") refl) (fits_more _ _ _ _ (fits_id salt Event _ event) (fits_more _ _ _ _ (reason_fits reason) (fits_more _ _ _ _ (fits_decimal until) fits_none))))
+    (omega arith)
+answer_fits salt h t (Registered count) short =
+    few _ _ (fits_more _ _ _ _ (fits_word 10 (codes "registered") refl) (fits_more _ _ _ _ (fits_id salt Extension _ count) fits_none)) (omega arith)
 answer_fits salt h t Accepted short = few _ _ (fits_more _ _ _ _ (fits_word 8 (codes "accepted") refl) fits_none) (omega arith)
 answer_fits salt h t Done short = few _ _ (fits_more _ _ _ _ (fits_word 4 (codes "done") refl) fits_none) (omega arith)
-answer_fits salt h t (Output source) short = few _ _ (fits_more _ _ _ _ (fits_word 6 (codes "output") refl) (fits_more _ _ _ _ (body_fits h source short) fits_none)) (omega arith)
-answer_fits salt h t (Error source) short = few _ _ (fits_more _ _ _ _ (fits_word 5 (codes "error") refl) (fits_more _ _ _ _ (body_fits h source short) fits_none)) (omega arith)
+answer_fits salt h t (Output source) short =
+    few _ _ (fits_more _ _ _ _ (fits_word 6 (codes "output") refl) (fits_more _ _ _ _ (body_fits h source short) fits_none)) (omega arith)
+answer_fits salt h t (Error source) short =
+    few _ _ (fits_more _ _ _ _ (fits_word 5 (codes "error") refl) (fits_more _ _ _ _ (body_fits h source short) fits_none)) (omega arith)
 answer_fits salt h t TimedOut short = few _ _ (fits_more _ _ _ _ (fits_word 7 (codes "timeout") refl) fits_none) (omega arith)
 answer_fits salt h t InitTimedOut short = few _ _ (fits_more _ _ _ _ (fits_word 12 (codes "init-timeout") refl) fits_none) (omega arith)
 answer_fits salt h t OutputTooLarge short = few _ _ (fits_more _ _ _ _ (fits_word 16 (codes "too-large-output") refl) fits_none) (omega arith)
-answer_fits salt h t (Throttled reason) short = few _ _ (fits_more _ _ _ _ (fits_word 9 (codes "throttled") refl) (fits_more _ _ _ _ (throttle_fits reason) fits_none)) (omega arith)
+answer_fits salt h t (Throttled reason) short =
+    few _ _ (fits_more _ _ _ _ (fits_word 9 (codes "throttled") refl) (fits_more _ _ _ _ (throttle_fits reason) fits_none)) (omega arith)
 answer_fits salt h t Stopped short = few _ _ (fits_more _ _ _ _ (fits_word 7 (codes "stopped") refl) fits_none) (omega arith)
 answer_fits salt h t Withdrawn short = few _ _ (fits_more _ _ _ _ (fits_word 9 (codes "withdrawn") refl) fits_none) (omega arith)
-answer_fits salt h t (Refused refusal) short = few _ _ (fits_more _ _ _ _ (fits_word 7 (codes "refused") refl) (fits_more _ _ _ _ (refusal_fits refusal) fits_none)) (omega arith)
-answer_fits salt h t (Reserved count) short = few _ _ (fits_more _ _ _ _ (fits_word 8 (codes "reserved") refl) (fits_more _ _ _ _ (fits_decimal count) fits_none)) (omega arith)
+answer_fits salt h t (Refused refusal) short =
+    few _ _ (fits_more _ _ _ _ (fits_word 7 (codes "refused") refl) (fits_more _ _ _ _ (refusal_fits refusal) fits_none)) (omega arith)
+answer_fits salt h t (Reserved count) short =
+    few _ _ (fits_more _ _ _ _ (fits_word 8 (codes "reserved") refl) (fits_more _ _ _ _ (fits_decimal count) fits_none)) (omega arith)
 answer_fits salt h t Unreserved short = few _ _ (fits_more _ _ _ _ (fits_word 10 (codes "unreserved") refl) fits_none) (omega arith)
 
 -- an answer as a comment, without its ending

@@ -1,5 +1,6 @@
 -- The line of a call is read as that call.
-use Rattle.std.proofs.Common.{◌≡◌, ℕ, ◌<◌, ◌≤◌, Bool, true, false, ◌&&◌, nat_le, ◌==◌, List, [], ◌∷◌, length, codes, bytes_eq, Option, Some, None, option_map, decimal, All, refl, sym, ap, ◌∙◌, arith}
+use Rattle.std.proofs.Common.{◌≡◌, ℕ, ◌<◌, ◌≤◌, Bool, true, false, ◌&&◌, nat_le, ◌==◌, List, [], ◌∷◌, length, codes}
+use Rattle.std.proofs.Common.{bytes_eq, Option, Some, None, option_map, decimal, All, refl, sym, ap, ◌∙◌, arith}
 use Rattle.std.proofs.lemmas.Bool.{le-leb, eqb-true}
 use Rattle.std.proofs.lemmas.List.Elements.{All-weaker}
 use Rattle.arn_ids.specs.Words.{is_label, is_word, is_printable}
@@ -8,12 +9,17 @@ use Rattle.arn_ids.specs.Faults.{first_fault}
 use Rattle.arn_ids.specs.declared.config.Config.{Config}
 use Rattle.arn_ids.proofs.Bounds.{environments_256, name_is, named_once}
 use Rattle.call_types.specs.declared.call.Call.{Call}
-use Rattle.call_types.specs.declared.call.Call.TheVariants.{Invoke, RuntimeNext, Response, ResponseTooLarge, Failure, InitFailure, Register, ExtNext, ExtInitFailure, ExtExitFailure, Tick, Withdraw, Spindown, Stop, Expire, Reserve}
+use Rattle.call_types.specs.declared.call.Call.TheVariants.{Invoke, RuntimeNext, Response, ResponseTooLarge, Failure}
+use Rattle.call_types.specs.declared.call.Call.TheVariants.{InitFailure, Register, ExtNext, ExtInitFailure}
+use Rattle.call_types.specs.declared.call.Call.TheVariants.{ExtExitFailure, Tick, Withdraw, Spindown, Stop, Expire}
+use Rattle.call_types.specs.declared.call.Call.TheVariants.{Reserve}
 use Rattle.arn_ids.specs.Numbers.{number_in, env_in}
 use Rattle.arn_ids.specs.Limits.{greatest_moment, greatest_count, greatest_ticket, greatest_reservation}
 use Rattle.call_types.specs.Within.{is_body, is_trace, IsEnv, IsFunction, IsCount, IsTrace, IsReservation, IsWithin}
 use Rattle.script.specs.TextFields.{text_field, text_that, body_in, name_in, trace_in}
-use Rattle.script.specs.Lines.{count_in, flag_in, events_in, reservation_in, invoke_in, lone_env_in, env_and_count_in, report_in, init_failure_in, register_in, withdraw_in, reserve_in, extension_call_in, runtime_call_in, call_by_word, timed_call_in, call_in}
+use Rattle.script.specs.Lines.{count_in, flag_in, events_in, reservation_in, invoke_in, lone_env_in, env_and_count_in}
+use Rattle.script.specs.Lines.{report_in, init_failure_in, register_in, withdraw_in, reserve_in, extension_call_in}
+use Rattle.script.specs.Lines.{runtime_call_in, call_by_word, timed_call_in, call_in}
 use Rattle.script.specs.CallText.{before_moment, flag, or_dash, events, reservation, call_words, call_text}
 use Rattle.call_types.specs.Calls.{body_of}
 use Rattle.script.proofs.NumberLemmas.{number_again}
@@ -40,7 +46,9 @@ text_again : (passes : List ℕ → Bool) (text : List ℕ) → All IsByte text 
 text_again passes text small passed = rw (decoded_again text small, passed) refl
 
 printable_bytes : (most : ℕ) (text : List ℕ) → is_word is_printable most text ≡ true → All IsByte text
-printable_bytes most text h = All-weaker (λ b. b < 128) IsByte (λ b small. omega arith) text (ascii_from_printable text (both (nat_le 1 (length text) && nat_le (length text) most) _ h).1)
+printable_bytes most text h =
+    All-weaker (λ b. b < 128) IsByte (λ b small. omega arith) text
+    (ascii_from_printable text (both (nat_le 1 (length text) && nat_le (length text) most) _ h).1)
 
 body_again : (body : List ℕ) → All IsByte body → is_body body ≡ true → body_in (text_field body) ≡ Some body
 body_again = text_again is_body
@@ -72,11 +80,14 @@ lone_env_again : (config : Config) (e : ℕ) → first_fault config ≡ None →
 unfolding lone_env_in
 lone_env_again config e sound is_e = env_again config e sound is_e
 
-env_and_count_again : (config : Config) (e n : ℕ) → first_fault config ≡ None → IsEnv config e → IsCount n → env_and_count_in config (decimal e ∷ decimal n ∷ []) ≡ Some (e, n)
+env_and_count_again : (config : Config) (e n : ℕ) → first_fault config ≡ None → IsEnv config e → IsCount n
+    → env_and_count_in config (decimal e ∷ decimal n ∷ []) ≡ Some (e, n)
 unfolding env_and_count_in
 env_and_count_again config e n sound is_e is_n = rw (env_again config e sound is_e, count_again n is_n) refl
 
-report_again : (config : Config) (e n : ℕ) (body : List ℕ) → first_fault config ≡ None → IsEnv config e → IsCount n → is_body body ≡ true → All IsByte body → report_in config (decimal e ∷ decimal n ∷ text_field body ∷ []) ≡ Some (e, n, body)
+report_again : (config : Config) (e n : ℕ) (body : List ℕ) → first_fault config ≡ None → IsEnv config e → IsCount n
+    → is_body body ≡ true → All IsByte body
+    → report_in config (decimal e ∷ decimal n ∷ text_field body ∷ []) ≡ Some (e, n, body)
 unfolding report_in
 report_again config e n body sound is_e is_n is_b small = rw (env_again config e sound is_e, count_again n is_n, body_again body small is_b) refl
 
@@ -106,7 +117,8 @@ abbrev Again : Config → Call → List (List ℕ) → Type 0
 Again config call [] = ⊥
 Again config call (word ∷ line) = call_by_word true config word line ≡ Some call
 
-call_again : (config : Config) (call : Call) → first_fault config ≡ None → IsWithin config call → All IsByte (body_of call) → Again config call (call_words config call)
+call_again : (config : Config) (call : Call) → first_fault config ≡ None → IsWithin config call
+    → All IsByte (body_of call) → Again config call (call_words config call)
 unfolding call_words call_by_word runtime_call_in extension_call_in invoke_in init_failure_in register_in withdraw_in reserve_in
 call_again config (Invoke f qualified trace body) sound (is_f, is_t, is_b) small =
     rw (named_once config f sound is_f.0 is_f.1, qualified_again qualified, trace_again trace is_t, body_again body small is_b) refl
@@ -161,21 +173,27 @@ unfolding call_words
 plain_words config (Invoke f qualified trace body) sound (is_f, is_t, is_b) =
     (plain_by_test (codes "invoke") refl, (plain_function config f sound is_f, (plain_flag (codes "q") qualified (plain_by_test (codes "q") refl), (plain_trace trace, (plain_text body, tt)))))
 plain_words config (RuntimeNext e) sound is_e = (plain_by_test (codes "next") refl, (plain_env config e sound is_e, tt))
-plain_words config (Response e n body) sound (is_e, is_n, is_b) = (plain_by_test (codes "response") refl, (plain_env config e sound is_e, (plain_count n is_n, (plain_text body, tt))))
-plain_words config (ResponseTooLarge e n) sound (is_e, is_n) = (plain_by_test (codes "response-too-large") refl, (plain_env config e sound is_e, (plain_count n is_n, tt)))
-plain_words config (Failure e n body) sound (is_e, is_n, is_b) = (plain_by_test (codes "failure") refl, (plain_env config e sound is_e, (plain_count n is_n, (plain_text body, tt))))
+plain_words config (Response e n body) sound (is_e, is_n, is_b) =
+    (plain_by_test (codes "response") refl, (plain_env config e sound is_e, (plain_count n is_n, (plain_text body, tt))))
+plain_words config (ResponseTooLarge e n) sound (is_e, is_n) =
+    (plain_by_test (codes "response-too-large") refl, (plain_env config e sound is_e, (plain_count n is_n, tt)))
+plain_words config (Failure e n body) sound (is_e, is_n, is_b) =
+    (plain_by_test (codes "failure") refl, (plain_env config e sound is_e, (plain_count n is_n, (plain_text body, tt))))
 plain_words config (InitFailure e body) sound (is_e, is_b) = (plain_by_test (codes "init-failure") refl, (plain_env config e sound is_e, (plain_text body, tt)))
 plain_words config (Register e name invoke shutdown account) sound (is_e, is_n) =
     (plain_by_test (codes "register") refl, (plain_env config e sound is_e, (plain_text name, (plain_events invoke shutdown, (plain_flag (codes "a") account (plain_by_test (codes "a") refl), tt)))))
 plain_words config (ExtNext e x) sound (is_e, is_x) = (plain_by_test (codes "ext-next") refl, (plain_env config e sound is_e, (plain_count x is_x, tt)))
-plain_words config (ExtInitFailure e x body) sound (is_e, is_x, is_b) = (plain_by_test (codes "ext-init-failure") refl, (plain_env config e sound is_e, (plain_count x is_x, (plain_text body, tt))))
-plain_words config (ExtExitFailure e x body) sound (is_e, is_x, is_b) = (plain_by_test (codes "ext-exit-failure") refl, (plain_env config e sound is_e, (plain_count x is_x, (plain_text body, tt))))
+plain_words config (ExtInitFailure e x body) sound (is_e, is_x, is_b) =
+    (plain_by_test (codes "ext-init-failure") refl, (plain_env config e sound is_e, (plain_count x is_x, (plain_text body, tt))))
+plain_words config (ExtExitFailure e x body) sound (is_e, is_x, is_b) =
+    (plain_by_test (codes "ext-exit-failure") refl, (plain_env config e sound is_e, (plain_count x is_x, (plain_text body, tt))))
 plain_words config Tick sound h = (plain_by_test (codes "tick") refl, tt)
 plain_words config (Withdraw t) sound is_t = (plain_by_test (codes "withdraw") refl, (plain_decimal t (omega arith), tt))
 plain_words config (Spindown e) sound is_e = (plain_by_test (codes "spindown") refl, (plain_env config e sound is_e, tt))
 plain_words config Stop sound h = (plain_by_test (codes "stop") refl, tt)
 plain_words config (Expire e) sound h = absurd h
-plain_words config (Reserve f count) sound (is_f, is_c) = (plain_by_test (codes "reserve") refl, (plain_function config f sound is_f, (plain_reservation count is_c, tt)))
+plain_words config (Reserve f count) sound (is_f, is_c) =
+    (plain_by_test (codes "reserve") refl, (plain_function config f sound is_f, (plain_reservation count is_c, tt)))
 
 -- ---- the whole line
 
@@ -197,11 +215,14 @@ no_mark config Stop h = refl
 no_mark config (Expire e) h = absurd h
 no_mark config (Reserve f count) h = refl
 
-timed_again : (config : Config) (m : ℕ) (call : Call) (words : List (List ℕ)) → m ≤ greatest_moment → Again config call words → timed_call_in true config (decimal m ∷ words) ≡ Some (m, call)
+timed_again : (config : Config) (m : ℕ) (call : Call) (words : List (List ℕ)) → m ≤ greatest_moment
+    → Again config call words → timed_call_in true config (decimal m ∷ words) ≡ Some (m, call)
 timed_again config m call [] small again = absurd again
 timed_again config m call (word ∷ line) small again = rw (number_again greatest_moment m small (omega arith), again) refl
 
-pub read_again : (config : Config) (m : ℕ) (call : Call) → first_fault config ≡ None → m ≤ greatest_moment → IsWithin config call → All (λ b. b < 256) (body_of call) → call_in true config (call_text config m call) ≡ Some (m, call)
+pub read_again : (config : Config) (m : ℕ) (call : Call) → first_fault config ≡ None → m ≤ greatest_moment
+    → IsWithin config call → All (λ b. b < 256) (body_of call)
+    → call_in true config (call_text config m call) ≡ Some (m, call)
 unfolding call_in call_text
 read_again config m call sound early within small =
     rw (no_mark config call within, split_again (decimal m) (call_words config call) (plain_decimal m (omega arith)) (plain_words config call sound within))

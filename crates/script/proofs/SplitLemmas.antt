@@ -1,5 +1,6 @@
 -- A line is split into the words that it was made of.
-use Rattle.std.proofs.Common.{◌≡◌, ℕ, ◌+◌, ◌%◌, ◌^◌, ◌<◌, Bool, true, false, not, ◌&&◌, ◌==◌, nat_le, List, [], ◌∷◌, length, decimal, All, refl, sym, ap, ◌∙◌, arith}
+use Rattle.std.proofs.Common.{◌≡◌, ℕ, ◌+◌, ◌%◌, ◌^◌, ◌<◌, Bool, true, false, not, ◌&&◌, ◌==◌, nat_le, List, [], ◌∷◌}
+use Rattle.std.proofs.Common.{length, decimal, All, refl, sym, ap, ◌∙◌, arith}
 use Rattle.std.specs.List.{list_all}
 use Rattle.std.proofs.lemmas.List.{append-nil}
 use Rattle.std.proofs.lemmas.List.Elements.{All-nil, All-cons, All-append}
@@ -73,7 +74,8 @@ name_byte_plain b h = go (b == 32) refl
 
 plain_name_bytes : (name : List ℕ) → list_all is_name_byte name ≡ true → All IsPlain name
 plain_name_bytes [] h = All-nil IsPlain
-plain_name_bytes (b ∷ bs) h = let parts = both (is_name_byte b) (list_all is_name_byte bs) h in All-cons IsPlain b bs (name_byte_plain b parts.0) (plain_name_bytes bs parts.1)
+plain_name_bytes (b ∷ bs) h =
+    let parts = both (is_name_byte b) (list_all is_name_byte bs) h in All-cons IsPlain b bs (name_byte_plain b parts.0) (plain_name_bytes bs parts.1)
 
 pub plain_name : (name : List ℕ) → is_name name ≡ true → All IsPlain name
 plain_name name h = plain_name_bytes name (both (nat_le 1 (length name) && nat_le (length name) 64) (list_all is_name_byte name) h).1

@@ -1,5 +1,7 @@
 -- What a line says is within the limits.
-use Rattle.std.proofs.Common.{◌≡◌, ℕ, suc, ◌+◌, ◌-◌, ◌*◌, ◌<◌, ◌≤◌, Bool, true, false, ◌&&◌, cond, nat_le, nat_lt, ◌==◌, List, [], ◌∷◌, length, codes, bytes_eq, position, Option, Some, None, Result, Ok, Err, IfOk, subst, sym, option_map, option_and_then, refl, arith}
+use Rattle.std.proofs.Common.{◌≡◌, ℕ, suc, ◌+◌, ◌-◌, ◌*◌, ◌<◌, ◌≤◌, Bool, true, false, ◌&&◌, cond, nat_le, nat_lt, ◌==◌}
+use Rattle.std.proofs.Common.{List, [], ◌∷◌, length, codes, bytes_eq, position, Option, Some, None, Result, Ok, Err}
+use Rattle.std.proofs.Common.{IfOk, subst, sym, option_map, option_and_then, refl, arith}
 use Rattle.std.specs.Option.{IfSome}
 use Rattle.std.specs.List.{position_or_len}
 use Rattle.std.proofs.lemmas.Bool.{leb-true, ltb-true}
@@ -13,7 +15,10 @@ use Rattle.arn_ids.specs.Numbers.{digits_in, number_in, from_one, env_in}
 use Rattle.arn_ids.specs.Limits.{greatest_moment, greatest_count, greatest_ticket, greatest_reservation}
 use Rattle.call_types.specs.Within.{is_body, is_trace, IsEnv, IsFunction, IsCount, IsTrace, IsReservation, IsWithin, IsTimed}
 use Rattle.script.specs.TextFields.{text_in, text_that, body_in, name_in, trace_in}
-use Rattle.script.specs.Lines.{fields, one_field, two_fields, three_fields, four_fields, alone, count_in, flag_in, events_in, reservation_in, invoke_in, lone_env_in, env_and_count_in, report_in, init_failure_in, register_in, withdraw_in, reserve_in, extension_call_in, runtime_call_in, call_by_word, timed_call_in, call_in}
+use Rattle.script.specs.Lines.{fields, one_field, two_fields, three_fields, four_fields, alone, count_in, flag_in}
+use Rattle.script.specs.Lines.{events_in, reservation_in, invoke_in, lone_env_in, env_and_count_in, report_in}
+use Rattle.script.specs.Lines.{init_failure_in, register_in, withdraw_in, reserve_in, extension_call_in}
+use Rattle.script.specs.Lines.{runtime_call_in, call_by_word, timed_call_in, call_in}
 
 -- any value
 abbrev Anything : {A : Type 0} → A → Type 0
@@ -34,7 +39,8 @@ anything None = nothing
 anything (Some a) = gives a tt
 
 -- one step after the other
-and_then : {A B : Type 0} {Q : B → Type 0} (P : A → Type 0) (o : Option A) (f : A → Option B) → Gives o P → ((a : A) → P a → Gives (f a) Q) → Gives (option_and_then f o) Q
+and_then : {A B : Type 0} {Q : B → Type 0} (P : A → Type 0) (o : Option A) (f : A → Option B) → Gives o P
+    → ((a : A) → P a → Gives (f a) Q) → Gives (option_and_then f o) Q
 and_then P None f h step = nothing
 and_then P (Some a) f h step = step a h.holds
 
@@ -58,7 +64,9 @@ digits_within : (most n : ℕ) (ds : List ℕ) → n ≤ most → Gives (digits_
 digits_within most n [] small = gives n small
 digits_within most n (b ∷ bs) small = go (is_digit b && nat_le (10 * n + (b - 48)) most) refl (digits_within most (10 * n + (b - 48)) bs)
   where
-    go : (t : Bool) → (is_digit b && nat_le (10 * n + (b - 48)) most) ≡ t → (10 * n + (b - 48) ≤ most → Gives (digits_in most (10 * n + (b - 48)) bs) (λ m. m ≤ most)) → Gives (cond t (digits_in most (10 * n + (b - 48)) bs) None) (λ m. m ≤ most)
+    go : (t : Bool) → (is_digit b && nat_le (10 * n + (b - 48)) most) ≡ t
+        → (10 * n + (b - 48) ≤ most → Gives (digits_in most (10 * n + (b - 48)) bs) (λ m. m ≤ most))
+        → Gives (cond t (digits_in most (10 * n + (b - 48)) bs) None) (λ m. m ≤ most)
     go true e later = later (leb-true (10 * n + (b - 48)) most (both (is_digit b) (nat_le (10 * n + (b - 48)) most) e).1)
     go false e later = nothing
 
@@ -76,10 +84,15 @@ text_passes : (passes : List ℕ → Bool) (field : List ℕ) → Gives (text_th
 text_passes passes field = and_then Anything (text_in field) _ (anything (text_in field)) (λ text _. where_true (passes text) text (λ t. t))
 
 trace_within : (field : List ℕ) → Gives (trace_in field) IsTrace
-trace_within field = either (bytes_eq field (codes "-")) (Some None) (option_map Some (text_that is_trace field)) (gives None tt) (mapped (λ text. is_trace text ≡ true) (text_that is_trace field) Some (text_passes is_trace field) (λ text t. t))
+trace_within field =
+    either (bytes_eq field (codes "-")) (Some None) (option_map Some (text_that is_trace field)) (gives None tt)
+    (mapped (λ text. is_trace text ≡ true) (text_that is_trace field) Some (text_passes is_trace field) (λ text t. t))
 
 reservation_within : (field : List ℕ) → Gives (reservation_in field) IsReservation
-reservation_within field = either (bytes_eq field (codes "-")) (Some None) (option_map Some (number_in greatest_reservation field)) (gives None tt) (mapped (λ n. n ≤ greatest_reservation) (number_in greatest_reservation field) Some (number_within greatest_reservation field) (λ n t. t))
+reservation_within field =
+    either (bytes_eq field (codes "-")) (Some None) (option_map Some (number_in greatest_reservation field))
+    (gives None tt)
+    (mapped (λ n. n ≤ greatest_reservation) (number_in greatest_reservation field) Some (number_within greatest_reservation field) (λ n t. t))
 
 named_within : (config : Config) (name : List ℕ) → Gives (number_named config name) (IsFunction config)
 named_within config name =
@@ -107,7 +120,8 @@ env_and_count_within config line =
     and_then (IsEnv config) (env_in config two.0) _ (env_within config two.0) (λ e is_e.
     and_then IsCount (count_in two.1) _ (number_within greatest_count two.1) (λ n is_n. gives _ (is_e, is_n))))
 
-report_within : (config : Config) (line : List (List ℕ)) → Gives (report_in config line) (λ report. IsEnv config report.0 × IsCount report.1 × (is_body report.2 ≡ true))
+report_within : (config : Config) (line : List (List ℕ))
+    → Gives (report_in config line) (λ report. IsEnv config report.0 × IsCount report.1 × (is_body report.2 ≡ true))
 unfolding report_in
 report_within config line =
     and_then Anything (three_fields line) _ (anything (three_fields line)) (λ three _.
@@ -189,6 +203,8 @@ pub call_in_within : (reserves : Bool) (config : Config) (line : List ℕ) → I
 unfolding call_in
 call_in_within reserves config line = (timed_within reserves config (fields line)).holds
 
-pub read_within : {E : Type 0} (r : Result (Option (ℕ × Call)) E) (reserves : Bool) (config : Config) (line : List ℕ) → IfOk r (λ call. call ≡ call_in reserves config line) → IfOk r (λ call. IfSome call (IsTimed config))
-read_within (Ok call) reserves config line e = let P : Option (ℕ × Call) → Type 0 = λ call. IfSome call (IsTimed config) in subst P (sym e) (call_in_within reserves config line)
+pub read_within : {E : Type 0} (r : Result (Option (ℕ × Call)) E) (reserves : Bool) (config : Config) (line : List ℕ)
+    → IfOk r (λ call. call ≡ call_in reserves config line) → IfOk r (λ call. IfSome call (IsTimed config))
+read_within (Ok call) reserves config line e =
+    let P : Option (ℕ × Call) → Type 0 = λ call. IfSome call (IsTimed config) in subst P (sym e) (call_in_within reserves config line)
 read_within (Err error) reserves config line e = tt

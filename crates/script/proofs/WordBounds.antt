@@ -1,5 +1,7 @@
 -- How long words are, and that they have no control byte.
-use Rattle.std.proofs.Common.{◌≡◌, ℕ, zero, suc, ◌+◌, ◌*◌, ◌/◌, ◌%◌, ◌≤◌, ◌-◌, ◌^◌, Bool, true, false, ◌&&◌, ◌||◌, ◌==◌, nat_le, nat_lt, if◌then◌else◌, List, [], ◌∷◌, ◌++◌, length, codes, decimal, refl, ◌∙◌, arith, length-append}
+use Rattle.std.proofs.Common.{◌≡◌, ℕ, zero, suc, ◌+◌, ◌*◌, ◌/◌, ◌%◌, ◌≤◌, ◌-◌, ◌^◌, Bool, true, false, ◌&&◌, ◌||◌, ◌==◌}
+use Rattle.std.proofs.Common.{nat_le, nat_lt, if◌then◌else◌, List, [], ◌∷◌, ◌++◌, length, codes, decimal, refl, ◌∙◌}
+use Rattle.std.proofs.Common.{arith, length-append}
 use Rattle.std.specs.List.{list_all}
 use Rattle.std.specs.Fmt.{digits, digits_onto, digit_glyph}
 use Rattle.std.proofs.lemmas.Bool.{leb-true, le-leb, or_parts}
@@ -64,7 +66,9 @@ fits_decimal n = digits_fit 64 n 0 [] (fits_word 0 [] refl)
 index_fits : (n : ℕ) (f : ℕ → ℕ) → ((k : ℕ) → 32 ≤ f k) → Fits n (by_index n f)
 unfolding by_index
 index_fits zero f h = fits_word 0 [] refl
-index_fits (suc n) f h = fits_weaker (n + 1) (suc n) _ (omega arith) (fits_append n 1 (by_index n f) (f n ∷ []) (index_fits n f h) (fits_cons 0 (f n) [] (h n) (fits_word 0 [] refl)))
+index_fits (suc n) f h =
+    fits_weaker (n + 1) (suc n) _ (omega arith)
+    (fits_append n 1 (by_index n f) (f n ∷ []) (index_fits n f h) (fits_cons 0 (f n) [] (h n) (fits_word 0 [] refl)))
 
 hex_plain : (d : ℕ) → 32 ≤ hex_digit lower d
 hex_plain d = go (nat_lt d 10)
@@ -108,7 +112,10 @@ byte_fits b = go (is_escaped b) refl
 escaped_fits : (bytes : List ℕ) → Fits (3 * length bytes) (escaped bytes)
 unfolding escaped
 escaped_fits [] = fits_word 0 [] refl
-escaped_fits (b ∷ bytes) = fits_weaker (3 + 3 * length bytes) (3 * length (b ∷ bytes)) _ (omega arith) (fits_append 3 (3 * length bytes) (text_byte b) (escaped bytes) (byte_fits b) (escaped_fits bytes))
+escaped_fits (b ∷ bytes) =
+    fits_weaker (3 + 3 * length bytes) (3 * length (b ∷ bytes)) _ (omega arith)
+    (fits_append 3 (3 * length bytes) (text_byte b) (escaped bytes) (byte_fits b) (escaped_fits bytes))
 
 pub fits_text : (n : ℕ) (bytes : List ℕ) → length bytes ≤ n → Fits (suc (3 * n)) (text_field bytes)
-fits_text n bytes le = fits_cons (3 * n) 61 (escaped bytes) (omega arith) (fits_weaker (3 * length bytes) (3 * n) (escaped bytes) (omega (arith, le)) (escaped_fits bytes))
+fits_text n bytes le =
+    fits_cons (3 * n) 61 (escaped bytes) (omega arith) (fits_weaker (3 * length bytes) (3 * n) (escaped bytes) (omega (arith, le)) (escaped_fits bytes))

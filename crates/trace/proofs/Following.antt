@@ -1,5 +1,6 @@
 -- What an entry makes of each environment that a follower keeps.
-use Rattle.std.proofs.Common.{◌≡◌, ℕ, get_or, ◌+◌, ◌≤◌, ◌^◌, Bool, true, false, List, ◌∷◌, length, map, cond, All, refl, sym, ap, ap₂, ◌∙◌, arith, if◌then◌else◌}
+use Rattle.std.proofs.Common.{◌≡◌, ℕ, get_or, ◌+◌, ◌≤◌, ◌^◌, Bool, true, false, List, ◌∷◌, length, map, cond, All, refl}
+use Rattle.std.proofs.Common.{sym, ap, ap₂, ◌∙◌, arith, if◌then◌else◌}
 use Rattle.arn_ids.specs.declared.config.Config.{Config}
 use Rattle.arn_ids.specs.Environments.{environments, function_of}
 use Rattle.call_types.specs.declared.call.Entry.{Entry}
@@ -51,7 +52,9 @@ pub visit_sites : (config : Config) (h : List Entry) (entry : Entry) → IsLegal
     → map (visited_by (length h) entry.moment (reach h entry.place entry.call) entry.call) (sites config h) ≡ sites config (entry ∷ h)
 visit_sites config h entry l =
     sym (map_map (visited_by (length h) entry.moment (reach h entry.place entry.call) entry.call) (site config h) (environments config))
-    ∙ map_same (λ (e : ℕ). visited_by (length h) entry.moment (reach h entry.place entry.call) entry.call (site config h e)) (site config (entry ∷ h)) (λ e. visit_one config h entry e l) (environments config)
+    ∙ map_same
+    (λ (e : ℕ). visited_by (length h) entry.moment (reach h entry.place entry.call) entry.call (site config h e))
+    (site config (entry ∷ h)) (λ e. visit_one config h entry e l) (environments config)
 
 -- ---- how far the counts go
 

@@ -25,7 +25,8 @@ turns_here config k entry =
     ∙ map_same (λ (e : ℕ). turn_of (site config (entry ∷ k) e)) (turn_at config k entry) (λ e. refl) (environments config)
 
 -- the object that is told is the entry's
-pub told_here : (bodies : Bool) (config : Config) (salt : ℕ) (entries : List Entry) (ticket : ℕ) (x : Entry) (ss : List Followed) (d : Entry) → ticket < length entries
+pub told_here : (bodies : Bool) (config : Config) (salt : ℕ) (entries : List Entry) (ticket : ℕ) (x : Entry) (ss : List Followed) (d : Entry)
+    → ticket < length entries
     → x ≡ get_or entries ticket d → ss ≡ sites config (before (reverse entries) (ticket + 1))
     → told bodies config salt (reverse entries) ticket x (map turn_of ss) ≡ object_tokens bodies config salt (reverse entries) (before (reverse entries) ticket) (get_or entries ticket d)
 told_here bodies config salt entries ticket x ss d there is at =
@@ -36,6 +37,7 @@ told_here bodies config salt entries ticket x ss d there is at =
     ∙ ap₂ (λ (n : ℕ) (turns : List Turn). told bodies config salt h n y turns) (sym long) (turns_here config (before h ticket) y)
 
 -- the object of the draft
-pub drafted : (old new : Teller) (ts told object : List Token) → IsBegun old → Tells ts old new → ts ≡ object → (new.is_cut ≡ false) × (told ≡ tokens_of new.runs.items new.parts.items) → told ≡ object
+pub drafted : (old new : Teller) (ts told object : List Token) → IsBegun old → Tells ts old new → ts ≡ object
+    → (new.is_cut ≡ false) × (told ≡ tokens_of new.runs.items new.parts.items) → told ≡ object
 drafted old new ts told object begun tells is ended =
     ended.1 ∙ (tells.tokens ended.0).1 ∙ ap₂ (λ (rs : List Run) (ps : List Part). tokens_of rs ps ++ ts) begun.runs begun.parts ∙ is

@@ -16,7 +16,8 @@ use Rattle.trace.specs.declared.teller.Teller.{Teller}
 flat_next : (g : ℕ → List Token) (a n : ℕ) → flat_map g (count_from a (suc n)) ≡ flat_map g (count_from a n) ++ g (a + n)
 flat_next g a zero = append-nil (g a) ∙ ap g (let same : a ≡ a + 0 = omega arith in same)
 flat_next g a (suc n) =
-    ap (λ (ts : List Token). g a ++ ts) (flat_next g (suc a) n ∙ ap (λ k. flat_map g (count_from (suc a) n) ++ g k) (let same : suc a + n ≡ a + suc n = omega arith in same))
+    ap (λ (ts : List Token). g a ++ ts)
+    (flat_next g (suc a) n ∙ ap (λ k. flat_map g (count_from (suc a) n) ++ g k) (let same : suc a + n ≡ a + suc n = omega arith in same))
     ∙ sym (append_assoc (g a) (flat_map g (count_from (suc a) n)) (g (a + suc n)))
 
 -- the objects of one environment more
@@ -32,7 +33,8 @@ pub opens : (config : Config) (salt : ℕ) (h : List Entry) (entries : ℕ) (old
     → HasListed config salt h 0 (record { is_cut = new.is_cut; tokens = tokens_of new.runs.items new.parts.items })
 opens config salt h entries old new is begun tells whole =
     (tells.tokens whole).1
-    ∙ ap₂ (λ (rs : List Run) (ps : List Part). tokens_of rs ps ++ (begin_object ∷ key (codes "entries") ∷ number (decimal entries) ∷ key (codes "environments") ∷ begin_array ∷ [])) begun.runs begun.parts
+    ∙ ap₂
+    (λ (rs : List Run) (ps : List Part). tokens_of rs ps ++ (begin_object ∷ key (codes "entries") ∷ number (decimal entries) ∷ key (codes "environments") ∷ begin_array ∷ [])) begun.runs begun.parts
     ∙ ap (λ (n : ℕ). begin_object ∷ (number_member (codes "entries") n ++ key (codes "environments") ∷ begin_array ∷ [])) is
 
 -- one environment more
@@ -44,7 +46,9 @@ adds config salt h n e old new is tells has whole =
     let told = tells.tokens whole in
     told.1
     ∙ ap (λ (ts : List Token). ts ++ object_at config salt h e) (has told.0)
-    ∙ ap (λ (ts : List Token). begin_object ∷ (number_member (codes "entries") (length h) ++ key (codes "environments") ∷ begin_array ∷ ts)) (sym (flat_more (object_at config salt h) n e is))
+    ∙ ap
+    (λ (ts : List Token). begin_object ∷ (number_member (codes "entries") (length h) ++ key (codes "environments") ∷ begin_array ∷ ts))
+    (sym (flat_more (object_at config salt h) n e is))
 
 -- all of them
 pub listed : (config : Config) (salt : ℕ) (h : List Entry) (object : List Token) (old new : Teller)

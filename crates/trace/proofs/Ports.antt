@@ -26,7 +26,8 @@ port_here functions i place function d lt is within =
 
 -- it is behind them
 pub port_later : (functions : List Function) (i place : ℕ) (function : Function) → i < length functions → function ≡ get_or functions i function
-    → length function.slots ≤ place → at 0 (environment_ports (drop i functions)) place ≡ at 0 (environment_ports (drop (i + 1) functions)) (place - length function.slots)
+    → length function.slots ≤ place
+    → at 0 (environment_ports (drop i functions)) place ≡ at 0 (environment_ports (drop (i + 1) functions)) (place - length function.slots)
 port_later functions i place function lt is beyond =
     let past : length (map port_of function.slots) ≤ place = rw (length-map function.slots port_of) beyond in
     rw (ports_step functions i function lt is)

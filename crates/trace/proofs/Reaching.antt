@@ -1,5 +1,7 @@
 -- The environments that an entry reaches, among all.
-use Rattle.std.proofs.Common.{◌≡◌, ℕ, zero, suc, ◌+◌, ◌<◌, ◌==◌, Bool, true, false, if◌then◌else◌, cond, List, [], ◌∷◌, ◌++◌, length, map, take, drop, get_or, set, All, Option, Some, None, ◌⊎◌, inl, inr, refl, sym, ap, ◌∙◌, arith, true≢false}
+use Rattle.std.proofs.Common.{◌≡◌, ℕ, zero, suc, ◌+◌, ◌<◌, ◌==◌, Bool, true, false, if◌then◌else◌, cond, List, [], ◌∷◌}
+use Rattle.std.proofs.Common.{◌++◌, length, map, take, drop, get_or, set, All, Option, Some, None, ◌⊎◌, inl, inr, refl}
+use Rattle.std.proofs.Common.{sym, ap, ◌∙◌, arith, true≢false}
 use Rattle.std.proofs.lemmas.Bool.{ne_eqb}
 use Rattle.std.proofs.lemmas.List.{length-map, map-id}
 use Rattle.std.specs.List.{filter, flat_map}
@@ -11,7 +13,10 @@ use Rattle.call_types.specs.declared.answer.Reason.{Reason}
 use Rattle.call_types.specs.declared.answer.Reason.TheVariants.{Timeout, Failure, Spindown}
 use Rattle.call_types.specs.Calls.{is_invoke}
 use Rattle.call_types.specs.declared.call.Call.{Call}
-use Rattle.call_types.specs.declared.call.Call.TheVariants.{Invoke, RuntimeNext, Response, ResponseTooLarge, Failure, InitFailure, Register, ExtNext, ExtInitFailure, ExtExitFailure, Tick, Withdraw, Spindown, Stop, Expire, Reserve}
+use Rattle.call_types.specs.declared.call.Call.TheVariants.{Invoke, RuntimeNext, Response, ResponseTooLarge, Failure}
+use Rattle.call_types.specs.declared.call.Call.TheVariants.{InitFailure, Register, ExtNext, ExtInitFailure}
+use Rattle.call_types.specs.declared.call.Call.TheVariants.{ExtExitFailure, Tick, Withdraw, Spindown, Stop, Expire}
+use Rattle.call_types.specs.declared.call.Call.TheVariants.{Reserve}
 use Rattle.call_types.specs.declared.call.Entry.{Entry}
 use Rattle.call_model.specs.Laws.{no_longer}
 use Rattle.call_model.specs.Life.{life, seen as met}
@@ -32,7 +37,8 @@ use Rattle.trace.proofs.Telling.{flat_mapped}
 
 -- some environment, of which nothing is known
 pub no_site : Followed
-no_site = record { number = 0; requests = 0; before = Off; site = record { function = 0; environment = record { fixed = record { timeout = 0; expected = [] }; stand = unused } } }
+no_site =
+    record { number = 0; requests = 0; before = Off; site = record { function = 0; environment = record { fixed = record { timeout = 0; expected = [] }; stand = unused } } }
 
 -- ---- the environment with a number
 
@@ -64,7 +70,8 @@ none_has e a (s ∷ ss) is away =
     rw (is_other e a s (ap first is) (λ same. away 0 (omega arith) (omega (arith, same))))
     (none_has e (suc a) ss (ap rest is) (λ i lt same. away (suc i) (omega (arith, lt)) (omega (arith, same))))
 
-pub none_moves : (g : Followed → Followed) (e a : ℕ) (ss : List Followed) → IsFrom a ss → ((i : ℕ) → i < length ss → e ≡ a + i → ⊥) → ss ≡ map (λ s. if e == s.number then g s else s) ss
+pub none_moves : (g : Followed → Followed) (e a : ℕ) (ss : List Followed) → IsFrom a ss
+    → ((i : ℕ) → i < length ss → e ≡ a + i → ⊥) → ss ≡ map (λ s. if e == s.number then g s else s) ss
 none_moves g e a [] is away = refl
 none_moves g e a (s ∷ ss) is away =
     rw (is_other e a s (ap first is) (λ same. away 0 (omega arith) (omega (arith, same))))
@@ -110,7 +117,8 @@ all_kept (s ∷ ss) = ap (λ xs. s ∷ xs) (all_kept ss)
 
 -- ---- what is true of all stays true
 
-numbers_kept : (f : Followed → Followed) → ((s : Followed) → (f s).number ≡ s.number) → (ss : List Followed) → map (λ s. s.number) (map f ss) ≡ map (λ s. s.number) ss
+numbers_kept : (f : Followed → Followed) → ((s : Followed) → (f s).number ≡ s.number) → (ss : List Followed)
+    → map (λ s. s.number) (map f ss) ≡ map (λ s. s.number) ss
 numbers_kept f same ss = sym (map_map number f ss) ∙ map_same (λ s. (f s).number) number same ss
 
 pub numbered_after : (f : Followed → Followed) → ((s : Followed) → (f s).number ≡ s.number) → (ss : List Followed) → IsNumbered ss → IsNumbered (map f ss)
@@ -165,7 +173,9 @@ nothing_counted call ss is = sym (map-id ss) ∙ map_same (λ s. s) (counted_in 
 -- before any entry
 pub seen_first : (config : Config) → map (seen Nowhere) (sites config []) ≡ sites config []
 unfolding life met
-seen_first config = sym (map_map (seen Nowhere) (site config []) (environments config)) ∙ map_same (λ e. seen Nowhere (site config [] e)) (site config []) (λ e. refl) (environments config)
+seen_first config =
+    sym (map_map (seen Nowhere) (site config []) (environments config))
+    ∙ map_same (λ e. seen Nowhere (site config [] e)) (site config []) (λ e. refl) (environments config)
 
 seen_one : (arrival : Arrival) (r : Reach) (s : Followed) → seen arrival.reach (moved_if arrival (counted_in arrival.call.now s)) ≡ visited arrival (seen r s)
 seen_one arrival r s = go (reaches arrival.reach s.number) refl
@@ -175,7 +185,8 @@ seen_one arrival r s = go (reaches arrival.reach s.number) refl
     go false q = rw (q, q) refl
 
 -- after one more
-pub seen_next : (arrival : Arrival) (r : Reach) (ss : List Followed) → map (seen arrival.reach) (map (moved_if arrival) (map (counted_in arrival.call.now) ss)) ≡ map (visited arrival) (map (seen r) ss)
+pub seen_next : (arrival : Arrival) (r : Reach) (ss : List Followed)
+    → map (seen arrival.reach) (map (moved_if arrival) (map (counted_in arrival.call.now) ss)) ≡ map (visited arrival) (map (seen r) ss)
 seen_next arrival r [] = refl
 seen_next arrival r (s ∷ ss) = rw (seen_one arrival r s) (ap (λ xs. visited arrival (seen r s) ∷ xs) (seen_next arrival r ss))
 

@@ -1,5 +1,7 @@
 -- The call of an entry is read back from the tokens of its object.
-use Rattle.std.proofs.Common.{◌≡◌, ℕ, zero, suc, ◌<◌, ◌≤◌, ◌^◌, Bool, true, false, if◌then◌else◌, bytes_eq, List, [], ◌∷◌, ◌++◌, drop, codes, decimal, Option, Some, None, option_map, length, All, refl, ap, ◌∙◌, arith, append_assoc}
+use Rattle.std.proofs.Common.{◌≡◌, ℕ, zero, suc, ◌<◌, ◌≤◌, ◌^◌, Bool, true, false, if◌then◌else◌, bytes_eq, List, []}
+use Rattle.std.proofs.Common.{◌∷◌, ◌++◌, drop, codes, decimal, Option, Some, None, option_map, length, All, refl, ap}
+use Rattle.std.proofs.Common.{◌∙◌, arith, append_assoc}
 use Rattle.std.proofs.lemmas.Fmt.{decimal_is_IsNumeral}
 use Rattle.std.specs.List.{flat_map}
 use Rattle.std.specs.Result.{result_ok}
@@ -16,9 +18,15 @@ use Rattle.base64.proofs.EngineFacts.{decode_of-encode_of}
 use Rattle.call_types.specs.Calls.{body_of}
 use Rattle.call_types.specs.Within.{IsEnv, IsFunction}
 use Rattle.call_types.specs.declared.answer.Answer.{Answer}
-use Rattle.call_types.specs.declared.answer.Answer.TheVariants.{Delivered, Told, Ending, Registered, Accepted, Done, Output, Error, TimedOut, InitTimedOut, OutputTooLarge, Throttled, Stopped, Withdrawn, Refused, Reserved, Unreserved}
+use Rattle.call_types.specs.declared.answer.Answer.TheVariants.{Delivered, Told, Ending, Registered, Accepted, Done}
+use Rattle.call_types.specs.declared.answer.Answer.TheVariants.{Output, Error, TimedOut, InitTimedOut, OutputTooLarge}
+use Rattle.call_types.specs.declared.answer.Answer.TheVariants.{Throttled, Stopped, Withdrawn, Refused, Reserved}
+use Rattle.call_types.specs.declared.answer.Answer.TheVariants.{Unreserved}
 use Rattle.call_types.specs.declared.call.Call.{Call}
-use Rattle.call_types.specs.declared.call.Call.TheVariants.{Invoke, RuntimeNext, Response, ResponseTooLarge, Failure, InitFailure, Register, ExtNext, ExtInitFailure, ExtExitFailure, Tick, Withdraw, Spindown, Stop, Expire, Reserve}
+use Rattle.call_types.specs.declared.call.Call.TheVariants.{Invoke, RuntimeNext, Response, ResponseTooLarge, Failure}
+use Rattle.call_types.specs.declared.call.Call.TheVariants.{InitFailure, Register, ExtNext, ExtInitFailure}
+use Rattle.call_types.specs.declared.call.Call.TheVariants.{ExtExitFailure, Tick, Withdraw, Spindown, Stop, Expire}
+use Rattle.call_types.specs.declared.call.Call.TheVariants.{Reserve}
 use Rattle.call_types.specs.declared.call.Entry.{Entry}
 use Rattle.json.specs.Lex.{tokens}
 use Rattle.json.specs.Print.{print}
@@ -28,7 +36,9 @@ use Rattle.trace.specs.Members.{body_member, number_if, object, text_member}
 use Rattle.trace.specs.CallObject.{call_object, trace_if}
 use Rattle.trace.specs.AnswerObject.{answer_object}
 use Rattle.trace.specs.Object.{charged_at, expired, object_tokens, told, Turn, turns_at}
-use Rattle.trace.specs.Reading.{member, after_list, after_object, body_in, invoke_in, counted_in, report_in, init_failure_in, register_in, reserve_in, extension_call_in, runtime_call_in, call_by_kind, call_in, entry_in, line_in, IsTold}
+use Rattle.trace.specs.Reading.{member, after_list, after_object, body_in, invoke_in, counted_in, report_in}
+use Rattle.trace.specs.Reading.{init_failure_in, register_in, reserve_in, extension_call_in, runtime_call_in}
+use Rattle.trace.specs.Reading.{call_by_kind, call_in, entry_in, line_in, IsTold}
 
 -- ---- numbers and bytes
 
@@ -65,7 +75,8 @@ unfolding member body_in
 either_back true body rest small none = refl
 either_back false body rest small none = rw none (decoded body small)
 
-body_back : (body : List ℕ) (rest : List Token) → All (λ x. x < 256) body → member (codes "body") rest ≡ None → body_in (body_member true body ++ rest) ≡ Some body
+body_back : (body : List ℕ) (rest : List Token) → All (λ x. x < 256) body → member (codes "body") rest ≡ None
+    → body_in (body_member true body ++ rest) ≡ Some body
 unfolding body_member
 body_back body rest small none = either_back (is_utf8 body) body rest small none
 
@@ -81,10 +92,12 @@ body_list : (bodies : Bool) (body : List ℕ) (rest more : List Token) → after
 unfolding body_member
 body_list false body rest more = refl
 body_list true body rest more =
-    ap after_list (append_assoc (if is_utf8 body then text_member (codes "body") body else text_member (codes "bodyBase64") (encode_of standard body)) rest more)
+    ap after_list
+    (append_assoc (if is_utf8 body then text_member (codes "body") body else text_member (codes "bodyBase64") (encode_of standard body)) rest more)
     ∙ either_list (is_utf8 body) body (encode_of standard body) (rest ++ more)
 
-answer_past : (bodies : Bool) (salt : ℕ) (h : List Entry) (t : ℕ) (answer : Answer) (more : List Token) → after_list (answer_object bodies salt h t answer ++ more) ≡ after_list more
+answer_past : (bodies : Bool) (salt : ℕ) (h : List Entry) (t : ℕ) (answer : Answer) (more : List Token)
+    → after_list (answer_object bodies salt h t answer ++ more) ≡ after_list more
 unfolding after_list answer_object
 answer_past bodies salt h t (Delivered p deadline) more = body_list bodies _ _ more
 answer_past bodies salt h t (Told p deadline event) more = refl
@@ -127,7 +140,8 @@ either_object false text coded rest = refl
 body_object : (body : List ℕ) (rest more : List Token) → after_object ((body_member true body ++ rest) ++ more) ≡ after_object (rest ++ more)
 unfolding body_member
 body_object body rest more =
-    ap after_object (append_assoc (if is_utf8 body then text_member (codes "body") body else text_member (codes "bodyBase64") (encode_of standard body)) rest more)
+    ap after_object
+    (append_assoc (if is_utf8 body then text_member (codes "body") body else text_member (codes "bodyBase64") (encode_of standard body)) rest more)
     ∙ either_object (is_utf8 body) body (encode_of standard body) (rest ++ more)
 
 call_past : (config : Config) (call : Call) (more : List Token) → after_object (call_object true config call ++ more) ≡ more
@@ -244,21 +258,25 @@ call_again config (Invoke f qualified trace body) more sound (is_f, is_t, is_b) 
 call_again config (RuntimeNext e) more sound is small = rw (number_again e (env_small config e sound is)) refl
 call_again config (Response e n body) more sound (is_e, is_n, is_b) small =
     ap (call_in config) (append_assoc (body_member true body) _ more)
-    ∙ rw (report_kind (codes "response") (codes "id") body e n more an_id, report_again (codes "response") (codes "id") body e n more an_id (env_small config e sound is_e) (omega arith) small) refl
+    ∙ rw
+    (report_kind (codes "response") (codes "id") body e n more an_id, report_again (codes "response") (codes "id") body e n more an_id (env_small config e sound is_e) (omega arith) small) refl
 call_again config (ResponseTooLarge e n) more sound (is_e, is_n) small = rw (number_again e (env_small config e sound is_e), number_again n (omega arith)) refl
 call_again config (Failure e n body) more sound (is_e, is_n, is_b) small =
     ap (call_in config) (append_assoc (body_member true body) _ more)
-    ∙ rw (report_kind (codes "failure") (codes "id") body e n more an_id, report_again (codes "failure") (codes "id") body e n more an_id (env_small config e sound is_e) (omega arith) small) refl
+    ∙ rw
+    (report_kind (codes "failure") (codes "id") body e n more an_id, report_again (codes "failure") (codes "id") body e n more an_id (env_small config e sound is_e) (omega arith) small) refl
 call_again config (InitFailure e body) more sound (is_e, is_b) small =
     ap (call_in config) (append_assoc (body_member true body) _ more) ∙ init_failed_again config e body more (env_small config e sound is_e) small
 call_again config (Register e name invoke shutdown account) more sound (is_e, is_n) small = rw (number_again e (env_small config e sound is_e)) refl
 call_again config (ExtNext e x) more sound (is_e, is_x) small = rw (number_again e (env_small config e sound is_e), number_again x (omega arith)) refl
 call_again config (ExtInitFailure e n body) more sound (is_e, is_n, is_b) small =
     ap (call_in config) (append_assoc (body_member true body) _ more)
-    ∙ rw (report_kind (codes "ext-init-failure") (codes "extension") body e n more an_extension, report_again (codes "ext-init-failure") (codes "extension") body e n more an_extension (env_small config e sound is_e) (omega arith) small) refl
+    ∙ rw
+    (report_kind (codes "ext-init-failure") (codes "extension") body e n more an_extension, report_again (codes "ext-init-failure") (codes "extension") body e n more an_extension (env_small config e sound is_e) (omega arith) small) refl
 call_again config (ExtExitFailure e n body) more sound (is_e, is_n, is_b) small =
     ap (call_in config) (append_assoc (body_member true body) _ more)
-    ∙ rw (report_kind (codes "ext-exit-failure") (codes "extension") body e n more an_extension, report_again (codes "ext-exit-failure") (codes "extension") body e n more an_extension (env_small config e sound is_e) (omega arith) small) refl
+    ∙ rw
+    (report_kind (codes "ext-exit-failure") (codes "extension") body e n more an_extension, report_again (codes "ext-exit-failure") (codes "extension") body e n more an_extension (env_small config e sound is_e) (omega arith) small) refl
 call_again config Tick more sound is small = refl
 call_again config (Withdraw t) more sound is small = rw (number_again t (omega arith)) refl
 call_again config (Spindown e) more sound is small = rw (number_again e (env_small config e sound is)) refl
@@ -288,7 +306,8 @@ pub read_back : (config : Config) (salt : ℕ) (h : List Entry) (ticket : ℕ) (
     → entry_in config (told true config salt h ticket entry turns) ≡ Some (entry.moment, entry.call)
 unfolding told after_list
 read_back config salt h ticket entry turns sound early is small =
-    entry_again config _ _ _ entry.call entry.moment (answers_past true salt h entry.answers _) (call_again config entry.call _ sound is small) (call_past config entry.call _)
+    entry_again config _ _ _ entry.call entry.moment (answers_past true salt h entry.answers _)
+    (call_again config entry.call _ sound is small) (call_past config entry.call _)
     (moment_again (charged_at ticket entry.place) (expired entry.call) entry.moment _) (omega arith)
 
 pub written_again : (config : Config) (salt : ℕ) (h older : List Entry) (entry : Entry)
@@ -297,4 +316,5 @@ pub written_again : (config : Config) (salt : ℕ) (h older : List Entry) (entry
     → line_in config (print (object_tokens true config salt h older entry)) ≡ Some (call_text config entry.moment entry.call)
 written_again config salt h older entry sound early is small reads =
     ap (λ (ts : List Token). option_map (λ (timed : ℕ × Call). call_text config timed.0 timed.1) (entry_in config ts)) reads
-    ∙ ap (option_map (λ (timed : ℕ × Call). call_text config timed.0 timed.1)) (read_back config salt h (length older) entry (turns_at config older entry) sound early is small)
+    ∙ ap (option_map (λ (timed : ℕ × Call). call_text config timed.0 timed.1))
+    (read_back config salt h (length older) entry (turns_at config older entry) sound early is small)

@@ -1,5 +1,6 @@
 -- What is written in one go, and run by run.
-use Rattle.std.proofs.Common.{◌≡◌, ℕ, zero, suc, ◌+◌, ◌<◌, Bool, true, false, if◌then◌else◌, List, [], ◌∷◌, ◌++◌, length, take, map, fold, get_or, codes, refl, sym, ap, ◌∙◌, arith, append_assoc, add-one}
+use Rattle.std.proofs.Common.{◌≡◌, ℕ, zero, suc, ◌+◌, ◌<◌, Bool, true, false, if◌then◌else◌, List, [], ◌∷◌, ◌++◌}
+use Rattle.std.proofs.Common.{length, take, map, fold, get_or, codes, refl, sym, ap, ◌∙◌, arith, append_assoc, add-one}
 use Rattle.std.proofs.lemmas.List.{append-nil}
 use Rattle.std.specs.List.{flat_map}
 use Rattle.std.specs.Str.{is_utf8}
@@ -35,7 +36,8 @@ unfolding body_member
 inset_ends c ts (Copied text) = ends_push c ts (string text)
 inset_ends c ts (Body body) = body_ends (is_utf8 body)
   where
-    body_ends : (b : Bool) → fold (λ _ u. ends u) c (ts ++ (if b then text_member (codes "body") body else text_member (codes "bodyBase64") (encode_of standard body))) ≡ true
+    body_ends : (b : Bool)
+        → fold (λ _ u. ends u) c (ts ++ (if b then text_member (codes "body") body else text_member (codes "bodyBase64") (encode_of standard body))) ≡ true
     body_ends true = member_ends c ts (codes "body") body
     body_ends false = member_ends c ts (codes "bodyBase64") (encode_of standard body)
 
@@ -48,10 +50,13 @@ fold_append c [] us = refl
 fold_append c (t ∷ ts) us = fold_append (ends t) ts us
 
 -- one run more
-flat_more : (xs : List Run) (i : ℕ) (d : Run) → i < length xs → flat_map run_tokens (take i xs) ++ run_tokens (get_or xs i d) ≡ flat_map run_tokens (take (suc i) xs)
+flat_more : (xs : List Run) (i : ℕ) (d : Run) → i < length xs
+    → flat_map run_tokens (take i xs) ++ run_tokens (get_or xs i d) ≡ flat_map run_tokens (take (suc i) xs)
 flat_more [] i d lt = absurd (omega arith)
 flat_more (x ∷ xs) zero d lt = sym (append-nil (run_tokens x))
-flat_more (x ∷ xs) (suc i) d lt = append_assoc (run_tokens x) (flat_map run_tokens (take i xs)) (run_tokens (get_or xs i d)) ∙ ap (λ (ts : List Token). run_tokens x ++ ts) (flat_more xs i d (omega arith))
+flat_more (x ∷ xs) (suc i) d lt =
+    append_assoc (run_tokens x) (flat_map run_tokens (take i xs)) (run_tokens (get_or xs i d))
+    ∙ ap (λ (ts : List Token). run_tokens x ++ ts) (flat_more xs i d (omega arith))
 
 pub run_more : (xs : List Run) (i : ℕ) (d : Run) (after : Bool) (old mid new : List ℕ) → i < length xs
     → mid ≡ old ++ print (flat_map run_tokens (take i xs)) → after ≡ ends_value (flat_map run_tokens (take i xs))
@@ -72,7 +77,8 @@ run_after xs i d lt =
     ∙ ap (λ (l : List Token). ends_value l) (flat_more xs i d lt)
 
 -- the name of a member, and its text between two quotes
-pub named : (after : Bool) (ts : List Token) (name text : List ℕ) → print_from after (ts ++ text_member name text) ≡ print_from after (ts ++ key name ∷ []) ++ 34 ∷ (escape text ++ 34 ∷ [])
+pub named : (after : Bool) (ts : List Token) (name text : List ℕ)
+    → print_from after (ts ++ text_member name text) ≡ print_from after (ts ++ key name ∷ []) ++ 34 ∷ (escape text ++ 34 ∷ [])
 unfolding print_from
 named after ts name text =
     ap (print_from after) (sym (append_assoc ts (key name ∷ []) (string text ∷ [])))
@@ -81,12 +87,14 @@ named after ts name text =
     ∙ ap (λ (l : List ℕ). print_from after (ts ++ key name ∷ []) ++ l) (append-nil (34 ∷ (escape text ++ 34 ∷ [])))
 
 -- the runs, and the parts behind them
-pub whole_line : (ts us : List Token) (after : Bool) (first second : List ℕ) → first ≡ print ts → after ≡ ends_value ts → second ≡ first ++ print_from after us → second ≡ print (ts ++ us)
+pub whole_line : (ts us : List Token) (after : Bool) (first second : List ℕ) → first ≡ print ts → after ≡ ends_value ts
+    → second ≡ first ++ print_from after us → second ≡ print (ts ++ us)
 whole_line ts us after first second is ends more =
     more ∙ ap (λ (l : List ℕ). l ++ print_from after us) is ∙ ap (λ (b : Bool). print ts ++ print_from b us) ends ∙ sym (print_from-append false ts us)
 
 -- what was written where an empty string takes the value's place
-pub begun_behind : (after : Bool) (start written added : List Token) → start ≡ primed after [] → written ≡ start ++ added → print written ≡ quotes after ++ print_from after added
+pub begun_behind : (after : Bool) (start written added : List Token) → start ≡ primed after []
+    → written ≡ start ++ added → print written ≡ quotes after ++ print_from after added
 begun_behind after start written added begun is =
     ap print (is ∙ ap (λ (l : List Token). l ++ added) begun ∙ primed-append after added) ∙ print-primed after added
 
@@ -105,7 +113,8 @@ pub body_joined : (after : Bool) (ts member : List Token) (name content coded_bo
 body_joined after ts member name content coded_body t0 t1 t2 t3 t4 is same first quote body last =
     let p : List ℕ = print_from after (ts ++ key name ∷ []) in
     let e : List ℕ = escape content in
-    last ∙ ap (λ (l : List ℕ). l ++ 34 ∷ []) (body ∙ ap (λ (l : List ℕ). t2 ++ l) same ∙ ap (λ (l : List ℕ). l ++ e) (quote ∙ ap (λ (l : List ℕ). l ++ 34 ∷ []) first))
+    last
+    ∙ ap (λ (l : List ℕ). l ++ 34 ∷ []) (body ∙ ap (λ (l : List ℕ). t2 ++ l) same ∙ ap (λ (l : List ℕ). l ++ e) (quote ∙ ap (λ (l : List ℕ). l ++ 34 ∷ []) first))
     ∙ append_assoc ((t0 ++ p) ++ 34 ∷ []) e (34 ∷ [])
     ∙ append_assoc (t0 ++ p) (34 ∷ []) (e ++ 34 ∷ [])
     ∙ append_assoc t0 p (34 ∷ (e ++ 34 ∷ []))

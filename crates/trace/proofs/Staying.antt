@@ -6,9 +6,15 @@ use Rattle.arn_ids.specs.declared.identifiers.IdKind.TheVariants.{Extension, Eve
 use Rattle.call_types.specs.Calls.{body_of}
 use Rattle.call_types.specs.Words.{reason_word}
 use Rattle.call_types.specs.declared.answer.Answer.{Answer}
-use Rattle.call_types.specs.declared.answer.Answer.TheVariants.{Delivered, Told, Ending, Registered, Accepted, Done, Output, Error, TimedOut, InitTimedOut, OutputTooLarge, Throttled, Stopped, Withdrawn, Refused, Reserved, Unreserved}
+use Rattle.call_types.specs.declared.answer.Answer.TheVariants.{Delivered, Told, Ending, Registered, Accepted, Done}
+use Rattle.call_types.specs.declared.answer.Answer.TheVariants.{Output, Error, TimedOut, InitTimedOut, OutputTooLarge}
+use Rattle.call_types.specs.declared.answer.Answer.TheVariants.{Throttled, Stopped, Withdrawn, Refused, Reserved}
+use Rattle.call_types.specs.declared.answer.Answer.TheVariants.{Unreserved}
 use Rattle.call_types.specs.declared.call.Call.{Call}
-use Rattle.call_types.specs.declared.call.Call.TheVariants.{Invoke, RuntimeNext, Response, ResponseTooLarge, Failure, InitFailure, Register, ExtNext, ExtInitFailure, ExtExitFailure, Tick, Withdraw, Spindown, Stop, Expire, Reserve}
+use Rattle.call_types.specs.declared.call.Call.TheVariants.{Invoke, RuntimeNext, Response, ResponseTooLarge, Failure}
+use Rattle.call_types.specs.declared.call.Call.TheVariants.{InitFailure, Register, ExtNext, ExtInitFailure}
+use Rattle.call_types.specs.declared.call.Call.TheVariants.{ExtExitFailure, Tick, Withdraw, Spindown, Stop, Expire}
+use Rattle.call_types.specs.declared.call.Call.TheVariants.{Reserve}
 use Rattle.call_types.specs.declared.call.Entry.{Entry}
 use Rattle.call_model.specs.Isolation.{named}
 use Rattle.call_model.specs.Next.{IsLegal}
@@ -29,25 +35,34 @@ body_old bodies e h p lt = ap (λ (c : Call). body_member bodies (body_of c)) (c
 
 -- ---- its object
 
-object_old : (bodies : Bool) (salt : ℕ) (e : Entry) (h : List Entry) (t : ℕ) (a : Answer) → t < length h → ((p : ℕ) → named a ≡ Some p → p < length h) → answer_object bodies salt (e ∷ h) t a ≡ answer_object bodies salt h t a
+object_old : (bodies : Bool) (salt : ℕ) (e : Entry) (h : List Entry) (t : ℕ) (a : Answer) → t < length h
+    → ((p : ℕ) → named a ≡ Some p → p < length h)
+    → answer_object bodies salt (e ∷ h) t a ≡ answer_object bodies salt h t a
 unfolding answer_object
 object_old bodies salt e h t (Delivered p deadline) lt made =
-    ap₂ (λ (body : List Token) (w : List ℕ). object (answer (codes "deliver") ∷ body ∷ number_member (codes "deadline") deadline ∷ number_member (codes "invoke") p ∷ text_member (codes "request") w ∷ ticket t ∷ []))
+    ap₂
+    (λ (body : List Token) (w : List ℕ). object (answer (codes "deliver") ∷ body ∷ number_member (codes "deadline") deadline ∷ number_member (codes "invoke") p ∷ text_member (codes "request") w ∷ ticket t ∷ []))
     (body_old bodies e h p (made p refl)) (request_old salt e h p (made p refl))
 object_old bodies salt e h t (Told p deadline event) lt made =
-    ap₂ (λ (v w : List ℕ). object (answer (codes "tell") ∷ number_member (codes "deadline") deadline ∷ text_member (codes "event") v ∷ number_member (codes "invoke") p ∷ text_member (codes "request") w ∷ ticket t ∷ []))
+    ap₂
+    (λ (v w : List ℕ). object (answer (codes "tell") ∷ number_member (codes "deadline") deadline ∷ text_member (codes "event") v ∷ number_member (codes "invoke") p ∷ text_member (codes "request") w ∷ ticket t ∷ []))
     (env_old salt Event e h t event lt) (request_old salt e h p (made p refl))
 object_old bodies salt e h t (Ending reason until event) lt made =
-    ap (λ (v : List ℕ). object (answer (codes "shutdown") ∷ number_member (codes "deadline") until ∷ text_member (codes "event") v ∷ text_member (codes "reason") (reason_word reason) ∷ ticket t ∷ []))
+    ap
+    (λ (v : List ℕ). object (answer (codes "shutdown") ∷ number_member (codes "deadline") until ∷ text_member (codes "event") v ∷ text_member (codes "reason") (reason_word reason) ∷ ticket t ∷ []))
     (env_old salt Event e h t event lt)
 object_old bodies salt e h t (Registered count) lt made =
     ap (λ (v : List ℕ). object (answer (codes "registered") ∷ text_member (codes "extension") v ∷ ticket t ∷ [])) (env_old salt Extension e h t count lt)
 object_old bodies salt e h t Accepted lt made = refl
 object_old bodies salt e h t Done lt made = refl
 object_old bodies salt e h t (Output source) lt made =
-    ap (λ (body : List Token). object (answer (codes "output") ∷ body ∷ number_member (codes "source") source ∷ ticket t ∷ [])) (body_old bodies e h source (made source refl))
+    ap
+    (λ (body : List Token). object (answer (codes "output") ∷ body ∷ number_member (codes "source") source ∷ ticket t ∷ []))
+    (body_old bodies e h source (made source refl))
 object_old bodies salt e h t (Error source) lt made =
-    ap (λ (body : List Token). object (answer (codes "error") ∷ body ∷ number_member (codes "source") source ∷ ticket t ∷ [])) (body_old bodies e h source (made source refl))
+    ap
+    (λ (body : List Token). object (answer (codes "error") ∷ body ∷ number_member (codes "source") source ∷ ticket t ∷ []))
+    (body_old bodies e h source (made source refl))
 object_old bodies salt e h t TimedOut lt made = refl
 object_old bodies salt e h t InitTimedOut lt made = refl
 object_old bodies salt e h t OutputTooLarge lt made = refl
@@ -63,7 +78,9 @@ objects_old : (bodies : Bool) (salt : ℕ) (e : Entry) (h : List Entry) (n : ℕ
 objects_old bodies salt e h n [] bounded lt = refl
 objects_old bodies salt e h n (a ∷ rest) bounded lt =
     let made : (p : ℕ) → named a.1 ≡ Some p → p < length h = λ p q. (let le = bounded.1 p q in omega (arith, le, lt)) in
-    ap₂ (λ (first others : List Token). first ++ others) (object_old bodies salt e h a.0 a.1 (omega (arith, bounded.0, lt)) made) (objects_old bodies salt e h n rest bounded.2 lt)
+    ap₂ (λ (first others : List Token). first ++ others)
+    (object_old bodies salt e h a.0 a.1 (omega (arith, bounded.0, lt)) made)
+    (objects_old bodies salt e h n rest bounded.2 lt)
 
 own_old : (salt : ℕ) (e : Entry) (h : List Entry) (t : ℕ) (call : Call) → t < length h → request_if salt (e ∷ h) t call ≡ request_if salt h t call
 own_old salt e h t (Invoke f qualified trace body) lt = ap (λ (w : List ℕ). text_member (codes "request") w) (request_old salt e h t lt)
@@ -85,7 +102,8 @@ own_old salt e h t (Reserve f count) lt = refl
 
 -- ---- the line
 
-line_old : (bodies : Bool) (config : Config) (salt : ℕ) (e : Entry) (h older : List Entry) (entry : Entry) → IsLegal config (entry ∷ older) → length older < length h
+line_old : (bodies : Bool) (config : Config) (salt : ℕ) (e : Entry) (h older : List Entry) (entry : Entry)
+    → IsLegal config (entry ∷ older) → length older < length h
     → object_text bodies config salt (e ∷ h) older entry ≡ object_text bodies config salt h older entry
 unfolding object_text told
 line_old bodies config salt e h older entry l lt =
@@ -104,7 +122,8 @@ line_old bodies config salt e h older entry l lt =
     (objects_old bodies salt e h t entry.answers (entry_bounded config older entry l) lt)
     (own_old salt e h t entry.call lt)
 
-pub lines_stay : (bodies : Bool) (config : Config) (salt : ℕ) (h newer older : List Entry) (entry : Entry) → IsLegal config (entry ∷ older) → length older < length h
+pub lines_stay : (bodies : Bool) (config : Config) (salt : ℕ) (h newer older : List Entry) (entry : Entry)
+    → IsLegal config (entry ∷ older) → length older < length h
     → object_text bodies config salt (newer ++ h) older entry ≡ object_text bodies config salt h older entry
 lines_stay bodies config salt h [] older entry l lt = refl
 lines_stay bodies config salt h (e ∷ newer) older entry l lt =

@@ -1,5 +1,6 @@
 -- What is told after what was told.
-use Rattle.std.proofs.Common.{◌≡◌, ℕ, zero, suc, ◌<◌, Bool, true, false, if◌then◌else◌, List, [], ◌∷◌, ◌++◌, length, take, map, get_or, codes, refl, sym, ap, ◌∙◌, subst, arith, append_assoc, Result}
+use Rattle.std.proofs.Common.{◌≡◌, ℕ, zero, suc, ◌<◌, Bool, true, false, if◌then◌else◌, List, [], ◌∷◌, ◌++◌, length}
+use Rattle.std.proofs.Common.{take, map, get_or, codes, refl, sym, ap, ◌∙◌, subst, arith, append_assoc, Result}
 use Rattle.std.proofs.lemmas.Grind.{flat_map-append}
 use Rattle.std.proofs.lemmas.List.{append-nil, map-append}
 use Rattle.std.proofs.lemmas.Str.{is_utf8-from_IsUtf8, IsUtf8-from_is_utf8}
@@ -36,16 +37,22 @@ one_mapped f (x ∷ xs) zero d lt = refl
 one_mapped f (x ∷ xs) (suc i) d lt = ap (λ (ts : List Token). f x ∷ ts) (one_mapped f xs i d (omega arith))
 
 -- one token more
-pub tells_one_more : {A : Type 0} (f : A → Token) (xs : List A) (i : ℕ) (d : A) (old mid new : Teller) → i < length xs → Tells (map f (take i xs)) old mid → Tells (f (get_or xs i d) ∷ []) mid new → Tells (map f (take (suc i) xs)) old new
+pub tells_one_more : {A : Type 0} (f : A → Token) (xs : List A) (i : ℕ) (d : A) (old mid new : Teller) → i < length xs
+    → Tells (map f (take i xs)) old mid → Tells (f (get_or xs i d) ∷ []) mid new
+    → Tells (map f (take (suc i) xs)) old new
 tells_one_more f xs i d old mid new lt a b = tells_same _ _ old new (one_mapped f xs i d lt) (tells_after _ _ old mid new a b)
 
-one_flat : {A : Type 0} (f : A → List Token) (xs : List A) (i : ℕ) (d : A) → i < length xs → flat_map f (take i xs) ++ f (get_or xs i d) ≡ flat_map f (take (suc i) xs)
+one_flat : {A : Type 0} (f : A → List Token) (xs : List A) (i : ℕ) (d : A) → i < length xs
+    → flat_map f (take i xs) ++ f (get_or xs i d) ≡ flat_map f (take (suc i) xs)
 one_flat f [] i d lt = absurd (omega arith)
 one_flat f (x ∷ xs) zero d lt = sym (append-nil (f x))
-one_flat f (x ∷ xs) (suc i) d lt = append_assoc (f x) (flat_map f (take i xs)) (f (get_or xs i d)) ∙ ap (λ (ts : List Token). f x ++ ts) (one_flat f xs i d (omega arith))
+one_flat f (x ∷ xs) (suc i) d lt =
+    append_assoc (f x) (flat_map f (take i xs)) (f (get_or xs i d)) ∙ ap (λ (ts : List Token). f x ++ ts) (one_flat f xs i d (omega arith))
 
 -- the text of one item more
-pub tells_item_more : {A : Type 0} (f : A → List Token) (xs : List A) (i : ℕ) (d : A) (old mid new : Teller) → i < length xs → Tells (flat_map f (take i xs)) old mid → Tells (f (get_or xs i d)) mid new → Tells (flat_map f (take (suc i) xs)) old new
+pub tells_item_more : {A : Type 0} (f : A → List Token) (xs : List A) (i : ℕ) (d : A) (old mid new : Teller)
+    → i < length xs → Tells (flat_map f (take i xs)) old mid → Tells (f (get_or xs i d)) mid new
+    → Tells (flat_map f (take (suc i) xs)) old new
 tells_item_more f xs i d old mid new lt a b = tells_same _ _ old new (one_flat f xs i d lt) (tells_after _ _ old mid new a b)
 
 -- the same text, written
@@ -81,8 +88,10 @@ unfolding body_member
 other_body bytes invalid = if_false (is_utf8 bytes) _ _ (λ passes. invalid (IsUtf8-from_is_utf8 bytes passes))
 
 -- a list's end comes after its items
-pub tells_listed : (items rest : List Token) (old mid new : Teller) → Tells items old mid → Tells (end_array ∷ rest) mid new → Tells ((items ++ end_array ∷ []) ++ rest) old new
-tells_listed items rest old mid new a b = tells_same _ _ old new (sym (append_assoc items (end_array ∷ []) rest)) (tells_after items (end_array ∷ rest) old mid new a b)
+pub tells_listed : (items rest : List Token) (old mid new : Teller) → Tells items old mid
+    → Tells (end_array ∷ rest) mid new → Tells ((items ++ end_array ∷ []) ++ rest) old new
+tells_listed items rest old mid new a b =
+    tells_same _ _ old new (sym (append_assoc items (end_array ∷ []) rest)) (tells_after items (end_array ∷ rest) old mid new a b)
 
 -- the items of a list that was mapped
 pub flat_mapped : {A B : Type 0} (f : B → List Token) (g : A → B) (xs : List A) → flat_map (λ x. f (g x)) xs ≡ flat_map f (map g xs)

@@ -7,4 +7,5 @@ use Rattle.fleet.specs.declared.site.Site.{Site}
 use Rattle.account_book.proofs.premature.has_answered_in_way.Given as goal
 
 abbrev pub invariant-loop-site : goal.invariant-loop-site
-invariant-loop-site l = list_any (λ (site : Site). has_answered site.environment.stand && in_way l.reason l.function (usage_at l.pool site.function).reserved site.function) (take l.site-index l.sites) ≡ false
+invariant-loop-site l =
+    list_any (λ (site : Site). has_answered site.environment.stand && in_way l.reason l.function (usage_at l.pool site.function).reserved site.function) (take l.site-index l.sites) ≡ false

@@ -5,4 +5,5 @@ use Rattle.account_book.proofs.ranges.functions_fit.Goals as goal
 
 pub loop-function-preserved : goal.loop-function-preserved
 loop-function-preserved c =
-    All-more IsFunctionInRange c.args.functions.now c.loop-function.function-index c.function-item.result (omega arith) c.loop-function.invariant (rw (← c.function-item.is) c.function_fits.ensures)
+    All-more IsFunctionInRange c.args.functions.now c.loop-function.function-index c.function-item.result
+    (omega arith) c.loop-function.invariant (rw (← c.function-item.is) c.function_fits.ensures)

@@ -4,4 +4,5 @@ use Rattle.lambda_wire.specs.Ranges.{IsSlotInRange}
 use Rattle.account_book.proofs.ranges.ports_fit.Goals as goal
 
 pub loop-slot-preserved : goal.loop-slot-preserved
-loop-slot-preserved c = All-more IsSlotInRange c.args.slots.now c.loop-slot.slot-index (record { port = 0 }) (omega arith) c.loop-slot.invariant c.port_fits.ensures
+loop-slot-preserved c =
+    All-more IsSlotInRange c.args.slots.now c.loop-slot.slot-index (record { port = 0 }) (omega arith) c.loop-slot.invariant c.port_fits.ensures

@@ -9,10 +9,14 @@ pub call_at-requires : goal.call_at-requires
 call_at-requires c = (answered_here c.args.past.now.config.now c.args.past.now.entries.now.0 c.args.ticket c.args.answer c.requires.legal c.requires.answered).0
 
 pub call_at-requires-2 : goal.call_at-requires-2
-call_at-requires-2 c = subst (λ s. s < length c.args.past.now.entries.now.0) (sym c.source_of-source.ensures) (answered_here c.args.past.now.config.now c.args.past.now.entries.now.0 c.args.ticket c.args.answer c.requires.legal c.requires.answered).1
+call_at-requires-2 c =
+    subst (λ s. s < length c.args.past.now.entries.now.0) (sym c.source_of-source.ensures)
+    (answered_here c.args.past.now.config.now c.args.past.now.entries.now.0 c.args.ticket c.args.answer c.requires.legal c.requires.answered).1
 
 pub reply-requires : goal.reply-requires
-reply-requires c = subst IsTraced (sym c.call_at-2.ensures) (all_traced c.args.past.now.config.now (reverse c.args.past.now.entries.now.0) c.source_of-source.result c.requires.known)
+reply-requires c =
+    subst IsTraced (sym c.call_at-2.ensures)
+    (all_traced c.args.past.now.config.now (reverse c.args.past.now.entries.now.0) c.source_of-source.result c.requires.known)
 
 pub returns : goal.returns
 unfolding reply_text

@@ -16,4 +16,5 @@ pub loop-i-preserved : goal.loop-i-preserved
 loop-i-preserved c =
     let functions = c.functions-functions.result.now in
     let found = rw (c.as_str.ensures, take_rest functions (c.loop-i.i + 1)) at c.has_function_named.ensures in
-    c.loop-i.invariant ∙ repeats_later is_namesake functions c.loop-i.i c.index-functions-i.result (omega arith) c.index-functions-i.is (sym found ∙ c.if-has_function_named.false)
+    c.loop-i.invariant
+    ∙ repeats_later is_namesake functions c.loop-i.i c.index-functions-i.result (omega arith) c.index-functions-i.is (sym found ∙ c.if-has_function_named.false)

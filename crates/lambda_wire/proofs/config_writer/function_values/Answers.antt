@@ -7,6 +7,7 @@ use Rattle.lambda_wire.proofs.config_writer.function_values.Goals as goal
 pub loop-function-preserved : goal.loop-function-preserved
 loop-function-preserved c = record {
   written = grind (arith, common_steps);
-  in_range = All-more IsFunctionInRange c.args.functions.now c.loop-function.function-index c.function-item.result (omega arith) c.loop-function.invariant.in_range
+  in_range =
+      All-more IsFunctionInRange c.args.functions.now c.loop-function.function-index c.function-item.result (omega arith) c.loop-function.invariant.in_range
       (rw (← c.function-item.is) c.in_ok-function_value.ensures.in_range);
 }

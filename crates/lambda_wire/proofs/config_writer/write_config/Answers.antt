@@ -11,7 +11,8 @@ pub returns-clause-text : goal.returns-clause-text
 unfolding setup_text
 returns-clause-text c =
     let is : view c.in_ok-setup_value.field-0 ≡ setup_data c.args.config.now c.args.salt c.args.max_entries = c.in_ok-setup_value.ensures.value in
-    IfOk-weaker c.to_vec.result _ _ (λ b text. text (rw is (setup_whole c.args.config.now c.args.salt c.args.max_entries)) ∙ ap compact_text is) c.to_vec.ensures.text
+    IfOk-weaker c.to_vec.result _ _
+    (λ b text. text (rw is (setup_whole c.args.config.now c.args.salt c.args.max_entries)) ∙ ap compact_text is) c.to_vec.ensures.text
 
 pub returns-clause-read_back : goal.returns-clause-read_back
 returns-clause-read_back c =

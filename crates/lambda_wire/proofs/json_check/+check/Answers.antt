@@ -2,7 +2,9 @@ use Rattle.std.proofs.Common.{◌≡◌, ◌-◌, ◌<◌, true, [], ◌∷◌, 
 use Rattle.json.specs.Token as token
 use Rattle.json.specs.Json.{after_end_array, read_key, value, skip_value}
 use Rattle.json.specs.Reads.{token_of, skip_items, skip_members}
-use Rattle.json.proofs.Grammar.{left, left-parse_map, left_none, value_is, value-begin_array, value-begin_object, items_end, items_fail, members_end, members_no_key, members_fail, skip_item, skip_member, read_key_is}
+use Rattle.json.proofs.Grammar.{left, left-parse_map, left_none, value_is, value-begin_array, value-begin_object}
+use Rattle.json.proofs.Grammar.{items_end, items_fail, members_end, members_no_key, members_fail, skip_item}
+use Rattle.json.proofs.Grammar.{skip_member, read_key_is}
 use Rattle.lambda_wire.specs.JsonParts.{all_in_range}
 use Rattle.lambda_wire.proofs.json_check.+check.Goals as goal
 

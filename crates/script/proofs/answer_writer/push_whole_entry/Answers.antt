@@ -3,7 +3,8 @@ use Rattle.script.proofs.WritingLemmas.{adds_after, fails_after}
 use Rattle.script.proofs.answer_writer.push_whole_entry.Goals as goal
 
 pub returns-in_err-end_line : goal.returns-in_err-end_line
-returns-in_err-end_line g c = fails_after _ c.from_residual-in_err-end_line.result _ _ _ _ _ c.from_residual-in_err-end_line.ensures.1 c.in_ok-push_call.ensures c.in_err-end_line.ensures
+returns-in_err-end_line g c =
+    fails_after _ c.from_residual-in_err-end_line.result _ _ _ _ _ c.from_residual-in_err-end_line.ensures.1 c.in_ok-push_call.ensures c.in_err-end_line.ensures
 
 pub returns : goal.returns
 unfolding entry_text

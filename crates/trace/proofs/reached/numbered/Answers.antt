@@ -8,4 +8,5 @@ returns-then-end-eq0 c = sym (none_has c.args.env 1 c.args.sites.now c.requires 
 pub returns : goal.returns
 returns c =
     ap (λ n. take n (drop (c.args.env - 1) c.args.sites.now)) (let one : c.args.env - (c.args.env - 1) ≡ 1 = omega (arith, c.if-end-eq0.false) in one)
-    ∙ one_has c.args.env 1 (c.args.env - 1) c.args.sites.now c.requires (omega (arith, c.if-end-eq0.false, c.if-end-sites.false)) (omega (arith, c.if-end-eq0.false))
+    ∙ one_has c.args.env 1 (c.args.env - 1) c.args.sites.now c.requires
+    (omega (arith, c.if-end-eq0.false, c.if-end-sites.false)) (omega (arith, c.if-end-eq0.false))

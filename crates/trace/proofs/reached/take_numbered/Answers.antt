@@ -10,4 +10,6 @@ returns-then-end-sites c =
     (omega (arith, c.if-end-ne0.true, c.if-end-sites.true)) (omega (arith, c.if-end-ne0.true))
 
 pub returns-else-end-ne0 : goal.returns-else-end-ne0
-returns-else-end-ne0 c = none_moves (moved_by c.args.arrival.now) c.args.env 1 c.args.sites.now c.requires.numbered (outside_too c.args.env (length c.args.sites.now) c.else-end-ne0.either)
+returns-else-end-ne0 c =
+    none_moves (moved_by c.args.arrival.now) c.args.env 1 c.args.sites.now c.requires.numbered
+    (outside_too c.args.env (length c.args.sites.now) c.else-end-ne0.either)

@@ -5,4 +5,5 @@ use Rattle.account_book.proofs.book.Book.count_due.Goals as goal
 pub returns-clause-value : goal.returns-clause-value
 returns-clause-value c =
     let j = c.self.inside.journal in
-    rw (sym c.self.view_is) (c.count_due.ensures.value ∙ ap (λ (m : ℕ). length (due j.config j.history m)) (c.max.ensures ∙ ap (max c.args.now) c.last_moment-last.ensures.value))
+    rw (sym c.self.view_is)
+    (c.count_due.ensures.value ∙ ap (λ (m : ℕ). length (due j.config j.history m)) (c.max.ensures ∙ ap (max c.args.now) c.last_moment-last.ensures.value))

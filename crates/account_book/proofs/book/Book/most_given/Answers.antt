@@ -9,13 +9,15 @@ use Rattle.account_book.proofs.GivenAnswers.{few_given}
 use Rattle.account_book.proofs.book.Book.most_given.Goals as goal
 
 -- with the most extensions an entry has the most
-with_most : (expiries environments widest : ℕ) (call : Call) → widest ≤ most_extensions → expiries * (most_of_one widest + 1) + most_answers widest environments call ≤ (most_of_one most_extensions + 1) * expiries + most_answers most_extensions environments call
+with_most : (expiries environments widest : ℕ) (call : Call) → widest ≤ most_extensions
+    → expiries * (most_of_one widest + 1) + most_answers widest environments call ≤ (most_of_one most_extensions + 1) * expiries + most_answers most_extensions environments call
 with_most expiries environments widest call ten = own (is_stop call)
   where
     each : expiries * (most_of_one widest + 1) ≤ expiries * 14
     each = mul-le-mul_left expiries (omega (arith, ten))
 
-    own : (b : Bool) → expiries * (most_of_one widest + 1) + (if b then most_of_one most_extensions * environments + 1 else most_of_one widest + 1) ≤ (most_of_one most_extensions + 1) * expiries + (if b then most_of_one most_extensions * environments + 1 else most_of_one most_extensions + 1)
+    own : (b : Bool)
+        → expiries * (most_of_one widest + 1) + (if b then most_of_one most_extensions * environments + 1 else most_of_one widest + 1) ≤ (most_of_one most_extensions + 1) * expiries + (if b then most_of_one most_extensions * environments + 1 else most_of_one most_extensions + 1)
     own true = omega (arith, each)
     own false = omega (arith, each, ten)
 

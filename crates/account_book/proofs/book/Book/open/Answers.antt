@@ -19,7 +19,8 @@ empty_room config max le = full_is config max [] Stop ∙ less (length (owners c
     less : (n : ℕ) → n + 1 ≤ max → nat_lt max (0 + (n + 1)) ≡ false
     less n k = grind (arith, nat_tests, k)
 
-begun : (b : Inside) (config : Config) → b.journal ≡ record { config = config; history = []; room = 0; widest = 0 } → length (owners config) + 1 ≤ b.max_entries → b.max_entries ≤ 2 ^ 32 → IsConfigInRange config → IsBook b
+begun : (b : Inside) (config : Config) → b.journal ≡ record { config = config; history = []; room = 0; widest = 0 }
+    → length (owners config) + 1 ≤ b.max_entries → b.max_entries ≤ 2 ^ 32 → IsConfigInRange config → IsBook b
 begun b config is le few fits = record {
   in_range = rw (ap (λ (p : Pages). p.config) is) fits;
   room = rw (ap (λ (p : Pages). p.config) is) le;
@@ -29,4 +30,7 @@ begun b config is le few fits = record {
 }
 
 pub invariant_of-result : goal.invariant_of-result
-invariant_of-result c = begun _ (arc_value c.args.config) c.in_ok-open.ensures (omega (arith, c.if-max_entries-from.false, c.from.ensures, rw c.deref.ensures at c.environments.ensures)) (omega (arith, c.if-max_entries.false)) (rw c.deref-2.ensures at c.config_fits.ensures)
+invariant_of-result c =
+    begun _ (arc_value c.args.config) c.in_ok-open.ensures
+    (omega (arith, c.if-max_entries-from.false, c.from.ensures, rw c.deref.ensures at c.environments.ensures))
+    (omega (arith, c.if-max_entries.false)) (rw c.deref-2.ensures at c.config_fits.ensures)

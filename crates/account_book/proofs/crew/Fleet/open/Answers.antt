@@ -9,4 +9,8 @@ pub returns : goal.returns
 returns c = rw (c.in_ok-open_sites.ensures, c.in_ok-open-3.ensures, pool.opened_is c.args.config.now) refl
 
 pub invariant_of-result : goal.invariant_of-result
-invariant_of-result c = fleet_opened _ c.args.config.now c.requires c.in_ok-open_sites.ensures (c.in_ok-open.ensures ∙ rw c.environments.ensures (due.opened_is c.args.config.now)) (c.in_ok-open-2.ensures ∙ placement.opened_is c.args.config.now) (c.in_ok-open-3.ensures ∙ pool.opened_is c.args.config.now) refl
+invariant_of-result c =
+    fleet_opened _ c.args.config.now c.requires c.in_ok-open_sites.ensures
+    (c.in_ok-open.ensures ∙ rw c.environments.ensures (due.opened_is c.args.config.now))
+    (c.in_ok-open-2.ensures ∙ placement.opened_is c.args.config.now)
+    (c.in_ok-open-3.ensures ∙ pool.opened_is c.args.config.now) refl

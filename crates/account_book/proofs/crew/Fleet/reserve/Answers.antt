@@ -11,7 +11,9 @@ invariant_of-self c =
     record {
       due = c.self.invariant.due;
       places = c.self.invariant.places;
-      pool = rw c.reserve.ensures (flown_reserved c.self.inside.sites.items c.self.inside.pool c.args.function c.args.count c.requires.from_one (in_flight_at c.self.inside c.args.function c.self.invariant c.requires.from_one there) c.self.invariant.pool);
+      pool =
+          rw c.reserve.ensures
+          (flown_reserved c.self.inside.sites.items c.self.inside.pool c.args.function c.args.count c.requires.from_one (in_flight_at c.self.inside c.args.function c.self.invariant c.requires.from_one there) c.self.invariant.pool);
       owned = rw (c.reserve.ensures, length-set c.self.inside.pool.functions (c.args.function - 1) _) c.self.invariant.owned;
       narrow = c.self.invariant.narrow;
       ten = c.self.invariant.ten;

@@ -28,7 +28,9 @@ counted : (requests : List ℕ) (f : ℕ) → 1 ≤ f → f ≤ length requests 
 counted requests f low high = sym (numbered_at 0 requests f low ∙ at_get_or 0 0 requests (f - 1) (omega (arith, low, high)))
 
 pub take-requires-clause-few : goal.take-requires-clause-few
-take-requires-clause-few c = rw (sym (found c.self.inside c.args.self.now c.args.env c.index_mut-site.result.now _ c.self.view_is c.requires.from_one c.requires.there c.index_mut-site.ensures.value)) c.requires.few
+take-requires-clause-few c =
+    rw
+    (sym (found c.self.inside c.args.self.now c.args.env c.index_mut-site.result.now _ c.self.view_is c.requires.from_one c.requires.there c.index_mut-site.ensures.value)) c.requires.few
 
 -- what was found belongs to a function that there is
 owned : (f : Inside) (i : ℕ) (s d : Site) → IsFleet f → i < length f.sites.items → s ≡ get_or f.sites.items i d → IsOwned (length f.pool.functions) s
@@ -42,22 +44,26 @@ take-requires-clause-room c =
     let at : c.args.env - 1 < length c.self.inside.sites.items = within c.self.inside c.args.self.now c.args.env c.self.view_is c.requires.from_one c.requires.there in
     let own : IsOwned (length c.self.inside.pool.functions) c.index_mut-site.result.now = owned c.self.inside (c.args.env - 1) c.index_mut-site.result.now _ c.self.invariant at c.index_mut-site.ensures.value in
     let many : length c.args.arrival.now.requests.now ≡ length c.self.inside.pool.functions = c.requires.counted ∙ ap (λ (k : Crew). length k.pool.functions) (sym c.self.view_is) in
-    rw (counted c.args.arrival.now.requests.now c.index_mut-site.result.now.function own.0 (rw many own.1), sym (found c.self.inside c.args.self.now c.args.env c.index_mut-site.result.now _ c.self.view_is c.requires.from_one c.requires.there c.index_mut-site.ensures.value)) c.requires.room
+    rw
+    (counted c.args.arrival.now.requests.now c.index_mut-site.result.now.function own.0 (rw many own.1), sym (found c.self.inside c.args.self.now c.args.env c.index_mut-site.result.now _ c.self.view_is c.requires.from_one c.requires.there c.index_mut-site.ensures.value)) c.requires.room
 
 pub recount-requires-clause-charged : goal.recount-requires-clause-charged
 recount-requires-clause-charged c = λ was.
     let at : c.args.env - 1 < length c.self.inside.sites.items = within c.self.inside c.args.self.now c.args.env c.self.view_is c.requires.from_one c.requires.there in
     let same : c.take.new.site.function ≡ (get_or c.self.inside.sites.items (c.args.env - 1) c.index_mut-site.result.now).function = ap (λ (s : Site). s.function) c.take.ensures.site ∙ ap (λ (s : Site). s.function) c.index_mut-site.ensures.value in
-    rw same (some_in_flight c.self.inside (c.args.env - 1) c.index_mut-site.result.now c.self.invariant at (ap (λ (s : Site). is_taken s.environment.stand.phase) (sym c.index_mut-site.ensures.value) ∙ sym c.is_taken-was.ensures ∙ was))
+    rw same
+    (some_in_flight c.self.inside (c.args.env - 1) c.index_mut-site.result.now c.self.invariant at (ap (λ (s : Site). is_taken s.environment.stand.phase) (sym c.index_mut-site.ensures.value) ∙ sym c.is_taken-was.ensures ∙ was))
 
 pub recount-requires-clause-admitted : goal.recount-requires-clause-admitted
 recount-requires-clause-admitted c = λ was is.
     let invoke : is_invoke c.args.arrival.now.call.now ≡ true = newly_taken c.index_mut-site.result.now.environment.fixed _ c.index_mut-site.result.now.environment.stand c.args.arrival.now.call.now (sym c.is_taken-was.ensures ∙ was) (ap (λ (s : Site). is_taken s.environment.stand.phase) (sym c.take.ensures.site) ∙ sym c.is_taken-is.ensures ∙ is) in
     let here : site_at c.args.self.now.sites c.args.env ≡ c.index_mut-site.result.now = found c.self.inside c.args.self.now c.args.env c.index_mut-site.result.now _ c.self.view_is c.requires.from_one c.requires.there c.index_mut-site.ensures.value in
-    ap₂ throttle (ap (λ (k : Crew). k.pool) c.self.view_is) (ap (λ (s : Site). s.function) c.take.ensures.site ∙ ap (λ (s : Site). s.function) (sym here)) ∙ c.requires.admitted invoke
+    ap₂ throttle (ap (λ (k : Crew). k.pool) c.self.view_is) (ap (λ (s : Site). s.function) c.take.ensures.site ∙ ap (λ (s : Site). s.function) (sym here))
+    ∙ c.requires.admitted invoke
 
 -- the environment changed, and what is kept beside it
-changed : (c : goal.After-self-2-1) → IsChange c.self.inside (record { sites = with_item c.self.inside.sites (c.args.env - 1) (record { function = c.take.new.site.function; environment = c.take.new.site.environment }); due = c.set.new.self; places = c.note.new.self; pool = c.recount.new.pool; widest = c.max-self-inside.result; moves = c.take.new.moves }) (c.args.env - 1) (record { function = c.take.new.site.function; environment = c.take.new.site.environment }) c.index_mut-site.result.now
+changed : (c : goal.After-self-2-1)
+    → IsChange c.self.inside (record { sites = with_item c.self.inside.sites (c.args.env - 1) (record { function = c.take.new.site.function; environment = c.take.new.site.environment }); due = c.set.new.self; places = c.note.new.self; pool = c.recount.new.pool; widest = c.max-self-inside.result; moves = c.take.new.moves }) (c.args.env - 1) (record { function = c.take.new.site.function; environment = c.take.new.site.environment }) c.index_mut-site.result.now
 changed c =
     let at : c.args.env - 1 < length c.self.inside.sites.items = within c.self.inside c.args.self.now c.args.env c.self.view_is c.requires.from_one c.requires.there in
     let back : c.args.env - 1 + 1 ≡ c.args.env = omega (arith, c.requires.from_one) in
@@ -67,21 +73,32 @@ changed c =
       sites = refl;
       function = ap (λ (s : Site). s.function) c.take.ensures.site;
       due = c.set.ensures ∙ ap (set c.self.inside.due (c.args.env - 1)) c.deadline.ensures;
-      places = c.note.ensures ∙ ap₂ (λ (e : ℕ) (k : Class). set c.self.inside.places (c.args.env - 1) (record (place_at c.self.inside.places e) { class = k })) (sym back) (c.of.ensures ∙ ap class_of c.phase.ensures);
-      pool = c.recount.ensures ∙ ap₂ (λ (is was : Bool). with_in_flight c.self.inside.pool c.take.new.site.function (((usage_at c.self.inside.pool c.take.new.site.function).in_flight + cond is 1 0) - cond was 1 0)) c.is_taken-is.ensures c.is_taken-was.ensures;
+      places =
+          c.note.ensures
+          ∙ ap₂ (λ (e : ℕ) (k : Class). set c.self.inside.places (c.args.env - 1) (record (place_at c.self.inside.places e) { class = k })) (sym back) (c.of.ensures ∙ ap class_of c.phase.ensures);
+      pool =
+          c.recount.ensures
+          ∙ ap₂ (λ (is was : Bool). with_in_flight c.self.inside.pool c.take.new.site.function (((usage_at c.self.inside.pool c.take.new.site.function).in_flight + cond is 1 0) - cond was 1 0)) c.is_taken-is.ensures c.is_taken-was.ensures;
       widest = omega (arith, c.max-self-inside.ensures);
       narrow = omega (arith, c.max-self-inside.ensures, c.members.ensures.count);
       ten = omega (arith, c.max-self-inside.ensures, c.members.ensures.few, c.self.invariant.ten);
     }
 
 pub returns-clause-pool : goal.returns-clause-pool
-returns-clause-pool c = change_pool c.self.inside _ (c.args.env - 1) (record { function = c.take.new.site.function; environment = c.take.new.site.environment }) c.index_mut-site.result.now c.self.invariant (changed c) ∙ ap (λ (k : Crew). flown (set c.self.inside.sites.items (c.args.env - 1) (record { function = c.take.new.site.function; environment = c.take.new.site.environment })) k.pool) c.self.view_is
+returns-clause-pool c =
+    change_pool c.self.inside _ (c.args.env - 1) (record { function = c.take.new.site.function; environment = c.take.new.site.environment }) c.index_mut-site.result.now c.self.invariant (changed c)
+    ∙ ap (λ (k : Crew). flown (set c.self.inside.sites.items (c.args.env - 1) (record { function = c.take.new.site.function; environment = c.take.new.site.environment })) k.pool) c.self.view_is
 
 pub invariant_of-self : goal.invariant_of-self
-invariant_of-self c = change_kept c.self.inside _ (c.args.env - 1) (record { function = c.take.new.site.function; environment = c.take.new.site.environment }) c.index_mut-site.result.now c.self.invariant (changed c)
+invariant_of-self c =
+    change_kept c.self.inside _ (c.args.env - 1)
+    (record { function = c.take.new.site.function; environment = c.take.new.site.environment }) c.index_mut-site.result.now c.self.invariant
+    (changed c)
 
 -- the count that the call comes with there
-count_is : (f : Inside) (w : Crew) (requests : List ℕ) (i : ℕ) (s d : Site) → crew f ≡ w → IsFleet f → i < length f.sites.items → s ≡ get_or f.sites.items i d → length requests ≡ length w.pool.functions → get_or requests (s.function - 1) 0 ≡ numbered 0 requests s.function
+count_is : (f : Inside) (w : Crew) (requests : List ℕ) (i : ℕ) (s d : Site) → crew f ≡ w → IsFleet f
+    → i < length f.sites.items → s ≡ get_or f.sites.items i d → length requests ≡ length w.pool.functions
+    → get_or requests (s.function - 1) 0 ≡ numbered 0 requests s.function
 count_is f w requests i s d view k at is many =
     let own : IsOwned (length f.pool.functions) s = owned f i s d k at is in
     let all : length requests ≡ length f.pool.functions = many ∙ ap (λ (k : Crew). length k.pool.functions) (sym view) in

@@ -10,20 +10,29 @@ use Rattle.account_book.specs.Taking.{request_counts}
 use Rattle.account_book.proofs.EntryExtent.{tickets_within, few_answers}
 use Rattle.account_book.proofs.journal.Journal.enter.Goals as goal
 
-counted : (c : goal.After-answer_call-arg-2-1) → c.deref-2.result.now ≡ request_counts c.deref-3.result.now (entered c.deref-3.result.now (reverse c.entries-entries.result.now.0) c.args.moment c.args.call)
+counted : (c : goal.After-answer_call-arg-2-1)
+    → c.deref-2.result.now ≡ request_counts c.deref-3.result.now (entered c.deref-3.result.now (reverse c.entries-entries.result.now.0) c.args.moment c.args.call)
 counted c = grind (arith, common_steps)
 
 pub answer_call-requires-clause-arriving : goal.answer_call-requires-clause-arriving
 answer_call-requires-clause-arriving c = record {
   moment = c.requires.moment;
-  short = rw (c.entries-entries.ensures.value, length-reverse c.self.inside.ledger.history) (omega (arith, c.entries-entries.ensures.room, rw (sym c.self.view_is) at c.requires.room));
+  short =
+      rw (c.entries-entries.ensures.value, length-reverse c.self.inside.ledger.history)
+      (omega (arith, c.entries-entries.ensures.room, rw (sym c.self.view_is) at c.requires.room));
   ticket = c.len.ensures;
   ready = record {
     legal = rw (c.deref-3.ensures, ap reverse c.entries-entries.ensures.value ∙ reverse-reverse c.self.inside.ledger.history) c.self.invariant.legal;
     all_known = rw (c.deref-3.ensures, ap reverse c.entries-entries.ensures.value ∙ reverse-reverse c.self.inside.ledger.history) c.self.invariant.all_known;
-    follows = rw (c.deref-3.ensures, ap reverse c.entries-entries.ensures.value ∙ reverse-reverse c.self.inside.ledger.history) (rw (sym c.self.view_is) at c.requires.follows);
+    follows =
+        rw
+        (c.deref-3.ensures, ap reverse c.entries-entries.ensures.value ∙ reverse-reverse c.self.inside.ledger.history)
+        (rw (sym c.self.view_is) at c.requires.follows);
     known = rw c.deref-3.ensures (rw (sym c.self.view_is) at c.requires.known);
-    placed = rw (c.deref-3.ensures, ap reverse c.entries-entries.ensures.value ∙ reverse-reverse c.self.inside.ledger.history) (rw (sym c.self.view_is) at c.requires.placed);
+    placed =
+        rw
+        (c.deref-3.ensures, ap reverse c.entries-entries.ensures.value ∙ reverse-reverse c.self.inside.ledger.history)
+        (rw (sym c.self.view_is) at c.requires.placed);
     is = rw (c.deref-3.ensures, ap reverse c.entries-entries.ensures.value ∙ reverse-reverse c.self.inside.ledger.history) c.self.invariant.sites_are;
     pool_is = rw (c.deref-3.ensures, ap reverse c.entries-entries.ensures.value ∙ reverse-reverse c.self.inside.ledger.history) c.self.invariant.pool_is;
   };
@@ -33,17 +42,23 @@ answer_call-requires-clause-arriving c = record {
 }
 
 pub answer_call-requires-clause-own : goal.answer_call-requires-clause-own
-answer_call-requires-clause-own c = rw (c.deref-3.ensures, ap reverse c.entries-entries.ensures.value ∙ reverse-reverse c.self.inside.ledger.history) (rw (sym c.self.view_is) at c.requires.own)
+answer_call-requires-clause-own c =
+    rw (c.deref-3.ensures, ap reverse c.entries-entries.ensures.value ∙ reverse-reverse c.self.inside.ledger.history)
+    (rw (sym c.self.view_is) at c.requires.own)
 
 pub add-requires-clause-fresh : goal.add-requires-clause-fresh
-add-requires-clause-fresh c = fresh (arc_value c.self.inside.config) c.self.inside.ledger.history (length c.self.inside.ledger.history) c.self.invariant.legal (le_refl (length c.self.inside.ledger.history))
+add-requires-clause-fresh c =
+    fresh (arc_value c.self.inside.config) c.self.inside.ledger.history
+    (length c.self.inside.ledger.history) c.self.invariant.legal (le_refl (length c.self.inside.ledger.history))
 
 pub add-requires-clause-tickets : goal.add-requires-clause-tickets
 add-requires-clause-tickets c =
     let given : c.copy_out.result ≡ answers (arc_value c.self.inside.config) c.self.inside.ledger.history c.args.moment c.args.call = c.copy_out.ensures ∙ (rw c.deref-3.ensures at c.answer_call.ensures.answers) ∙ ap (λ (h : List Entry). answers (arc_value c.self.inside.config) h c.args.moment c.args.call) (ap reverse c.entries-entries.ensures.value ∙ reverse-reverse c.self.inside.ledger.history) in
-    rw given (tickets_within (arc_value c.self.inside.config) c.self.inside.ledger.history (entry_of (arc_value c.self.inside.config) c.self.inside.ledger.history c.args.moment c.args.call) (rw (sym c.self.view_is) at c.requires.follows))
+    rw given
+    (tickets_within (arc_value c.self.inside.config) c.self.inside.ledger.history (entry_of (arc_value c.self.inside.config) c.self.inside.ledger.history c.args.moment c.args.call) (rw (sym c.self.view_is) at c.requires.follows))
 
 pub add-requires-clause-few : goal.add-requires-clause-few
 add-requires-clause-few c =
     let given : c.copy_out.result ≡ answers (arc_value c.self.inside.config) c.self.inside.ledger.history c.args.moment c.args.call = c.copy_out.ensures ∙ (rw c.deref-3.ensures at c.answer_call.ensures.answers) ∙ ap (λ (h : List Entry). answers (arc_value c.self.inside.config) h c.args.moment c.args.call) (ap reverse c.entries-entries.ensures.value ∙ reverse-reverse c.self.inside.ledger.history) in
-    rw given (few_answers (arc_value c.self.inside.config) c.self.inside.ledger.history (entry_of (arc_value c.self.inside.config) c.self.inside.ledger.history c.args.moment c.args.call) c.self.invariant.sound c.self.invariant.legal (rw (sym c.self.view_is) at c.requires.follows) c.self.invariant.all_known (rw (sym c.self.view_is) at c.requires.known))
+    rw given
+    (few_answers (arc_value c.self.inside.config) c.self.inside.ledger.history (entry_of (arc_value c.self.inside.config) c.self.inside.ledger.history c.args.moment c.args.call) c.self.invariant.sound c.self.invariant.legal (rw (sym c.self.view_is) at c.requires.follows) c.self.invariant.all_known (rw (sym c.self.view_is) at c.requires.known))

@@ -6,4 +6,6 @@ use Rattle.account_book.proofs.FleetMeets.{first_due_is}
 use Rattle.account_book.proofs.journal.Journal.first_due.Goals as goal
 
 pub returns : goal.returns
-returns c = rw (sym c.self.view_is) (c.first_due.ensures ∙ ap (λ ss. first_due c.args.moment (map deadline_at ss)) c.self.invariant.sites_are ∙ first_due_is (arc_value c.self.inside.config) c.self.inside.ledger.history c.args.moment)
+returns c =
+    rw (sym c.self.view_is)
+    (c.first_due.ensures ∙ ap (λ ss. first_due c.args.moment (map deadline_at ss)) c.self.invariant.sites_are ∙ first_due_is (arc_value c.self.inside.config) c.self.inside.ledger.history c.args.moment)

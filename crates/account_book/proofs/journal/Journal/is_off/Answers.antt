@@ -11,4 +11,6 @@ use Rattle.account_book.proofs.journal.Journal.is_off.Goals as goal
 
 pub returns : goal.returns
 unfolding seen
-returns c = rw (sym c.self.view_is) (c.is_off.ensures ∙ ap (λ (ss : List Site). list_all (λ s. is_off s.environment.stand.phase) ss) c.self.invariant.sites_are ∙ list_all-map (λ (s : Site). is_off s.environment.stand.phase) (site (arc_value c.self.inside.config) c.self.inside.ledger.history) (environments (arc_value c.self.inside.config)))
+returns c =
+    rw (sym c.self.view_is)
+    (c.is_off.ensures ∙ ap (λ (ss : List Site). list_all (λ s. is_off s.environment.stand.phase) ss) c.self.invariant.sites_are ∙ list_all-map (λ (s : Site). is_off s.environment.stand.phase) (site (arc_value c.self.inside.config) c.self.inside.ledger.history) (environments (arc_value c.self.inside.config)))

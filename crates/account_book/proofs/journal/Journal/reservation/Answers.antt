@@ -9,9 +9,12 @@ use Rattle.account_book.specs.Pages.{Pages}
 use Rattle.account_book.proofs.journal.Journal.reservation.Goals as goal
 
 pub reservation-requires-clause-there : goal.reservation-requires-clause-there
-reservation-requires-clause-there c = rw (c.self.invariant.pool_is, many_functions (arc_value c.self.inside.config) c.self.inside.ledger.history, ap (λ (p : Pages). length p.config.functions) c.self.view_is) c.requires.there
+reservation-requires-clause-there c =
+    rw
+    (c.self.invariant.pool_is, many_functions (arc_value c.self.inside.config) c.self.inside.ledger.history, ap (λ (p : Pages). length p.config.functions) c.self.view_is) c.requires.there
 
 pub returns : goal.returns
 returns c =
     let there : c.args.function ≤ length (arc_value c.self.inside.config).functions = rw (ap (λ (p : Pages). length p.config.functions) c.self.view_is) c.requires.there in
-    rw (sym c.self.view_is) (c.reservation.ensures ∙ ap (λ (p : Numbers). (usage_at p c.args.function).reserved) c.self.invariant.pool_is ∙ ap (λ (u : Usage). u.reserved) (pool.usage_is (arc_value c.self.inside.config) c.self.inside.ledger.history c.args.function c.requires.from_one there))
+    rw (sym c.self.view_is)
+    (c.reservation.ensures ∙ ap (λ (p : Numbers). (usage_at p c.args.function).reserved) c.self.invariant.pool_is ∙ ap (λ (u : Usage). u.reserved) (pool.usage_is (arc_value c.self.inside.config) c.self.inside.ledger.history c.args.function c.requires.from_one there))

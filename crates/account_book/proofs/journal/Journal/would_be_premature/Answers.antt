@@ -14,10 +14,14 @@ use Rattle.account_book.proofs.Verdicts.{verdict_stopped, verdict_open}
 use Rattle.account_book.proofs.journal.Journal.would_be_premature.Goals as goal
 
 pub returns-then-is_stopped : goal.returns-then-is_stopped
-returns-then-is_stopped c = rw (sym c.self.view_is) (sym (ap (would_be_premature (arc_value c.self.inside.config) c.self.inside.ledger.history c.args.function) (verdict_stopped (arc_value c.self.inside.config) c.self.inside.ledger.history c.args.function (sym c.if-is_stopped.ensures))))
+returns-then-is_stopped c =
+    rw (sym c.self.view_is)
+    (sym (ap (would_be_premature (arc_value c.self.inside.config) c.self.inside.ledger.history c.args.function) (verdict_stopped (arc_value c.self.inside.config) c.self.inside.ledger.history c.args.function (sym c.if-is_stopped.ensures))))
 
 pub admit-requires-clause-there : goal.admit-requires-clause-there
-admit-requires-clause-there c = rw (c.self.invariant.pool_is, many_functions (arc_value c.self.inside.config) c.self.inside.ledger.history, ap (λ (p : Pages). length p.config.functions) c.self.view_is) c.requires.there
+admit-requires-clause-there c =
+    rw
+    (c.self.invariant.pool_is, many_functions (arc_value c.self.inside.config) c.self.inside.ledger.history, ap (λ (p : Pages). length p.config.functions) c.self.view_is) c.requires.there
 
 pub would_start_beside-requires-clause-from_one : goal.would_start_beside-requires-clause-from_one
 would_start_beside-requires-clause-from_one c =
@@ -43,4 +47,5 @@ returns-in-Err c = rw (sym c.self.view_is)
     (c.has_answered_in_way.ensures
     ∙ ap₂ (λ (p : Numbers) (ss : List Site). list_any (answered_at p c.in-Err.reason c.args.function) ss) c.self.invariant.pool_is c.self.invariant.sites_are
     ∙ answered_in_way (arc_value c.self.inside.config) c.self.inside.ledger.history c.in-Err.reason c.args.function
-    ∙ sym (ap (would_be_premature (arc_value c.self.inside.config) c.self.inside.ledger.history c.args.function) (verdict_open (arc_value c.self.inside.config) c.self.inside.ledger.history c.args.function c.self.inside.fleet.pool c.self.inside.fleet.sites c.requires.from_one (rw (ap (λ (p : Pages). length p.config.functions) c.self.view_is) c.requires.there) c.self.invariant.pool_is c.self.invariant.sites_are (sym c.if-is_stopped.ensures) ∙ c.in-Err.ensures)))
+    ∙ sym
+    (ap (would_be_premature (arc_value c.self.inside.config) c.self.inside.ledger.history c.args.function) (verdict_open (arc_value c.self.inside.config) c.self.inside.ledger.history c.args.function c.self.inside.fleet.pool c.self.inside.fleet.sites c.requires.from_one (rw (ap (λ (p : Pages). length p.config.functions) c.self.view_is) c.requires.there) c.self.invariant.pool_is c.self.invariant.sites_are (sym c.if-is_stopped.ensures) ∙ c.in-Err.ensures)))

@@ -17,4 +17,5 @@ invariant_of-result c =
     let config = c.args.config.now in
     let through : length config.functions ≤ c.loop-function.function-index = rw c.functions-function-items.ensures.value at c.loop-function-test.false in
     let all : c.loop-function.functions.items ≡ (opened config).functions = c.loop-function.invariant.functions ∙ ap (map usage_of) (take_all c.loop-function.function-index config.functions through) in
-    rw (c.account_limit.ensures, c.least_remainder.ensures, all) (opened_totals config c.loop-function.reserved c.functions.ensures.sound (c.loop-function.invariant.reserved ∙ ap (sum_by reserved_by) all))
+    rw (c.account_limit.ensures, c.least_remainder.ensures, all)
+    (opened_totals config c.loop-function.reserved c.functions.ensures.sound (c.loop-function.invariant.reserved ∙ ap (sum_by reserved_by) all))

@@ -37,4 +37,6 @@ invariant_of-self c =
     let unreserved = rw (c.taken_of_remainder.ensures, c.taken_of_remainder-2.ensures, c.usage-last.ensures.value) at c.moved-self-inside-2.ensures in
     let in_flight = rw c.usage-last.ensures.value at c.moved-self-inside-3.ensures in
     let next = totals_with now f usage _ _ _ _ _ _ c.requires.from_one c.requires.there c.requires.leaves small reserved unreserved in_flight totals in
-    subst (λ (pool : Numbers). AreTotals (record pool { functions = set pool.functions (f - 1) usage }) c.moved-self-inside.result c.moved-self-inside-2.result c.moved-self-inside-3.result) (sym c.self.view_is) next
+    subst
+    (λ (pool : Numbers). AreTotals (record pool { functions = set pool.functions (f - 1) usage }) c.moved-self-inside.result c.moved-self-inside-2.result c.moved-self-inside-3.result)
+    (sym c.self.view_is) next

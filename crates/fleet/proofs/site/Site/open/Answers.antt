@@ -18,4 +18,5 @@ open-requires c =
 
 pub returns : goal.returns
 returns c =
-    rw (c.in_ok-open.ensures, c.function.ensures, c.function_of-function.ensures) (ap (λ (k : Known). record { function = function_of c.args.config.now c.args.env; environment = k }) (opens c.args.config.now c.args.env c.requires.low c.requires.high))
+    rw (c.in_ok-open.ensures, c.function.ensures, c.function_of-function.ensures)
+    (ap (λ (k : Known). record { function = function_of c.args.config.now c.args.env; environment = k }) (opens c.args.config.now c.args.env c.requires.low c.requires.high))

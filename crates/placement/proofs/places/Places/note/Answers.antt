@@ -7,7 +7,8 @@ use Rattle.placement.proofs.places.Places.note.Goals as goal
 
 pub invariant_of-self : goal.invariant_of-self
 invariant_of-self c =
-    note_follows c.self.inside.free.items c.self.inside.places.items (c.args.env - 1) c.index_mut-place.result.now c.args.class c.index_mut.result.now c.note.new.self
+    note_follows c.self.inside.free.items c.self.inside.places.items
+    (c.args.env - 1) c.index_mut-place.result.now c.args.class c.index_mut.result.now c.note.new.self
     c.self.invariant (search rules) c.index_mut-place.ensures.value c.index_mut.ensures.value c.note.ensures.whole c.note.ensures.here c.note.ensures.others
 
 pub returns : goal.returns

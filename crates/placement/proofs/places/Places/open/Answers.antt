@@ -19,7 +19,8 @@ note-requires-clause-whole c =
     (marks_at c.loop-index.free.items c.loop-index.places.items c.function_of-function.result c.index_mut.result.now c.loop-index.invariant.2 there c.index_mut.ensures.value).whole
 
 pub note-requires-clause-within : goal.note-requires-clause-within
-note-requires-clause-within c = omega (arith, environments_256 c.args.config.now c.functions.ensures.sound, c.loop-index-test.true, c.environments-index-end.ensures)
+note-requires-clause-within c =
+    omega (arith, environments_256 c.args.config.now c.functions.ensures.sound, c.loop-index-test.true, c.environments-index-end.ensures)
 
 pub loop-index-preserved : goal.loop-index-preserved
 loop-index-preserved c =
@@ -27,12 +28,15 @@ loop-index-preserved c =
     let place : Place = record { function = c.function_of-function.result; class = StartingFree } in
     let number : c.loop-index.index + 1 ≡ 1 + c.loop-index.index = omega arith in
     let last : c.loop-index.index + 1 - 1 ≡ length c.loop-index.places.items =
-    (let e : c.loop-index.index + 1 - 1 ≡ c.loop-index.index = omega arith in e) ∙ sym (ap length c.loop-index.invariant.0 ∙ numbered_length opened_at 1 c.loop-index.index) in
+    (let e : c.loop-index.index + 1 - 1 ≡ c.loop-index.index = omega arith in e)
+    ∙ sym (ap length c.loop-index.invariant.0 ∙ numbered_length opened_at 1 c.loop-index.index) in
     let there = function_there c.args.config.now c.loop-index.index _ _ (length c.loop-index.free.items) c.environments-index-end.ensures c.loop-index-test.true c.function_of-function.ensures c.loop-index.invariant.1 in
     let within : c.loop-index.index + 1 - 1 < 256 = omega (arith, environments_256 c.args.config.now c.functions.ensures.sound, c.loop-index-test.true, c.environments-index-end.ensures) in (
       c.in_ok-push.ensures.items
           ∙ ap (λ places. places ++ place ∷ []) c.loop-index.invariant.0
-          ∙ ap (λ f. map opened_at (count_from 1 c.loop-index.index) ++ record { function = f; class = StartingFree } ∷ []) (c.function_of-function.ensures ∙ ap (function_of c.args.config.now) number)
+          ∙ ap
+          (λ f. map opened_at (count_from 1 c.loop-index.index) ++ record { function = f; class = StartingFree } ∷ [])
+          (c.function_of-function.ensures ∙ ap (function_of c.args.config.now) number)
           ∙ sym (count_more opened_at 1 c.loop-index.index),
       length-set c.loop-index.free.items c.function_of-function.result c.note.new.self ∙ c.loop-index.invariant.1,
       rw c.in_ok-push.ensures.items

@@ -15,6 +15,7 @@ returns c =
     IfOk-weaker c.finish.result _ _
     (λ draft ended d. drafted _ _ _ _ _ c.in_ok-teller.ensures.begun c.say_entry.ensures
     (told_of c.args.bodies c.args.past.now.config.now c.args.past.now.salt h c.args.ticket c.at-entry.result.now c.reached.result.now c.args.self.now c.reached.ensures
-    ∙ told_here c.args.bodies c.args.past.now.config.now c.args.past.now.salt c.args.past.now.entries.now.0 c.args.ticket c.at-entry.result.now c.args.self.now d c.requires.there (c.at-entry.ensures d) c.requires.at)
+    ∙ told_here c.args.bodies c.args.past.now.config.now c.args.past.now.salt c.args.past.now.entries.now.0 c.args.ticket c.at-entry.result.now c.args.self.now d c.requires.there
+    (c.at-entry.ensures d) c.requires.at)
     ended)
     c.finish.ensures

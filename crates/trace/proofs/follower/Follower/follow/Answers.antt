@@ -15,7 +15,8 @@ pub take-requires-clause-few : goal.take-requires-clause-few
 take-requires-clause-few c =
     let h : List Entry = reverse c.args.past.now.entries.now.0 in
     let long : length (before h c.args.ticket) ≡ c.args.ticket = length_before h c.args.ticket (omega (arith, c.requires.there, length-reverse c.args.past.now.entries.now.0)) in
-    rw c.requires.at (few_sites c.args.past.now.config.now (before h c.args.ticket) (legal_drop c.args.past.now.config.now (length h - c.args.ticket) h c.requires.legal) (omega (arith, long, c.requires.there, c.requires.few)))
+    rw c.requires.at
+    (few_sites c.args.past.now.config.now (before h c.args.ticket) (legal_drop c.args.past.now.config.now (length h - c.args.ticket) h c.requires.legal) (omega (arith, long, c.requires.there, c.requires.few)))
 
 pub take-requires-clause-numbered : goal.take-requires-clause-numbered
 take-requires-clause-numbered c = rw c.requires.at (numbered_sites c.args.past.now.config.now (before (reverse c.args.past.now.entries.now.0) c.args.ticket))

@@ -9,5 +9,6 @@ returns-clause-kept g c =
     let between = c.take_receipts.new.self.held.kept in (
       between,
       coe 0 1 (i. Steps g.K.Keep.notes (c.room.ensures.same i).kept (receipts i) between) c.take_receipts.ensures.kept,
-      coe 1 0 (i. Steps g.K.Keep.makes between c.args.other.held.kept.calls (c.absorb.ensures i).held.kept) (coe 0 1 (i. Steps g.K.Keep.makes between (calls i) c.take_calls.new.self.held.kept) c.take_calls.ensures.kept),
+      coe 1 0 (i. Steps g.K.Keep.makes between c.args.other.held.kept.calls (c.absorb.ensures i).held.kept)
+          (coe 0 1 (i. Steps g.K.Keep.makes between (calls i) c.take_calls.new.self.held.kept) c.take_calls.ensures.kept),
     )
