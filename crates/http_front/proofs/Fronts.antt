@@ -19,7 +19,7 @@ use Rattle.http_front.specs.Responses.{IsAnswerTo, IsRefusal}
 use Rattle.http_front.specs.declared.course.Course.{Course}
 use Rattle.http_front.specs.declared.course.Course.TheVariants.{Own, Handed, OfHandler}
 use Rattle.http_front.specs.declared.front.Front.{Front}
-use Rattle.http_front.specs.declared.responding.Responding.{Responding}
+use Rattle.http_front.specs.declared.course.responding.Responding.{Responding}
 use Rattle.long_poll.specs.Exchanges.{service_of}
 use Rattle.long_poll.specs.Lengths.{declares_too_long}
 use Rattle.long_poll.specs.Outcomes.{IsStreamOf}

@@ -7,7 +7,7 @@ use Rattle.http_front.specs.Handing.{asks}
 use Rattle.http_front.specs.declared.course.Course.{Course}
 use Rattle.http_front.specs.declared.course.Course.TheVariants as answers
 use Rattle.http_front.specs.declared.front.Front.{Front}
-use Rattle.http_front.specs.declared.responding.Responding.{Responding}
+use Rattle.http_front.specs.declared.course.responding.Responding.{Responding}
 use Rattle.http_routes.specs.Decisions.{Served}
 use Rattle.http_routes.specs.Handing.{hands_over, is_own}
 use Rattle.long_poll.specs.Lengths.{declares_too_long}

@@ -11,10 +11,10 @@ use Rattle.lambda_wire.specs.declared.body_writer.InvokeFault.TheVariants.{User,
 use Rattle.lambda_wire.specs.declared.reply.Reply.{Reply}
 use Rattle.long_poll.specs.declared.exchange.fault.ExchangeFault.{ExchangeFault}
 use Rattle.long_poll.specs.declared.exchange.fault.ExchangeFault.TheVariants as exchange
-use Rattle.http_front.specs.declared.desk_fault.HandedFault.{HandedFault}
-use Rattle.http_front.specs.declared.desk_fault.HandedFault.TheVariants as handed
-use Rattle.http_front.specs.declared.desk_fault.HandlerFault.{HandlerFault}
-use Rattle.http_front.specs.declared.desk_fault.HandlerFault.TheVariants as own
+use Rattle.http_front.specs.declared.at_desk.fault.HandedFault.{HandedFault}
+use Rattle.http_front.specs.declared.at_desk.fault.HandedFault.TheVariants as handed
+use Rattle.http_front.specs.declared.at_desk.fault.HandlerFault.{HandlerFault}
+use Rattle.http_front.specs.declared.at_desk.fault.HandlerFault.TheVariants as own
 
 -- Why a request has no answer whose body was not collected. (That of a lost bell never comes.)
 abbrev pub of_body : ExchangeFault → HandedFault

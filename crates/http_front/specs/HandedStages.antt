@@ -1,10 +1,10 @@
 -- The stages of a request that is handed over, and of a handler's own request.
 use Rattle.std.specs.Prelude.{◌≡◌, ℕ}
 use Rattle.futures.specs.Channel.{completed_source}
-use Rattle.http_front.specs.declared.handed.HandedStage.{HandedStage}
-use Rattle.http_front.specs.declared.handed.HandedStage.TheVariants as handed
-use Rattle.http_front.specs.declared.of_handler.OwnStage.{OwnStage}
-use Rattle.http_front.specs.declared.of_handler.OwnStage.TheVariants as own
+use Rattle.http_front.specs.declared.at_desk.handed.HandedStage.{HandedStage}
+use Rattle.http_front.specs.declared.at_desk.handed.HandedStage.TheVariants as handed
+use Rattle.http_front.specs.declared.at_desk.of_handler.OwnStage.{OwnStage}
+use Rattle.http_front.specs.declared.at_desk.of_handler.OwnStage.TheVariants as own
 
 -- A request that is handed over can be polled: while its body is collected, that can be.
 abbrev pub CanGoOn : {B : Type 0} → (B → Type 0) → HandedStage B → Type 0

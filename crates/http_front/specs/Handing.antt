@@ -17,10 +17,10 @@ use Rattle.http_front.specs.DeskFaults.{handed_reply, handler_reply}
 use Rattle.http_front.specs.Responses.{HasMap, HasHead, IsWhole, IsResponseOf}
 use Rattle.http_front.specs.declared.at_desk.Way.{Way}
 use Rattle.http_front.specs.declared.at_desk.Way.TheVariants.{Own, Handed, OfHandler}
-use Rattle.http_front.specs.declared.desk_fault.HandedFault.{HandedFault}
-use Rattle.http_front.specs.declared.desk_fault.HandlerFault.{HandlerFault}
-use Rattle.http_front.specs.declared.desk_response.Done.{Done}
-use Rattle.http_front.specs.declared.desk_response.Done.TheVariants as done
+use Rattle.http_front.specs.declared.at_desk.fault.HandedFault.{HandedFault}
+use Rattle.http_front.specs.declared.at_desk.fault.HandlerFault.{HandlerFault}
+use Rattle.http_front.specs.declared.at_desk.response.Done.{Done}
+use Rattle.http_front.specs.declared.at_desk.response.Done.TheVariants as done
 use Rattle.http_routes.specs.Decisions.{Served}
 use Rattle.http_routes.specs.Handing.{hands_over, is_own}
 use Rattle.http_uri.specs.Grammar.{or_slash}

@@ -5,9 +5,9 @@ use Rattle.arn_ids.specs.declared.config.Config.{Config as Configured}
 use Rattle.arn_ids.specs.declared.faults.ConfigFault.TheVariants.{EntriesOutOfRange}
 use Rattle.account_book.specs.declared.book.OpenFault.{OpenFault}
 use Rattle.account_book.specs.declared.book.OpenFault.TheVariants as opening
-use Rattle.http_front.specs.declared.host_fault.HostFault.{HostFault}
-use Rattle.http_front.specs.declared.host_fault.HostFault.TheVariants.{Config, Network, TooFewDescriptors}
-use Rattle.http_front.specs.declared.host_fault.HostFault.TheVariants.{TooFewThreads, StillShared, OutOfMemory}
+use Rattle.http_front.specs.declared.host.fault.HostFault.{HostFault}
+use Rattle.http_front.specs.declared.host.fault.HostFault.TheVariants.{Config, Network, TooFewDescriptors}
+use Rattle.http_front.specs.declared.host.fault.HostFault.TheVariants.{TooFewThreads, StillShared, OutOfMemory}
 
 -- The fault of a host whose history is not opened.
 abbrev pub fault_of_opening : OpenFault → HostFault

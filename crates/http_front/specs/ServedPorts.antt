@@ -5,7 +5,7 @@ use Rattle.arn_ids.specs.declared.config.Config.{Config}
 use Rattle.http_routes.specs.Decisions.{Served}
 use Rattle.service_port.specs.declared.port.Port.{Port}
 use Rattle.service_port.specs.declared.port.Port.TheVariants.{Account, Environment}
-use Rattle.http_front.specs.declared.listener.Listener.{Listener}
+use Rattle.http_front.specs.declared.ports.listener.Listener.{Listener}
 
 -- The decider at the port of a port.
 abbrev pub served : Config → ℕ → Port → Served

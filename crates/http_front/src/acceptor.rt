@@ -1,16 +1,17 @@
 //! The thread that accepts connections, gives each a thread, and ends them.
 
-ghost use Rattle.std.specs.Prelude.{◌≡◌, ◌≤◌, IfErr, IfOk};
-ghost use Rattle.http_front.specs.declared.host_fault.HostFault.TheVariants.{StillShared};
+mod admission;
 
-use crate::admission::admit;
+ghost use Rattle.std.specs.Prelude.{◌≡◌, ◌≤◌, IfErr, IfOk};
+ghost use Rattle.http_front.specs.declared.host.fault.HostFault.TheVariants.{StillShared};
+
 use crate::common::Common;
-use crate::listener::{AcceptedSocket, Listener};
-use crate::ports::Ports;
+use crate::ports::{AcceptedSocket, Listener, Ports};
 use crate::ticker::Ticker;
 use crate::worker::{Job, Worker};
 use crate::{HostFault, Hosted, Notices, Port};
 use account_lock::{Account, Identity};
+use admission::admit;
 use connection_places::Slots;
 use handler_desk::Desk;
 use http_connection::Machine;

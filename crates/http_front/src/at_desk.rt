@@ -1,5 +1,10 @@
 //! What a connection needs to hand its requests over to handlers, and to serve one.
 
+mod fault;
+mod handed;
+mod of_handler;
+mod response;
+
 ghost use Rattle.std.specs.Prelude.{◌≡◌, IfOk};
 ghost use Rattle.std.specs.Arc.{arc_value};
 ghost use Rattle.http_header.specs.HeaderMap.{pairs};
@@ -8,13 +13,15 @@ ghost use Rattle.handover.specs.Heads.{head_tokens};
 ghost use Rattle.http_front.specs.Handing as spec;
 
 use crate::Side;
-use crate::desk_fault::HandedFault;
 use arn_ids::LONGEST_BODY;
 use bytes::Bytes;
+use fault::HandedFault;
+pub use handed::Handed;
 use handler_desk::{Asked, Desk, Put, Request, read_asked};
 use handover::write_head;
 use http::request::Parts;
 use long_poll::OpenPoll;
+pub use of_handler::OfHandler;
 use std::alloc::{AllocError, Global};
 use std::sync::{Arc, Wait};
 use std::time;

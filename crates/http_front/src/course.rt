@@ -1,17 +1,21 @@
 //! The responses to requests, as futures, by who answers.
 
-use crate::ResponseFault;
-use crate::handed::Handed;
-use crate::of_handler::OfHandler;
-use crate::responding::Responding;
+mod fault;
+mod responding;
+mod response;
+
+use crate::{Handed, OfHandler};
 use bytes::Bytes;
 use decisions::Decide;
+pub use fault::ResponseFault;
 use futures::Future;
 use futures::task::{Context, Poll};
 use http::Response;
 use http_body::Body;
 use http_body_util::{Either, Full};
 use long_poll::{BodyFault, Clock, Service, StreamedBody};
+pub use responding::Responding;
+pub(crate) use response::{reply_response, with_map};
 use std::sync::Wait;
 use std::time;
 use usage_ledger::{Keep, Ledgers};

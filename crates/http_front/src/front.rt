@@ -7,12 +7,8 @@ ghost use Rattle.http_front.specs.Causes.{cause_of};
 ghost use Rattle.http_front.specs.HandedStages.{CanGoOn, CanServe};
 ghost use Rattle.long_poll.specs.Lengths as lengths;
 
-use crate::at_desk::{AtDesk, Way};
-use crate::course::Course;
-use crate::handed::Handed;
-use crate::of_handler::OfHandler;
-use crate::responding::Responding;
-use crate::{Port, ResponseFault};
+use crate::at_desk::Way;
+use crate::{AtDesk, Course, Handed, OfHandler, Port, Responding, ResponseFault};
 use bytes::Bytes;
 use decisions::Decide;
 use futures::Future;

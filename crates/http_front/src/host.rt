@@ -1,23 +1,29 @@
 //! The server: its ports, and the threads of its connections.
 
+mod fault;
+mod plan;
+
 ghost use Rattle.std.specs.Prelude.{◌≡◌, ◌⊎◌, ◌+◌, ◌^◌, ◌≤◌, ◌↔◌, length, IfErr, IsErrOf};
 ghost use Rattle.std.specs.Arc.{arc_value};
 ghost use Rattle.arn_ids.specs.Environments.{owners};
 ghost use Rattle.arn_ids.specs.declared.faults.ConfigFault.TheVariants.{EntriesOutOfRange};
 ghost use Rattle.http_front.specs.ServedPorts.{all_served, all_served_of};
 ghost use Rattle.http_front.specs.HostFaults.{IsOfMachine};
-ghost use Rattle.http_front.specs.declared.host_fault.HostFault.TheVariants.{Config};
+ghost use Rattle.http_front.specs.declared.host.fault.HostFault.TheVariants.{Config};
 
 use crate::acceptor::Acceptor;
 use crate::ports::Ports;
 use crate::ticker::Ticker;
 use crate::worker::STACK_BYTES;
-use crate::{Alarm, HostFault, Notices, Plan};
+use crate::{Alarm, Notices};
 use account_lock::{Account, Identity};
 use arn_ids::Checked;
+pub use fault::HostFault;
+pub(crate) use fault::at_socket;
 use http_connection::{EventLoop, Machine};
 use long_poll::{Clock, OneShotBell};
 use mio::Poll;
+pub use plan::Plan;
 use request_guard::KnownHosts;
 use std::alloc::AllocError;
 use std::sync::Arc;

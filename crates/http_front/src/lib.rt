@@ -3,45 +3,38 @@
 //!
 //! A fault is passed on by `Err(fault) => Err(fault)` if `?` would add a conversion that the prover
 //! does not see through.
+//!
+//! The groups of modules stand in the order in which to read them.
 #![tactic(auto)]
 
-mod acceptor;
-mod admission;
+// How a request is answered. A `Front` is the `hyper` service of a connection: its guard comes first, and then a request
+// takes one of three courses: the exchange of `long_poll`, by which the service answers it itself; to a handler, who
+// gets it at the desk; or it is a handler's own, who asks for a request or posts an answer.
 mod at_desk;
-mod common;
 mod course;
-mod deciders;
-mod desk_fault;
-mod desk_response;
 mod front;
-mod handed;
-mod host;
-mod host_fault;
-mod listener;
-mod notices;
-mod of_handler;
-mod plan;
+
+// The ports that are listened on, each with the function and the environment that it is for.
 mod ports;
-mod responding;
-mod response;
-mod response_fault;
-mod served_port;
+
+// The threads, and what they have in common. The acceptor gives each new connection a place, a worker serves the
+// connections of its place, one after the other, and the ticker lets time pass in the account.
+mod acceptor;
+mod common;
 mod ticker;
 mod worker;
 
-pub use at_desk::AtDesk;
-pub use course::Course;
+// The whole: a plan is checked, a host is opened with it, runs, and stops; what it has to say while it runs are notices.
+mod host;
+mod notices;
+
+pub use at_desk::{AtDesk, Handed, OfHandler};
+pub use course::{Course, Responding, ResponseFault};
 pub use front::Front;
-pub use handed::Handed;
-pub use host::{Host, Hosted};
-pub use host_fault::HostFault;
+pub use host::{Host, HostFault, Hosted, Plan};
 pub use http_connection::Machine;
 pub use http_routes::{Decision, Shown, Side, laws};
 pub use long_poll::{Alarm, Cause, Kind, Rejections, Told};
 pub use notices::{Notices, Room};
-pub use of_handler::OfHandler;
-pub use plan::Plan;
 pub use request_guard::{KnownHosts, Refusal};
-pub use responding::Responding;
-pub use response_fault::ResponseFault;
 pub use service_port::Port;

@@ -1,5 +1,8 @@
 //! The ports that a host listens on.
 
+mod listener;
+mod served_port;
+
 ghost use Rattle.std.specs.Prelude.{◌≡◌, ◌++◌, ◌∷◌, [], IfOk, IfErr, OnOk};
 ghost use Rattle.std.specs.Arc.{arc_value};
 ghost use Rattle.http_routes.specs.Decisions.{IsPortOf};
@@ -8,14 +11,14 @@ ghost use Rattle.http_front.specs.HostFaults.{IsOfMachine};
 ghost use Rattle.http_front.specs.Ports.{ports_of, environment_ports, number_of};
 ghost use Rattle.http_front.specs.ServedPorts.{served, all_served, all_served_of};
 
-use crate::host_fault::at_socket;
-use crate::listener::Listener;
-use crate::served_port::ServedPort;
+use crate::host::at_socket;
 use crate::{HostFault, Port};
 use account_lock::Identity;
 use arn_ids::{Checked, Slot};
+pub(crate) use listener::{AcceptedSocket, Listener};
 use mio::net::TcpListener;
 use mio::{Events, Interest, Poll, Token, Waker};
+pub(crate) use served_port::ServedPort;
 use std::alloc::{AllocError, Global};
 use std::io;
 use std::net::{IpAddr, Ipv4Addr, Net, SocketAddr};

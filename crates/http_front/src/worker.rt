@@ -1,5 +1,7 @@
 //! The thread of a place, which serves one connection after the other.
 
+mod deciders;
+
 ghost use Rattle.std.specs.Prelude.{◌≡◌, IfErr, IfOk, OnOk};
 ghost use Rattle.std.specs.Arc.{arc_value};
 ghost use Rattle.account_lock.specs.Submits.{IsTurnedAway};
@@ -12,12 +14,9 @@ ghost use Rattle.http_front.specs.Readings.{IsRead};
 ghost use Rattle.http_front.specs.Withdrawn.{IsWithdrawn};
 ghost use Rattle.socket_loop.specs.Halves.{name_of_accepted, name_of_unused};
 
-use crate::at_desk::AtDesk;
 use crate::common::Common;
-use crate::deciders::Deciders;
-use crate::front::Front;
-use crate::served_port::ServedPort;
-use crate::{Port, Side};
+use crate::ports::ServedPort;
+use crate::{AtDesk, Front, Port, Side};
 use account_book::Refusal;
 use account_lock::{Account, Identity, Trail};
 use arn_ids::FnNo;
@@ -25,6 +24,7 @@ use bytes::Bytes;
 use call_model::{Call, Ticket};
 use connection_places::{Post, WorkerThread};
 use connection_state::{Pulse, Signals};
+use deciders::Deciders;
 use decisions::Decide;
 use http_body::Body;
 use http_body_util::{Either, Full};

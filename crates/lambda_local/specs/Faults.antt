@@ -5,8 +5,8 @@ use Rattle.lambda_wire.specs.declared.fault.WireFault.{WireFault}
 use Rattle.lambda_wire.specs.declared.fault.WireFault.TheVariants as wire
 use Rattle.account_lock.specs.declared.settle.fault.SettleFault.{SettleFault}
 use Rattle.account_lock.specs.declared.settle.fault.SettleFault.TheVariants as settling
-use Rattle.http_front.specs.declared.host_fault.HostFault.{HostFault}
-use Rattle.http_front.specs.declared.host_fault.HostFault.TheVariants as host
+use Rattle.http_front.specs.declared.host.fault.HostFault.{HostFault}
+use Rattle.http_front.specs.declared.host.fault.HostFault.TheVariants as host
 use Rattle.lambda_local.specs.declared.serve_fault.ServeFault.{ServeFault}
 use Rattle.lambda_local.specs.declared.serve_fault.ServeFault.TheVariants.{Config, Wire, Settlement, Read, Network}
 use Rattle.lambda_local.specs.declared.serve_fault.ServeFault.TheVariants.{TooFewDescriptors, TooFewThreads, OutOfMemory}

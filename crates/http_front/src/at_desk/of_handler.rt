@@ -5,10 +5,9 @@ ghost use Rattle.futures.specs.Poll.{IfReady, OnPending};
 ghost use Rattle.futures.specs.Task.{Covers, Keeps};
 ghost use Rattle.http_front.specs.HandedStages.{CanServe};
 
-use crate::ResponseFault;
-use crate::at_desk::AtDesk;
-use crate::desk_fault::HandlerFault;
-use crate::desk_response::{Done, handler_response};
+use crate::at_desk::fault::HandlerFault;
+use crate::at_desk::response::{Done, handler_response};
+use crate::{AtDesk, ResponseFault};
 use arn_ids::LONGEST_BODY;
 use bytes::Bytes;
 use futures::channel::oneshot::Receiver;

@@ -4,7 +4,7 @@ ghost use Rattle.std.specs.Prelude.{◌≡◌, IfOk, IfSome};
 ghost use Rattle.std.specs.Arc.{arc_value};
 
 use crate::Side;
-use crate::served_port::ServedPort;
+use crate::ports::ServedPort;
 use account_lock::Identity;
 use std::alloc::{AllocError, Global};
 use std::sync::Arc;

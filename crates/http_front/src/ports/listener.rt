@@ -3,7 +3,7 @@
 ghost use Rattle.std.specs.Prelude.{◌≡◌, false, IfOk};
 
 use crate::Port;
-use crate::served_port::ServedPort;
+use crate::ports::ServedPort;
 use account_lock::Identity;
 use mio::net::TcpListener;
 use socket_loop::Accepted;

@@ -7,8 +7,8 @@ ghost use Rattle.handover.specs.Heads.{line_of};
 ghost use Rattle.http_front.specs.Handing as spec;
 
 use crate::ResponseFault;
-use crate::desk_fault::{HandedFault, HandlerFault, handed_reply, handler_reply};
-use crate::response::{reply_response, with_map};
+use crate::at_desk::fault::{HandedFault, HandlerFault, handed_reply, handler_reply};
+use crate::course::{reply_response, with_map};
 use bytes::Bytes;
 use handler_desk::{Posted, Request};
 use handover::{AnswerHead, Field};

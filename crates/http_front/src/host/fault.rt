@@ -34,7 +34,7 @@ pub enum HostFault {
 
 impl From<AllocError> for HostFault {
     ghost use Rattle.std.specs.Prelude.{◌≡◌};
-    ghost use Rattle.http_front.specs.declared.host_fault.HostFault.TheVariants.{OutOfMemory};
+    ghost use Rattle.http_front.specs.declared.host.fault.HostFault.TheVariants.{OutOfMemory};
 
     ghost from_gives = { λ _ made. made ≡ OutOfMemory };
 

@@ -5,10 +5,9 @@ ghost use Rattle.futures.specs.Poll.{IfReady, OnPending};
 ghost use Rattle.futures.specs.Task.{Covers, Keeps};
 ghost use Rattle.http_front.specs.HandedStages.{CanGoOn};
 
-use crate::ResponseFault;
-use crate::at_desk::AtDesk;
-use crate::desk_fault::HandedFault;
-use crate::desk_response::handed_response;
+use crate::at_desk::fault::HandedFault;
+use crate::at_desk::response::handed_response;
+use crate::{AtDesk, ResponseFault};
 use bytes::Bytes;
 use futures::channel::oneshot::Canceled;
 use futures::future::Future;

@@ -3,7 +3,7 @@
 ghost use Rattle.std.specs.Prelude.{◌≡◌, IfOk, Some, None};
 ghost use Rattle.http_front.specs.Responses.{IsAnswerTo, IsRefusal};
 
-use crate::response::{reply_response, response_to};
+use crate::course::response::{reply_response, response_to};
 use crate::{Port, ResponseFault};
 use bytes::Bytes;
 use decisions::Decide;

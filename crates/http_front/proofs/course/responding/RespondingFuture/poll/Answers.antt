@@ -1,6 +1,6 @@
 use Rattle.std.proofs.Common.{rules}
 use Rattle.http_front.proofs.Responded.{given_before, given_by}
-use Rattle.http_front.proofs.responding.RespondingFuture.poll.Goals as goal
+use Rattle.http_front.proofs.course.responding.RespondingFuture.poll.Goals as goal
 
 pub returns-in-Pending-clause-same : goal.returns-in-Pending-clause-same
 returns-in-Pending-clause-same g c = λ x given.

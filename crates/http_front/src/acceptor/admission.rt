@@ -3,7 +3,7 @@
 ghost use Rattle.std.specs.Prelude.{◌≡◌, IfOk};
 
 use crate::Port;
-use crate::listener::AcceptedSocket;
+use crate::ports::AcceptedSocket;
 use crate::worker::{Job, PendingConnection};
 use account_lock::Identity;
 use connection_places::Running;
