@@ -10,7 +10,7 @@ use Rattle.json.specs.Token.{Token}
 use Rattle.fleet.specs.Reaches.{before}
 use Rattle.trace.specs.Object.{object_text}
 use Rattle.trace.specs.Sites.{sites}
-use Rattle.trace.specs.declared.followed.Followed.{Followed}
+use Rattle.trace.specs.declared.follower.followed.Followed.{Followed}
 use Rattle.account_lock.specs.Trails.{IsLineOf, IsObjectOf}
 
 all_dropped : (h : List Entry) → drop (length h) h ≡ []

@@ -1,5 +1,5 @@
 -- The body that stands for those that are too long is too long.
-use Rattle.std.proofs.Common.{◌≡◌, ◌<◌, ℕ, suc, length, replicate, arith}
+use Rattle.std.proofs.Common.{◌<◌, ℕ, suc, length, replicate, arith}
 use Rattle.std.proofs.lemmas.List.{length-replicate}
 use Rattle.arn_ids.specs.Limits.{longest_body}
 use Rattle.decisions.specs.Received.{some_long_body}

@@ -1,12 +1,10 @@
 -- The stands of all environments after an entry that concerns one of them.
-use Rattle.std.proofs.Common.{◌≡◌, ℕ, zero, suc, ◌+◌, ◌<◌, ◌≤◌, false, List, ◌∷◌, length, sym, refl, ap, ap₂, ◌∙◌, subst, arith, ◌≢◌, map, set}
+use Rattle.std.proofs.Common.{◌≡◌, ℕ, zero, suc, ◌+◌, ◌<◌, ◌≤◌, List, ◌∷◌, sym, refl, ap, ap₂, ◌∙◌, subst, arith, ◌≢◌, map, set}
 use Rattle.call_types.specs.declared.call.Entry.{Entry}
 use Rattle.arn_ids.specs.declared.config.Config.{Config}
-use Rattle.arn_ids.specs.Environments.{count_from, owners, environments}
-use Rattle.call_model.specs.Life.{stand, concerns}
+use Rattle.arn_ids.specs.Environments.{count_from, environments}
+use Rattle.call_model.specs.Life.{stand}
 use Rattle.call_model.specs.Stand.{Stand}
-use Rattle.call_model.specs.Next.{IsLegal, Follows}
-use Rattle.environment_step.proofs.Frame.{stand_elsewhere}
 
 pub all_same : {A : Type 0} (f g : ℕ → A) (first n : ℕ) → ((d : ℕ) → first ≤ d → f d ≡ g d) → map f (count_from first n) ≡ map g (count_from first n)
 all_same f g first zero e = refl

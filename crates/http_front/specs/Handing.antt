@@ -12,7 +12,7 @@ use Rattle.http.specs.declared.request.Parts.{Parts}
 use Rattle.http.specs.declared.response.Response.{Response}
 use Rattle.http_body_util.specs.declared.either.Either.{Either}
 use Rattle.http_body_util.specs.declared.full.Full.{Full}
-use Rattle.http_header.specs.FieldValue.{FieldValue, plain_value}
+use Rattle.http_header.specs.FieldValue.{FieldValue}
 use Rattle.http_front.specs.DeskFaults.{handed_reply, handler_reply}
 use Rattle.http_front.specs.Responses.{HasMap, HasHead, IsWhole, IsResponseOf}
 use Rattle.http_front.specs.declared.at_desk.Way.{Way}

@@ -11,7 +11,7 @@ use Rattle.std.proofs.lemmas.List.Elements.{All-map}
 use Rattle.std.proofs.lemmas.List.Sums.{count_by-le-length}
 use Rattle.call_model.proofs.Basics.{count_cons, map_map, map_same}
 use Rattle.environment_step.specs.After.{step_at}
-use Rattle.trace.specs.declared.followed.Followed.{Followed}
+use Rattle.trace.specs.declared.follower.followed.Followed.{Followed}
 use Rattle.fleet.specs.Reaches.{reach, reaches}
 use Rattle.fleet.specs.Sites.{site as site_of, moved}
 use Rattle.fleet.specs.declared.site.Site.{Site}

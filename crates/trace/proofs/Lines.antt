@@ -11,10 +11,10 @@ use Rattle.fleet.specs.Reaches.{before}
 use Rattle.trace.specs.Object.{object_tokens, told, Turn, turn_at, turns_at}
 use Rattle.trace.specs.Sites.{site, sites, turn_of}
 use Rattle.trace.specs.Telling.{IsBegun, Tells, tokens_of}
-use Rattle.trace.specs.declared.part.Part.{Part}
-use Rattle.trace.specs.declared.part.Run.{Run}
-use Rattle.trace.specs.declared.followed.Followed.{Followed}
-use Rattle.trace.specs.declared.teller.Teller.{Teller}
+use Rattle.trace.specs.declared.draft.part.Part.{Part}
+use Rattle.trace.specs.declared.draft.part.Run.{Run}
+use Rattle.trace.specs.declared.follower.followed.Followed.{Followed}
+use Rattle.trace.specs.declared.draft.teller.Teller.{Teller}
 use Rattle.fleet.proofs.Earlier.{length_before, one_later}
 
 -- what the newest entry made of each environment

@@ -9,9 +9,9 @@ use Rattle.trace.specs.EnvironmentObject.{environments_object, object_at}
 use Rattle.trace.specs.Listings.{HasListed}
 use Rattle.trace.specs.Members.{number_member}
 use Rattle.trace.specs.Telling.{IsBegun, Tells, tokens_of}
-use Rattle.trace.specs.declared.part.Part.{Part}
-use Rattle.trace.specs.declared.part.Run.{Run}
-use Rattle.trace.specs.declared.teller.Teller.{Teller}
+use Rattle.trace.specs.declared.draft.part.Part.{Part}
+use Rattle.trace.specs.declared.draft.part.Run.{Run}
+use Rattle.trace.specs.declared.draft.teller.Teller.{Teller}
 
 flat_next : (g : ℕ → List Token) (a n : ℕ) → flat_map g (count_from a (suc n)) ≡ flat_map g (count_from a n) ++ g (a + n)
 flat_next g a zero = append-nil (g a) ∙ ap g (let same : a ≡ a + 0 = omega arith in same)

@@ -29,10 +29,10 @@ use Rattle.trace.specs.PhaseObject.{same_option, same_phase, same_reason}
 use Rattle.fleet.specs.Reaches.{reaches}
 use Rattle.fleet.proofs.Loops.{count_length}
 use Rattle.trace.specs.Sites.{counted_in, moved_if, seen, site, sites, turn_of, visited, IsNumbered}
-use Rattle.trace.specs.declared.arrival.Arrival.{Arrival}
+use Rattle.trace.specs.declared.follower.arrival.Arrival.{Arrival}
 use Rattle.fleet.specs.declared.reach.Reach.{Reach}
 use Rattle.fleet.specs.declared.reach.Reach.TheVariants.{Nowhere}
-use Rattle.trace.specs.declared.followed.Followed.{Followed}
+use Rattle.trace.specs.declared.follower.followed.Followed.{Followed}
 use Rattle.trace.proofs.Telling.{flat_mapped}
 
 -- some environment, of which nothing is known

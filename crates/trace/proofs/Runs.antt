@@ -11,9 +11,9 @@ use Rattle.json.specs.Token.{Token, key, string}
 use Rattle.json.proofs.Printed.Tokens.{print_from-append, ends_push}
 use Rattle.trace.specs.Members.{body_member, text_member}
 use Rattle.trace.specs.Telling.{inset_tokens, part_token, primed, quotes, run_tokens}
-use Rattle.trace.specs.declared.part.Inset.{Inset}
-use Rattle.trace.specs.declared.part.Inset.TheVariants.{Copied, Body}
-use Rattle.trace.specs.declared.part.Run.{Run}
+use Rattle.trace.specs.declared.draft.part.Inset.{Inset}
+use Rattle.trace.specs.declared.draft.part.Inset.TheVariants.{Copied, Body}
+use Rattle.trace.specs.declared.draft.part.Run.{Run}
 
 -- an empty string in the place of a value
 pub print-primed : (after : Bool) (ts : List Token) → print (primed after ts) ≡ quotes after ++ print_from after ts

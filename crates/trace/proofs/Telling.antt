@@ -12,9 +12,9 @@ use Rattle.json.specs.Token.{Token, end_array}
 use Rattle.json.specs.Written.{Written}
 use Rattle.trace.specs.Members.{body_member, text_member}
 use Rattle.trace.specs.Telling.{Adds, Tells, inset_tokens, part_token, run_tokens, tokens_of}
-use Rattle.trace.specs.declared.part.Part.{Part}
-use Rattle.trace.specs.declared.part.Run.{Run}
-use Rattle.trace.specs.declared.teller.Teller.{Teller}
+use Rattle.trace.specs.declared.draft.part.Part.{Part}
+use Rattle.trace.specs.declared.draft.part.Run.{Run}
+use Rattle.trace.specs.declared.draft.teller.Teller.{Teller}
 
 -- one text after the other
 pub tells_after : (front rest : List Token) (old mid new : Teller) → Tells front old mid → Tells rest mid new → Tells (front ++ rest) old new

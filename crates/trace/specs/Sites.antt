@@ -8,9 +8,9 @@ use Rattle.call_model.specs.History.{requests, is_invoke_of}
 use Rattle.call_model.specs.Life.{phase}
 use Rattle.environment_step.specs.After.{Step}
 use Rattle.env_phase.specs.Taking.{registered_name, IsShort}
-use Rattle.trace.specs.declared.arrival.Arrival.{Arrival}
+use Rattle.trace.specs.declared.follower.arrival.Arrival.{Arrival}
 use Rattle.fleet.specs.declared.reach.Reach.{Reach}
-use Rattle.trace.specs.declared.followed.Followed.{Followed}
+use Rattle.trace.specs.declared.follower.followed.Followed.{Followed}
 use Rattle.trace.specs.Object.{Turn}
 use Rattle.fleet.specs.Reaches.{reaches}
 use Rattle.fleet.specs.Sites.{site as site_of, moved, IsFew as IsSiteFew}

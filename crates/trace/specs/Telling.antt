@@ -5,12 +5,12 @@ use Rattle.call_model.specs.Identifiers.{id_text}
 use Rattle.json.specs.Token.{Token, begin_object, end_object, begin_array, end_array, key, string, number, boolean}
 use Rattle.json.specs.Written.{Written}
 use Rattle.trace.specs.Members.{body_member}
-use Rattle.trace.specs.declared.part.Inset.{Inset}
-use Rattle.trace.specs.declared.part.Inset.TheVariants as insets
-use Rattle.trace.specs.declared.part.Part.{Part}
-use Rattle.trace.specs.declared.part.Part.TheVariants as parts
-use Rattle.trace.specs.declared.part.Run.{Run}
-use Rattle.trace.specs.declared.teller.Teller.{Teller}
+use Rattle.trace.specs.declared.draft.part.Inset.{Inset}
+use Rattle.trace.specs.declared.draft.part.Inset.TheVariants as insets
+use Rattle.trace.specs.declared.draft.part.Part.{Part}
+use Rattle.trace.specs.declared.draft.part.Part.TheVariants as parts
+use Rattle.trace.specs.declared.draft.part.Run.{Run}
+use Rattle.trace.specs.declared.draft.teller.Teller.{Teller}
 
 -- The token of a part.
 abbrev pub part_token : Part → Token

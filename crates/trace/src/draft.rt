@@ -1,5 +1,9 @@
 //! The object of an entry before it is written.
 
+mod line;
+mod part;
+mod teller;
+
 ghost use Rattle.std.specs.Prelude.{◌≡◌, ◌∷◌, ◌++◌, [], true, codes, map, OnOk, OnErr, IfOk};
 ghost use Rattle.std.specs.List.{flat_map};
 ghost use Rattle.base64.specs.Engines.{standard};
@@ -11,14 +15,15 @@ ghost use Rattle.call_model.specs.Identifiers.{id_text};
 ghost use Rattle.trace.specs.Members.{body_member, text_member};
 ghost use Rattle.trace.specs.Telling.{Adds, inset_tokens, part_token, run_tokens, tokens_of};
 
-use crate::line::line_of;
-use crate::part::{Inset, Part, Run};
 use base64::engine::general_purpose::STANDARD;
 use json::Writer;
+use line::line_of;
+pub(crate) use part::{Inset, Part, Run};
 use script::Draft as Text;
 use std::alloc::{AllocError, Global};
 use std::marker::Model;
 use std::{mem, str};
+pub(crate) use teller::{Teller, widened};
 use uuid::Uuid;
 
 /// Room for the line of most entries without their bodies.

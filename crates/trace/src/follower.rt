@@ -1,5 +1,9 @@
 //! A follower of a history: the environments after the entries that it has followed.
 
+mod arrival;
+mod followed;
+mod reached;
+
 ghost use Rattle.std.specs.Prelude.{◌≡◌, ◌+◌, ◌-◌, ◌<◌, ◌≤◌, ◌^◌, [], List, length, map, reverse, All, IfOk, None};
 ghost use Rattle.std.specs.List.{flat_map};
 ghost use Rattle.arn_ids.specs.Environments.{owners};
@@ -11,13 +15,13 @@ ghost use Rattle.fleet.specs.Reaches.{before};
 ghost use Rattle.trace.specs.Sites as spec;
 ghost use Rattle.trace.specs.Sites.{sites as sites_in, visited, IsFew, IsFit, IsNumbered};
 
-use crate::arrival::Arrival;
-use crate::followed::Followed;
-use crate::reached::{count_all, take_within, within};
 use arn_ids::{Checked, EnvNo};
+use arrival::Arrival;
 use call_model::{Past, Phase, Ticket};
 use extension_set::Moves;
 use fleet::{Reach, Site};
+pub(crate) use followed::Followed;
+use reached::{count_all, take_within, within};
 use std::alloc::{AllocError, Global};
 use std::marker::Model;
 
@@ -35,7 +39,7 @@ pub struct Follower {
 
 impl Model for Follower {
     ghost use Rattle.std.specs.Prelude.{List, map};
-    ghost use Rattle.trace.specs.declared.followed.Followed.{Followed};
+    ghost use Rattle.trace.specs.declared.follower.followed.Followed.{Followed};
     ghost use Rattle.trace.specs.Sites.{seen};
 
     ghost Value = { List Followed };

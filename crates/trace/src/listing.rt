@@ -1,5 +1,7 @@
 //! The object of the environments of an account.
 
+mod environment;
+
 ghost use Rattle.std.specs.Prelude.{◌≡◌, ◌+◌, ◌≤◌, ℕ, List, length, IfOk};
 ghost use Rattle.arn_ids.specs.Environments.{owners};
 ghost use Rattle.arn_ids.specs.declared.config.Config.{Config};
@@ -9,11 +11,10 @@ ghost use Rattle.trace.specs.EnvironmentObject.{environments_object};
 ghost use Rattle.trace.specs.Listings.{HasListed};
 
 use crate::Draft;
-use crate::environment_object::say_environment;
-use crate::part::Part;
-use crate::teller::Teller;
+use crate::draft::{Part, Teller};
 use arn_ids::{Checked, EnvNo};
 use env_phase::Environment;
+use environment::say_environment;
 use std::alloc::{AllocError, Global};
 use std::marker::Model;
 

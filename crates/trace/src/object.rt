@@ -1,5 +1,9 @@
 //! The object of an entry.
 
+mod answer;
+mod call;
+mod phase;
+
 ghost use Rattle.std.specs.Prelude.{◌≡◌, ◌+◌, ◌<◌, length, map, reverse, slice_index_or, IfOk};
 ghost use Rattle.std.specs.List.{flat_map};
 ghost use Rattle.call_types.specs.declared.call.Entry.{Entry};
@@ -11,16 +15,15 @@ ghost use Rattle.trace.specs.Object.{released, request_if, told};
 ghost use Rattle.trace.specs.Sites.{sites as sites_in, turn_of};
 ghost use Rattle.trace.specs.Telling.{Tells};
 
-use crate::answer_object::say_answer;
-use crate::call_object::say_call;
-use crate::draft::Draft;
-use crate::followed::Followed;
-use crate::follower::Follower;
-use crate::part::Part;
-use crate::phase_object::{say_all_released, say_phases};
-use crate::teller::{Teller, widened};
+use crate::draft::{Part, Teller, widened};
+use crate::follower::Followed;
+use crate::{Draft, Follower};
+use answer::say_answer;
 use arn_ids::EnvNo;
+use call::say_call;
 use call_model::{Answer, Call, Entry, Past, Ticket};
+pub(crate) use phase::{bound_of, phase_word, say_reason_if, served_by};
+use phase::{say_all_released, say_phases};
 use std::alloc::AllocError;
 
 fn say_answers(teller: &mut Teller, past: &Past, bodies: bool, answers: &[(Ticket, Answer)])

@@ -2,7 +2,7 @@ use Rattle.std.proofs.Common.{[], ap}
 use Rattle.call_model.specs.Life.{life}
 use Rattle.fleet.specs.declared.site.Site.{Site}
 use Rattle.trace.specs.Sites.{site}
-use Rattle.trace.specs.declared.followed.Followed.{Followed}
+use Rattle.trace.specs.declared.follower.followed.Followed.{Followed}
 use Rattle.trace.proofs.follower.open_site.Goals as goal
 
 pub returns : goal.returns

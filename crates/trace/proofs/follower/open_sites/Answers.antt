@@ -1,6 +1,6 @@
 use Rattle.std.proofs.Common.{◌∙◌, ◌+◌, ◌++◌, ◌∷◌, [], List, sym, ap₂, arith}
 use Rattle.trace.specs.Sites.{site}
-use Rattle.trace.specs.declared.followed.Followed.{Followed}
+use Rattle.trace.specs.declared.follower.followed.Followed.{Followed}
 use Rattle.fleet.proofs.Loops.{count_more}
 use Rattle.trace.proofs.follower.open_sites.Goals as goal
 

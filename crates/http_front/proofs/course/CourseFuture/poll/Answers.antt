@@ -1,4 +1,3 @@
-use Rattle.std.proofs.Common.{rules}
 use Rattle.http_front.proofs.course.CourseFuture.poll.Goals as goal
 
 pub returns-in-Own-clause-same : goal.returns-in-Own-clause-same

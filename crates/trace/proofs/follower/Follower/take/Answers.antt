@@ -1,7 +1,7 @@
 use Rattle.std.proofs.Common.{◌≡◌, ◌∙◌, List, map, ap, refl}
 use Rattle.std.proofs.lemmas.List.{with_items_is}
 use Rattle.trace.specs.Sites.{counted_in, moved_if, seen, visited, HasRoom, IsFew}
-use Rattle.trace.specs.declared.followed.Followed.{Followed}
+use Rattle.trace.specs.declared.follower.followed.Followed.{Followed}
 use Rattle.trace.proofs.Reaching.{all_after, all_before, numbered_after, numbered_before, seen_next}
 use Rattle.trace.proofs.follower.Follower.take.Goals as goal
 

@@ -1,4 +1,0 @@
-use Rattle.trace.proofs.answer_object.say_notice.Goals as goal
-
-pub returns : goal.returns
-returns c = rw (c.environment_id.ensures, c.request_id.ensures) at c.say_all.ensures

@@ -1,4 +1,0 @@
-use Rattle.trace.proofs.answer_object.say_reserved.Goals as goal
-
-pub returns : goal.returns
-returns c = rw c.from.ensures at c.say_all.ensures

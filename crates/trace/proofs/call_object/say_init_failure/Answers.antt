@@ -1,4 +1,0 @@
-use Rattle.trace.proofs.call_object.say_init_failure.Goals as goal
-
-pub returns : goal.returns
-returns c = rw c.from.ensures at c.say_around.ensures

@@ -1,0 +1,4 @@
+use Rattle.trace.proofs.object.answer.say_notice.Goals as goal
+
+pub returns : goal.returns
+returns c = rw (c.environment_id.ensures, c.request_id.ensures) at c.say_all.ensures

@@ -1,0 +1,4 @@
+use Rattle.trace.proofs.object.call.say_environment.Goals as goal
+
+pub returns : goal.returns
+returns c = rw c.from.ensures at c.say_all.ensures

@@ -1,5 +1,0 @@
-use Rattle.trace.proofs.Telling.{tells_after}
-use Rattle.trace.proofs.teller.Teller.say_text.Goals as goal
-
-pub returns : goal.returns
-returns c = tells_after _ _ _ _ _ c.say_all.ensures c.say_copied.ensures
