@@ -45,7 +45,8 @@ use Rattle.http_routes.specs.declared.routes.AccountRoute.{AccountRoute}
 use Rattle.http_routes.specs.declared.routes.AccountRoute.TheVariants as account
 use Rattle.service_port.specs.declared.port.Port.{Port}
 use Rattle.service_port.specs.declared.port.Port.TheVariants as port
-use Rattle.http_routes.proofs.Within.{Gives, Reads, environment_within, IsTarget, invoked_within, reserved_within}
+use Rattle.call_types.proofs.Within.{Gives}
+use Rattle.http_routes.proofs.Within.{Reads, environment_within, IsTarget, invoked_within, reserved_within}
 use Rattle.http_routes.proofs.Within.{request_within, extension_within, that_passes, trace_within, short}
 use Rattle.http_routes.proofs.Within.{payload_within, reservation_within}
 

@@ -1,19 +1,17 @@
 -- What a request's parts say is within the limits of the configuration.
-use Rattle.std.proofs.Common.{◌≡◌, ℕ, suc, ◌+◌, ◌-◌, ◌*◌, ◌/◌, ◌%◌, ◌^◌, ◌<◌, ◌≤◌, Bool, true, false, ◌&&◌, ◌||◌, cond}
-use Rattle.std.proofs.Common.{nat_le, nat_lt, ◌==◌, List, [], ◌∷◌, length, codes, bytes_eq, position, Option, Some}
+use Rattle.std.proofs.Common.{◌≡◌, ℕ, ◌-◌, ◌/◌, ◌%◌, ◌^◌, ◌<◌, ◌≤◌, Bool, true, false, ◌&&◌, ◌||◌, cond}
+use Rattle.std.proofs.Common.{nat_le, nat_lt, ◌==◌, List, [], ◌∷◌, length, codes, Option, Some}
 use Rattle.std.proofs.Common.{None, Result, Ok, Err, option_map, option_and_then, refl, arith}
-use Rattle.std.specs.Option.{IfSome, is_some}
+use Rattle.std.specs.Option.{is_some}
 use Rattle.std.specs.Result.{IfOk}
 use Rattle.std.specs.Int.{w128, from_be_bytes}
-use Rattle.std.specs.List.{position_or_len}
-use Rattle.std.proofs.lemmas.Bool.{leb-true, ltb-true}
+use Rattle.std.proofs.lemmas.Bool.{ltb-true}
 use Rattle.std.proofs.lemmas.Bool.Decides.{nat_tests}
 use Rattle.uuid.specs.Text.{parsed}
 use Rattle.http.specs.Uri.{uri_path}
 use Rattle.http.specs.declared.request.Parts.{Parts}
-use Rattle.arn_ids.specs.Words.{is_digit}
 use Rattle.arn_ids.specs.Grammar.{is_none_or, is_latest, is_qualifier, named_in}
-use Rattle.arn_ids.specs.Environments.{owners, number_named}
+use Rattle.arn_ids.specs.Environments.{number_named}
 use Rattle.arn_ids.specs.Identifiers.{high_word, kind_of, parts_of_words, parts_of}
 use Rattle.arn_ids.specs.declared.config.Config.{Config}
 use Rattle.arn_ids.specs.declared.config.Function.{Function}
@@ -27,7 +25,7 @@ use Rattle.lambda_wire.specs.Reading.{◌>>=◌, json_in, number_of, number_belo
 use Rattle.lambda_wire.specs.Requests.{payload_of, read_payload, reservation_of, read_count}
 use Rattle.lambda_wire.specs.declared.fault.WireFault.{WireFault}
 use Rattle.lambda_wire.specs.declared.fault.WireFault.TheVariants as wire
-use Rattle.arn_ids.specs.Numbers.{digits_in, number_in, from_one, env_in}
+use Rattle.arn_ids.specs.Numbers.{env_in}
 use Rattle.arn_ids.specs.Limits.{longest_body, greatest_reservation}
 use Rattle.call_types.specs.Within.{is_body, is_trace, IsEnv, IsFunction, IsCount, IsTrace}
 use Rattle.http_routes.specs.Paths.{path_part}
@@ -37,78 +35,11 @@ use Rattle.http_routes.specs.Names.{numbered, by_name, invoked, has_qualifier, r
 use Rattle.http_routes.specs.AccountDecisions.{environment_of}
 use Rattle.http_routes.specs.declared.names.Target.{Target}
 use Rattle.http_routes.specs.declared.names.Target.TheVariants as target
-
--- any value
-abbrev Anything : {A : Type 0} → A → Type 0
-Anything a = Unit {0}
-
--- what an option has, where it has a value
-pub record Gives {A : Type 0} (o : Option A) (Q : A → Type 0) : Type 0 where
-  pub holds : IfSome o Q
-
-nothing : {A : Type 0} {Q : A → Type 0} → Gives None Q
-nothing = record { holds = tt }
-
-gives : {A : Type 0} {Q : A → Type 0} (a : A) → Q a → Gives (Some a) Q
-gives a h = record { holds = h }
-
-anything : {A : Type 0} (o : Option A) → Gives o Anything
-anything None = nothing
-anything (Some a) = gives a tt
-
--- one step after the other
-and_then : {A B : Type 0} {Q : B → Type 0} (P : A → Type 0) (o : Option A) (f : A → Option B) → Gives o P
-    → ((a : A) → P a → Gives (f a) Q) → Gives (option_and_then f o) Q
-and_then P None f h step = nothing
-and_then P (Some a) f h step = step a h.holds
-
-mapped : {A B : Type 0} {Q : B → Type 0} (P : A → Type 0) (o : Option A) (f : A → B) → Gives o P → ((a : A) → P a → Q (f a)) → Gives (option_map f o) Q
-mapped P None f h step = nothing
-mapped P (Some a) f h step = gives (f a) (step a h.holds)
-
-either : {A : Type 0} {Q : A → Type 0} (b : Bool) (x y : Option A) → Gives x Q → Gives y Q → Gives (cond b x y) Q
-either true x y h k = h
-either false x y h k = k
-
-where_true : {A : Type 0} {Q : A → Type 0} (b : Bool) (a : A) → (b ≡ true → Q a) → Gives (cond b (Some a) None) Q
-where_true true a h = gives a (h refl)
-where_true false a h = nothing
-
-both : (a b : Bool) → (a && b) ≡ true → (a ≡ true) × (b ≡ true)
-both true b h = (refl, h)
-both false b h = cc
-
--- numbers of environments and functions
-
-digits_within : (most n : ℕ) (ds : List ℕ) → n ≤ most → Gives (digits_in most n ds) (λ m. m ≤ most)
-digits_within most n [] small = gives n small
-digits_within most n (b ∷ bs) small = go (is_digit b && nat_le (10 * n + (b - 48)) most) refl (digits_within most (10 * n + (b - 48)) bs)
-  where
-    go : (t : Bool) → (is_digit b && nat_le (10 * n + (b - 48)) most) ≡ t
-        → (10 * n + (b - 48) ≤ most → Gives (digits_in most (10 * n + (b - 48)) bs) (λ m. m ≤ most))
-        → Gives (cond t (digits_in most (10 * n + (b - 48)) bs) None) (λ m. m ≤ most)
-    go true e later = later (leb-true (10 * n + (b - 48)) most (both (is_digit b) (nat_le (10 * n + (b - 48)) most) e).1)
-    go false e later = nothing
-
-number_within : (most : ℕ) (text : List ℕ) → Gives (number_in most text) (λ n. n ≤ most)
-number_within most [] = nothing
-number_within most (b ∷ []) = digits_within most 0 (b ∷ []) (omega arith)
-number_within most (b ∷ c ∷ bs) = either (b == 48) None (digits_in most 0 (b ∷ c ∷ bs)) nothing (digits_within most 0 (b ∷ c ∷ bs) (omega arith))
-
-env_within : (config : Config) (field : List ℕ) → Gives (env_in config field) (IsEnv config)
-env_within config field =
-    and_then (λ n. n ≤ length (owners config)) (number_in (length (owners config)) field) from_one (number_within (length (owners config)) field)
-    (λ e small. where_true (nat_le 1 e) e (λ t. (leb-true 1 e t, small)))
+use Rattle.call_types.proofs.Within.{Anything, Gives, nothing, gives, anything, and_then, mapped, either, where_true, env_within, named_within}
 
 pub environment_within : (config : Config) (p : Parts) → Gives (environment_of config p) (IsEnv config)
 environment_within config p =
     and_then Anything (path_part 3 (uri_path p.uri)) (env_in config) (anything (path_part 3 (uri_path p.uri))) (λ field _. env_within config field)
-
-named_within : (config : Config) (name : List ℕ) → Gives (number_named config name) (IsFunction config)
-named_within config name =
-    let place : ℕ = position_or_len (λ (function : Function). bytes_eq function.name name) config.functions in
-    mapped (λ n. n < length config.functions) (position (λ (function : Function). bytes_eq function.name name) config.functions) suc
-    (where_true (nat_lt place (length config.functions)) place (λ t. ltb-true place (length config.functions) t)) (λ n small. (omega arith, omega arith))
 
 -- a target that is a function is one of the configuration
 unfoldable pub IsTarget : Config → Target → Type 0

@@ -1,17 +1,14 @@
 -- What a line says is within the limits.
-use Rattle.std.proofs.Common.{◌≡◌, ℕ, suc, ◌+◌, ◌-◌, ◌*◌, ◌<◌, ◌≤◌, Bool, true, false, ◌&&◌, cond, nat_le, nat_lt, ◌==◌}
-use Rattle.std.proofs.Common.{List, [], ◌∷◌, length, codes, bytes_eq, position, Option, Some, None, Result, Ok, Err}
-use Rattle.std.proofs.Common.{IfOk, subst, sym, option_map, option_and_then, refl, arith}
+use Rattle.std.proofs.Common.{◌≡◌, ℕ, ◌-◌, ◌≤◌, Bool, true, ◌&&◌}
+use Rattle.std.proofs.Common.{List, [], ◌∷◌, codes, bytes_eq, Option, Some, None, Result, Ok, Err}
+use Rattle.std.proofs.Common.{IfOk, subst, sym, option_map}
 use Rattle.std.specs.Option.{IfSome}
-use Rattle.std.specs.List.{position_or_len}
-use Rattle.std.proofs.lemmas.Bool.{leb-true, ltb-true}
-use Rattle.arn_ids.specs.Words.{is_digit, is_label}
-use Rattle.arn_ids.specs.Environments.{owners, number_named}
+use Rattle.arn_ids.specs.Words.{is_label}
+use Rattle.arn_ids.specs.Environments.{number_named}
 use Rattle.arn_ids.specs.declared.config.Config.{Config}
-use Rattle.arn_ids.specs.declared.config.Function.{Function}
 use Rattle.call_types.specs.declared.call.Call.{Call}
 use Rattle.call_types.specs.declared.call.Call.TheVariants.{Tick, Stop}
-use Rattle.arn_ids.specs.Numbers.{digits_in, number_in, from_one, env_in}
+use Rattle.arn_ids.specs.Numbers.{number_in, env_in}
 use Rattle.arn_ids.specs.Limits.{greatest_moment, greatest_count, greatest_ticket, greatest_reservation}
 use Rattle.call_types.specs.Within.{is_body, is_trace, IsEnv, IsFunction, IsCount, IsTrace, IsReservation, IsWithin, IsTimed}
 use Rattle.script.specs.TextFields.{text_in, text_that, body_in, name_in, trace_in}
@@ -19,66 +16,7 @@ use Rattle.script.specs.Lines.{fields, one_field, two_fields, three_fields, four
 use Rattle.script.specs.Lines.{events_in, reservation_in, invoke_in, lone_env_in, env_and_count_in, report_in}
 use Rattle.script.specs.Lines.{init_failure_in, register_in, withdraw_in, reserve_in, extension_call_in}
 use Rattle.script.specs.Lines.{runtime_call_in, call_by_word, timed_call_in, call_in}
-
--- any value
-abbrev Anything : {A : Type 0} → A → Type 0
-Anything a = Unit {0}
-
--- what an option has, where it has a value
-record Gives {A : Type 0} (o : Option A) (Q : A → Type 0) : Type 0 where
-  holds : IfSome o Q
-
-nothing : {A : Type 0} {Q : A → Type 0} → Gives None Q
-nothing = record { holds = tt }
-
-gives : {A : Type 0} {Q : A → Type 0} (a : A) → Q a → Gives (Some a) Q
-gives a h = record { holds = h }
-
-anything : {A : Type 0} (o : Option A) → Gives o Anything
-anything None = nothing
-anything (Some a) = gives a tt
-
--- one step after the other
-and_then : {A B : Type 0} {Q : B → Type 0} (P : A → Type 0) (o : Option A) (f : A → Option B) → Gives o P
-    → ((a : A) → P a → Gives (f a) Q) → Gives (option_and_then f o) Q
-and_then P None f h step = nothing
-and_then P (Some a) f h step = step a h.holds
-
-mapped : {A B : Type 0} {Q : B → Type 0} (P : A → Type 0) (o : Option A) (f : A → B) → Gives o P → ((a : A) → P a → Q (f a)) → Gives (option_map f o) Q
-mapped P None f h step = nothing
-mapped P (Some a) f h step = gives (f a) (step a h.holds)
-
-either : {A : Type 0} {Q : A → Type 0} (b : Bool) (x y : Option A) → Gives x Q → Gives y Q → Gives (cond b x y) Q
-either true x y h k = h
-either false x y h k = k
-
-where_true : {A : Type 0} {Q : A → Type 0} (b : Bool) (a : A) → (b ≡ true → Q a) → Gives (cond b (Some a) None) Q
-where_true true a h = gives a (h refl)
-where_true false a h = nothing
-
-both : (a b : Bool) → (a && b) ≡ true → (a ≡ true) × (b ≡ true)
-both true b h = (refl, h)
-both false b h = cc
-
-digits_within : (most n : ℕ) (ds : List ℕ) → n ≤ most → Gives (digits_in most n ds) (λ m. m ≤ most)
-digits_within most n [] small = gives n small
-digits_within most n (b ∷ bs) small = go (is_digit b && nat_le (10 * n + (b - 48)) most) refl (digits_within most (10 * n + (b - 48)) bs)
-  where
-    go : (t : Bool) → (is_digit b && nat_le (10 * n + (b - 48)) most) ≡ t
-        → (10 * n + (b - 48) ≤ most → Gives (digits_in most (10 * n + (b - 48)) bs) (λ m. m ≤ most))
-        → Gives (cond t (digits_in most (10 * n + (b - 48)) bs) None) (λ m. m ≤ most)
-    go true e later = later (leb-true (10 * n + (b - 48)) most (both (is_digit b) (nat_le (10 * n + (b - 48)) most) e).1)
-    go false e later = nothing
-
-number_within : (most : ℕ) (text : List ℕ) → Gives (number_in most text) (λ n. n ≤ most)
-number_within most [] = nothing
-number_within most (b ∷ []) = digits_within most 0 (b ∷ []) (omega arith)
-number_within most (b ∷ c ∷ bs) = either (b == 48) None (digits_in most 0 (b ∷ c ∷ bs)) nothing (digits_within most 0 (b ∷ c ∷ bs) (omega arith))
-
-env_within : (config : Config) (field : List ℕ) → Gives (env_in config field) (IsEnv config)
-env_within config field =
-    and_then (λ n. n ≤ length (owners config)) (number_in (length (owners config)) field) from_one (number_within (length (owners config)) field)
-    (λ e small. where_true (nat_le 1 e) e (λ t. (leb-true 1 e t, small)))
+use Rattle.call_types.proofs.Within.{Anything, Gives, nothing, gives, anything, and_then, mapped, either, where_true, number_within, env_within, named_within}
 
 text_passes : (passes : List ℕ → Bool) (field : List ℕ) → Gives (text_that passes field) (λ text. passes text ≡ true)
 text_passes passes field = and_then Anything (text_in field) _ (anything (text_in field)) (λ text _. where_true (passes text) text (λ t. t))
@@ -93,12 +31,6 @@ reservation_within field =
     either (bytes_eq field (codes "-")) (Some None) (option_map Some (number_in greatest_reservation field))
     (gives None tt)
     (mapped (λ n. n ≤ greatest_reservation) (number_in greatest_reservation field) Some (number_within greatest_reservation field) (λ n t. t))
-
-named_within : (config : Config) (name : List ℕ) → Gives (number_named config name) (IsFunction config)
-named_within config name =
-    let place : ℕ = position_or_len (λ (function : Function). bytes_eq function.name name) config.functions in
-    mapped (λ n. n < length config.functions) (position (λ (function : Function). bytes_eq function.name name) config.functions) suc
-    (where_true (nat_lt place (length config.functions)) place (λ t. ltb-true place (length config.functions) t)) (λ n small. (omega arith, omega arith))
 
 invoke_within : (config : Config) (line : List (List ℕ)) → Gives (invoke_in config line) (IsWithin config)
 unfolding invoke_in
