@@ -23,24 +23,23 @@ use usage_ledger::{Keep, Ledgers};
 /// The response to one request, by who answers it. (Those of handlers are on the heap: each response has the size of the
 /// largest.)
 #[derive(Drop)]
-pub enum Course<R, A: Service<K, L>, D: Decide, N, B, K: Keep, L: Ledgers> {
+pub enum Course<R, A: Service<K>, D: Decide, N, B, K: Keep> {
     /// The service itself, or its refusal.
-    Own(Responding<R, A, D, N, B, K, L>),
+    Own(Responding<R, A, D, N, B, K>),
     /// A handler, to which the request is handed over.
-    Handed(Box<Handed<R, B, StreamedBody<R, A, A::Trail, K, L>>>),
+    Handed(Box<Handed<R, B, StreamedBody<R, A, A::Trail, K, A::Ledgers>>>),
     /// The desk: it is a handler's own request.
-    OfHandler(Box<OfHandler<R, B, StreamedBody<R, A, A::Trail, K, L>>>),
+    OfHandler(Box<OfHandler<R, B, StreamedBody<R, A, A::Trail, K, A::Ledgers>>>),
 }
 
 impl<
     R: Wait + time::Clock + Copy + Drop,
-    A: Service<K, L>,
+    A: Service<K>,
     D: Decide + Drop,
     N: Clock + Drop,
     B: Body,
     K: Keep,
-    L: Ledgers,
-> Future for Course<R, A, D, N, B, K, L>
+> Future for Course<R, A, D, N, B, K>
 where
     B::Data: Into<Bytes>,
     B::Error: BodyFault,
@@ -48,26 +47,26 @@ where
     ghost use Rattle.http_front.specs.declared.course.Course.TheVariants.{Own, Handed, OfHandler};
 
     type Output = Result<
-        Response<Either<Full<Bytes>, StreamedBody<R, A, A::Trail, K, L>>>,
+        Response<Either<Full<Bytes>, StreamedBody<R, A, A::Trail, K, A::Ledgers>>>,
         ResponseFault,
     >;
 
     ghost can_poll = { elim [
-      | Own responding ↦ ⟦<Responding<R, A, D, N, B, K, L> as Future>⟧.can_poll responding
-      | Handed handed ↦ ⟦<Handed<R, B, StreamedBody<R, A, A::Trail, K, L>> as Future>⟧.can_poll handed.value
-      | OfHandler own ↦ ⟦<OfHandler<R, B, StreamedBody<R, A, A::Trail, K, L>> as Future>⟧.can_poll own.value
+      | Own responding ↦ ⟦<Responding<R, A, D, N, B, K> as Future>⟧.can_poll responding
+      | Handed handed ↦ ⟦<Handed<R, B, StreamedBody<R, A, A::Trail, K, A::Ledgers>> as Future>⟧.can_poll handed.value
+      | OfHandler own ↦ ⟦<OfHandler<R, B, StreamedBody<R, A, A::Trail, K, A::Ledgers>> as Future>⟧.can_poll own.value
     ] };
 
     ghost needs = { elim [
-      | Own responding ↦ ⟦<Responding<R, A, D, N, B, K, L> as Future>⟧.needs responding
-      | Handed handed ↦ ⟦<Handed<R, B, StreamedBody<R, A, A::Trail, K, L>> as Future>⟧.needs handed.value
-      | OfHandler own ↦ ⟦<OfHandler<R, B, StreamedBody<R, A, A::Trail, K, L>> as Future>⟧.needs own.value
+      | Own responding ↦ ⟦<Responding<R, A, D, N, B, K> as Future>⟧.needs responding
+      | Handed handed ↦ ⟦<Handed<R, B, StreamedBody<R, A, A::Trail, K, A::Ledgers>> as Future>⟧.needs handed.value
+      | OfHandler own ↦ ⟦<OfHandler<R, B, StreamedBody<R, A, A::Trail, K, A::Ledgers>> as Future>⟧.needs own.value
     ] };
 
     ghost gives = { elim [
-      | Own responding ↦ ⟦<Responding<R, A, D, N, B, K, L> as Future>⟧.gives responding
-      | Handed handed ↦ ⟦<Handed<R, B, StreamedBody<R, A, A::Trail, K, L>> as Future>⟧.gives handed.value
-      | OfHandler own ↦ ⟦<OfHandler<R, B, StreamedBody<R, A, A::Trail, K, L>> as Future>⟧.gives own.value
+      | Own responding ↦ ⟦<Responding<R, A, D, N, B, K> as Future>⟧.gives responding
+      | Handed handed ↦ ⟦<Handed<R, B, StreamedBody<R, A, A::Trail, K, A::Ledgers>> as Future>⟧.gives handed.value
+      | OfHandler own ↦ ⟦<OfHandler<R, B, StreamedBody<R, A, A::Trail, K, A::Ledgers>> as Future>⟧.gives own.value
     ] };
 
     fn poll(&mut self, cx: &mut Context<'_>) -> Poll<Self::Output> {

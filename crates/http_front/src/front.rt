@@ -46,31 +46,30 @@ fn cause_of(refusal: Refusal) -> Option<Cause>
 /// account's (Lambda API: Invoke, PutFunctionConcurrency, GetFunctionConcurrency; and this
 /// service's own routes). At the account's port, some requests are handed over to handlers, if there is one.
 #[derive(Drop)]
-pub struct Front<R, A: Service<K, L>, D: Decide, N, K: Keep, L: Ledgers> {
+pub struct Front<R, A: Service<K>, D: Decide, N, K: Keep> {
     alloc: Global,
     port: Port,
     hosts: Arc<KnownHosts>,
-    pub(crate) connection: Arc<Connection<R, A, D, N, K, L>>,
+    pub(crate) connection: Arc<Connection<R, A, D, N, K>>,
     at_desk: Arc<AtDesk<R>>,
 }
 
 impl<
     R: Wait + time::Clock + Copy + Drop,
-    A: Service<K, L>,
+    A: Service<K>,
     D: Decide + Drop,
     N: Clock + Drop,
     K: Keep,
-    L: Ledgers,
-> Front<R, A, D, N, K, L> {
+> Front<R, A, D, N, K> {
     /// Makes the port for a connection, which speaks this API, answers for these hosts in
     /// addition to the local ones, and hands requests over at this desk. It allocates nothing.
     pub fn new(
         alloc: Global,
         port: Port,
         hosts: Arc<KnownHosts>,
-        connection: Arc<Connection<R, A, D, N, K, L>>,
+        connection: Arc<Connection<R, A, D, N, K>>,
         at_desk: Arc<AtDesk<R>>,
-    ) -> Front<R, A, D, N, K, L>
+    ) -> Front<R, A, D, N, K>
         ensures connection { result.connection ≡ connection }
         ensures at_desk { result.at_desk ≡ at_desk }
         ensures guarded { (result.port ≡ port) × (result.hosts ≡ hosts) }
@@ -92,7 +91,7 @@ impl<
         parts: Parts,
         body: B,
         is_too_long: bool,
-    ) -> Option<Box<Exchange<R, A, D, N, B, K, L>>>
+    ) -> Option<Box<Exchange<R, A, D, N, B, K>>>
     where
         B::Data: Into<Bytes>,
         B::Error: BodyFault,
@@ -117,19 +116,14 @@ impl<
     }
 
     /// Returns the response to a request that the service itself answers, by an exchange.
-    fn own<B: Body>(
-        &self,
-        parts: Parts,
-        body: B,
-        is_unread: bool,
-    ) -> Responding<R, A, D, N, B, K, L>
+    fn own<B: Body>(&self, parts: Parts, body: B, is_unread: bool) -> Responding<R, A, D, N, B, K>
     where
         B::Data: Into<Bytes>,
         B::Error: BodyFault,
         requires declared { is_unread ≡ lengths.declares_too_long parts }
         requires body { B.can_poll body }
         ensures answers { IsAnswering self.now parts body result }
-        ensures can_poll { ⟦<Responding<R, A, D, N, B, K, L> as Future>⟧.can_poll result }
+        ensures can_poll { ⟦<Responding<R, A, D, N, B, K> as Future>⟧.can_poll result }
     {
         self.connection.await_time_of_day();
         match self.exchange(parts, body, is_unread) {
@@ -178,13 +172,13 @@ impl<
     /// Returns the response to a request with this head and body. If the head is refused, there is
     /// no exchange, so the request never becomes a call. If the head declares a body that is too
     /// long, the body is left unread.
-    fn respond<B: Body>(&self, parts: Parts, body: B) -> Course<R, A, D, N, B, K, L>
+    fn respond<B: Body>(&self, parts: Parts, body: B) -> Course<R, A, D, N, B, K>
     where
         B::Data: Into<Bytes>,
         B::Error: BodyFault,
         requires { B.can_poll body }
         ensures takes { Takes self.now parts body result }
-        ensures can_poll { ⟦<Course<R, A, D, N, B, K, L> as Future>⟧.can_poll result }
+        ensures can_poll { ⟦<Course<R, A, D, N, B, K> as Future>⟧.can_poll result }
     {
         let is_unread = declares_too_long(&parts);
         if let Some(refusal) = self.hosts.refusal(&parts) {
@@ -212,25 +206,24 @@ impl<
 
 impl<
     R: Wait + time::Clock + Copy + Drop,
-    A: Service<K, L>,
+    A: Service<K>,
     D: Decide + Drop,
     N: Clock + Drop,
     I: Drop,
     K: Keep,
-    L: Ledgers,
-> service::Service<Request<Incoming<I>>> for Front<R, A, D, N, K, L> {
-    type Response = Response<Either<Full<Bytes>, StreamedBody<R, A, A::Trail, K, L>>>;
+> service::Service<Request<Incoming<I>>> for Front<R, A, D, N, K> {
+    type Response = Response<Either<Full<Bytes>, StreamedBody<R, A, A::Trail, K, A::Ledgers>>>;
 
     type Error = ResponseFault;
 
-    type Future = Course<R, A, D, N, Incoming<I>, K, L>;
+    type Future = Course<R, A, D, N, Incoming<I>, K>;
 
     ghost use Rattle.http.specs.Request.{head_of, body_of};
     ghost use Rattle.http_front.specs.Courses.{Takes};
 
     ghost calls = { λ port request future. Takes port (head_of request) (body_of request) future };
 
-    fn call(&self, request: Request<Incoming<I>>) -> Course<R, A, D, N, Incoming<I>, K, L> {
+    fn call(&self, request: Request<Incoming<I>>) -> Course<R, A, D, N, Incoming<I>, K> {
         let (parts, body) = request.into_parts();
         self.respond(parts, body)
     }

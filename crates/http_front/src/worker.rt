@@ -117,26 +117,18 @@ pub(crate) struct Worker<R, S: Identity, N, K: Keep> {
 /// it ended by itself: each response that the socket took is one with which the front answers its
 /// request. The service and the decider are parameters here: their own types, repeated in each of
 /// those that `hyper` makes of a connection, are too large for a proof.
-fn serve_by<
-    R: Machine,
-    A: Service<K, L>,
-    D: Decide + Drop,
-    N: Clock + Drop,
-    O: Park,
-    K: Keep,
-    L: Ledgers,
->(
+fn serve_by<R: Machine, A: Service<K>, D: Decide + Drop, N: Clock + Drop, O: Park, K: Keep>(
     event_loop: &mut EventLoop,
     rt: &R,
     ends: Ends,
     port: Port,
-    front: Front<R, A, D, N, K, L>,
+    front: Front<R, A, D, N, K>,
     signals: Signals,
     open: O,
     pulse: Arc<Pulse>,
 ) -> Ended<Wire>
     requires { IsFresh ends.wire }
-    ensures written { Written ⟦<Either<Full<Bytes>, StreamedBody<R, A, A::Trail, K, L>> as Body>⟧.yields
+    ensures written { Written ⟦<Either<Full<Bytes>, StreamedBody<R, A, A::Trail, K, A::Ledgers>> as Body>⟧.yields
         ⟦<Bytes as Into<Bytes>>⟧.converts
         (IsAnswer N.Clock ⟦<Incoming<Wire> as Body>⟧.yields ⟦<Bytes as Into<Bytes>>⟧.converts front)
         result.io (outcome_of result.outcome) }
@@ -208,7 +200,7 @@ impl<R: Machine, S: Identity + Drop, N: Clock + Drop, K: Keep> Worker<R, S, N, K
     /// # Errors
     /// If the connection cannot be served. Its socket is then closed, and nothing was written to it.
     fn serve(&self, tools: &mut Tools<S>, job: Job<S>) -> Result<Ended<Wire>, Unused>
-        ensures { IsServed ⟦<Account<S, OneShotBell> as Service<K, S>>⟧ N.Clock
+        ensures { IsServed ⟦<Account<S, OneShotBell> as Service<K>>⟧ N.Clock
             ⟦<Either<Full<Bytes>, StreamedBody<R, Account<S, OneShotBell>, Trail<S>, K, S>> as Body>⟧.yields
             ⟦<Incoming<Wire> as Body>⟧.yields ⟦<Bytes as Into<Bytes>>⟧.converts
             self.now.common job.served S.most (name_of_accepted job.pending.socket) result }
@@ -259,7 +251,7 @@ impl<R: Machine, S: Identity + Drop, N: Clock + Drop, K: Keep> Worker<R, S, N, K
         at_desk: u64,
         open: &Arc<OpenPoll>,
     ) -> Result<Ended<Wire>, Unused>
-        ensures { IsServed ⟦<Account<S, OneShotBell> as Service<K, S>>⟧ N.Clock
+        ensures { IsServed ⟦<Account<S, OneShotBell> as Service<K>>⟧ N.Clock
             ⟦<Either<Full<Bytes>, StreamedBody<R, Account<S, OneShotBell>, Trail<S>, K, S>> as Body>⟧.yields
             ⟦<Incoming<Wire> as Body>⟧.yields ⟦<Bytes as Into<Bytes>>⟧.converts
             self.now.common job.served S.most (name_of_accepted job.pending.socket) result }
@@ -312,7 +304,7 @@ impl<
         served: ServedPort<S>,
         at_desk: u64,
         open: &Arc<OpenPoll>,
-    ) -> Result<Front<R, Account<S, OneShotBell>, Side, N, K, S>, AllocError>
+    ) -> Result<Front<R, Account<S, OneShotBell>, Side, N, K>, AllocError>
         ensures guarded { IfOk result (λ front. (front.port ≡ served.port)
             × (arc_value front.hosts ≡ arc_value self.now.common.hosts)) }
         ensures shared { IfOk result (λ front.
@@ -381,7 +373,7 @@ impl<
         number: u16,
         function: Option<FnNo>,
         open: &Arc<OpenPoll>,
-    ) -> Result<Arc<Connection<R, Account<S, OneShotBell>, Side, N, K, S>>, AllocError>
+    ) -> Result<Arc<Connection<R, Account<S, OneShotBell>, Side, N, K>>, AllocError>
         requires { (arc_value decider).config ≡ S.config }
         ensures shared { IfOk result (λ connection.
             arc_value (arc_value connection).shared ≡ arc_value self.now.common.shared) }

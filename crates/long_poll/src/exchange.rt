@@ -73,20 +73,19 @@ enum Stage<B, L: Ledgers> {
 /// and its answer awaited and rendered. A request for counts, a reservation, the environments, the history or
 /// its trace needs no call.
 #[derive(Drop)]
-pub struct Exchange<R, S: Service<K, L>, D: Decide, N, B, K: Keep, L: Ledgers> {
-    connection: Arc<Connection<R, S, D, N, K, L>>,
-    stage: Stage<B, L>,
+pub struct Exchange<R, S: Service<K>, D: Decide, N, B, K: Keep> {
+    connection: Arc<Connection<R, S, D, N, K>>,
+    stage: Stage<B, S::Ledgers>,
 }
 
 impl<
     R: Wait + time::Clock + Copy + Drop,
-    S: Service<K, L>,
+    S: Service<K>,
     D: Decide + Drop,
     N: Clock + Drop,
     B: Body,
     K: Keep,
-    L: Ledgers,
-> Exchange<R, S, D, N, B, K, L>
+> Exchange<R, S, D, N, B, K>
 where
     B::Data: Into<Bytes>,
     B::Error: BodyFault,
@@ -97,11 +96,11 @@ where
     /// Begins the exchange of a request with this head and this body, of which the head declares that it is too
     /// long, or not ([`declares_too_long`](crate::declares_too_long)). It takes no memory.
     pub fn new(
-        connection: Arc<Connection<R, S, D, N, K, L>>,
+        connection: Arc<Connection<R, S, D, N, K>>,
         parts: Parts,
         body: B,
         is_too_long: bool,
-    ) -> Exchange<R, S, D, N, B, K, L>
+    ) -> Exchange<R, S, D, N, B, K>
         requires { is_too_long ≡ declares_too_long parts }
         ensures connection { result.connection ≡ connection }
         ensures stage { result.stage ≡ stage.Collecting parts
@@ -124,7 +123,7 @@ where
     }
 
     /// Tries once more the call that is held back.
-    fn look_again(&mut self) -> Result<Begun<L>, ExchangeFault>
+    fn look_again(&mut self) -> Result<Begun<S::Ledgers>, ExchangeFault>
         requires { IsSubmitting (Holds self.old) self.old.stage }
         ensures value { Starts N.Clock B.yields B.Data.converts self.old result }
         ensures connection { self.new.connection ≡ self.old.connection }
@@ -138,7 +137,7 @@ where
     /// Collects the body, then decides the request and submits its call; or tries once more the call that is
     /// held back. A body that is declared to be too long is not asked for, so that a client that waits for
     /// `100 Continue` does not send it (RFC 9110, section 10.1.1).
-    fn poll_start(&mut self, cx: &mut Context<'_>) -> Poll<Result<Begun<L>, ExchangeFault>>
+    fn poll_start(&mut self, cx: &mut Context<'_>) -> Poll<Result<Begun<S::Ledgers>, ExchangeFault>>
         requires { IsStarting (Holds self.old) B.can_poll self.old.stage }
         ensures value { IfReady result (Starts N.Clock B.yields B.Data.converts self.old) }
         ensures again { OnPending result (IsStarting (Holds self.new) B.can_poll self.new.stage) }
@@ -169,7 +168,7 @@ where
     }
 
     /// Awaits the answer to this ticket from now on. What was collected is dropped.
-    fn park(&mut self, ticket: Ticket, heard: Heard, token: Token<L>)
+    fn park(&mut self, ticket: Ticket, heard: Heard, token: Token<S::Ledgers>)
         ensures stage { self.new.stage ≡ stage.Waiting ticket heard token }
         ensures connection { self.new.connection ≡ self.old.connection }
     {
@@ -184,7 +183,7 @@ where
     fn history(
         &self,
         from: Option<Ticket>,
-    ) -> Result<Outcome<StreamedBody<R, S, S::Trail, K, L>, L>, ExchangeFault>
+    ) -> Result<Outcome<StreamedBody<R, S, S::Trail, K, S::Ledgers>, S::Ledgers>, ExchangeFault>
         ensures { MatchResult result
             (IsHistoryOf S.Service (service_of (arc_value self.now.connection)) from)
             (λ fault. fault ≡ OutOfMemory) }
@@ -197,7 +196,7 @@ where
     fn trace(
         &self,
         query: TraceQuery,
-    ) -> Result<Outcome<StreamedBody<R, S, S::Trail, K, L>, L>, ExchangeFault>
+    ) -> Result<Outcome<StreamedBody<R, S, S::Trail, K, S::Ledgers>, S::Ledgers>, ExchangeFault>
         ensures { MatchResult result
             (IsTraceOf S.Service (service_of (arc_value self.now.connection)) (Trace query))
             (λ fault. fault ≡ OutOfMemory) }
@@ -218,7 +217,7 @@ where
     fn poll_answer(
         &mut self,
         cx: &mut Context<'_>,
-    ) -> Poll<Result<Outcome<StreamedBody<R, S, S::Trail, K, L>, L>, ExchangeFault>>
+    ) -> Poll<Result<Outcome<StreamedBody<R, S, S::Trail, K>, S::Ledgers>, ExchangeFault>>
         requires { IsWaiting self.old.stage }
         ensures value { IfReady result (⟦<Self as Future>⟧.gives self.old) }
         ensures again { OnPending result (IsWaiting self.new.stage) }
@@ -247,7 +246,7 @@ where
     fn poll_begin(
         &mut self,
         cx: &mut Context<'_>,
-    ) -> Poll<Result<Outcome<StreamedBody<R, S, S::Trail, K, L>, L>, ExchangeFault>>
+    ) -> Poll<Result<Outcome<StreamedBody<R, S, S::Trail, K>, S::Ledgers>, ExchangeFault>>
         requires { IsStarting (Holds self.old) B.can_poll self.old.stage }
         ensures value { IfReady result (⟦<Self as Future>⟧.gives self.old) }
         ensures again { OnPending result (CanGoOn (Holds self.new) B.can_poll self.new.stage) }
@@ -280,13 +279,12 @@ where
 
 impl<
     R: Wait + time::Clock + Copy + Drop,
-    S: Service<K, L>,
+    S: Service<K>,
     D: Decide + Drop,
     N: Clock + Drop,
     B: Body,
     K: Keep,
-    L: Ledgers,
-> Future for Exchange<R, S, D, N, B, K, L>
+> Future for Exchange<R, S, D, N, B, K>
 where
     B::Data: Into<Bytes>,
     B::Error: BodyFault,
@@ -294,7 +292,10 @@ where
     ghost use Rattle.long_poll.specs.Stages.{CanGoOn, WaitsFor};
     ghost use Rattle.long_poll.specs.Standing.{Holds, Gives};
 
-    type Output = Result<Outcome<StreamedBody<R, S, S::Trail, K, L>, L>, ExchangeFault>;
+    type Output = Result<
+        Outcome<StreamedBody<R, S, S::Trail, K, S::Ledgers>, S::Ledgers>,
+        ExchangeFault,
+    >;
 
     ghost can_poll = { λ exchange. CanGoOn (Holds exchange) B.can_poll exchange.stage };
 

@@ -21,7 +21,7 @@ use usage_ledger::{Keep, Token};
 /// at its ticket, in the history that the outcome's token has seen, to which calls led; or the text of why it was
 /// refused there.
 pub fn replies<R, S: Identity + Drop, D: Decide, N: Clock, K: Keep>(
-    connection: &Connection<R, Account<S, OneShotBell>, D, N, K, S>,
+    connection: &Connection<R, Account<S, OneShotBell>, D, N, K>,
 )
     ensures { (call : Call) (reply : Reply) (token : List Entry)
         → IsReply connection.now N.Clock (Submit call) reply token → IsReplyAt S.config S.most S.salt call reply token }

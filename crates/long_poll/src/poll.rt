@@ -28,7 +28,13 @@ pub struct Poll<R, S, H, K: Keep, L: Ledgers> {
     of: PhantomData<Tally<K, L>>,
 }
 
-impl<R: Wait + Drop, S: Service<K, L>, H: Future, K: Keep, L: Ledgers> Poll<R, S, H, K, L> {
+impl<R: Wait + Drop, S: Service<K, Ledgers = L>, H: Future, K: Keep, L: Ledgers> Poll<
+    R,
+    S,
+    H,
+    K,
+    L,
+> {
     /// Waits for the answer to a ticket by a future that is ready once there is one, such as the `Heard` of
     /// the bell that was submitted with its call. The token is the one that came with the ticket. It takes
     /// no memory.
@@ -53,7 +59,7 @@ impl<R: Wait + Drop, S: Service<K, L>, H: Future, K: Keep, L: Ledgers> Poll<R, S
     }
 }
 
-impl<R: Wait + Drop, S: Service<K, L>, H: Future, K: Keep, L: Ledgers> Future
+impl<R: Wait + Drop, S: Service<K, Ledgers = L>, H: Future, K: Keep, L: Ledgers> Future
     for Poll<R, S, H, K, L>
 where
     H::Output: Drop,

@@ -28,11 +28,14 @@ use std::sync::Wait;
 use usage_ledger::{Keep, Ledgers, Tally, Token};
 
 /// An account that connections share. For each method there is a relation of its arguments and its
-/// result, which the implementation names. The type parameters are those of a tally: what it keeps, and
-/// its ledgers. A token has seen a beginning of the account's history. Each submit and each reading
-/// takes a token and shows it the history as it is then, which extends the one that the token had seen;
-/// a submit returns another token, which has seen the history up to the call.
-pub trait Service<K: Keep, L: Ledgers>: Drop {
+/// result, which the implementation names. The type parameter is what a tally keeps. A token has seen a
+/// beginning of the account's history. Each submit and each reading takes a token and shows it the
+/// history as it is then, which extends the one that the token had seen; a submit returns another token,
+/// which has seen the history up to the call.
+pub trait Service<K: Keep>: Drop {
+    /// The names of its ledgers, and of its history.
+    type Ledgers: Ledgers;
+
     /// A reader of the history's trace, which knows how far it has come.
     type Trail: Drop;
 
@@ -93,12 +96,12 @@ pub trait Service<K: Keep, L: Ledgers>: Drop {
     fn submit<R: Wait>(
         &self,
         rt: &R,
-        tally: &mut Tally<K, L>,
-        token: &mut Token<L>,
+        tally: &mut Tally<K, Self::Ledgers>,
+        token: &mut Token<Self::Ledgers>,
         now: u64,
         call: Call,
         bell: Option<OneShotBell>,
-    ) -> Result<(Ticket, Token<L>), Refused<OneShotBell>>
+    ) -> Result<(Ticket, Token<Self::Ledgers>), Refused<OneShotBell>>
         requires moment { now < 2 ^ 53 }
         requires within { IsWithin (serves self.now) call }
         ensures { submits self.now token.old tally.old.held now call bell result token.new tally.new.held };
@@ -111,27 +114,27 @@ pub trait Service<K: Keep, L: Ledgers>: Drop {
     fn submit_unless_premature<R: Wait>(
         &self,
         rt: &R,
-        tally: &mut Tally<K, L>,
-        token: &mut Token<L>,
+        tally: &mut Tally<K, Self::Ledgers>,
+        token: &mut Token<Self::Ledgers>,
         now: u64,
         call: Call,
         bell: Option<OneShotBell>,
-    ) -> Result<(Ticket, Token<L>), NotTaken<OneShotBell>>
+    ) -> Result<(Ticket, Token<Self::Ledgers>), NotTaken<OneShotBell>>
         requires moment { now < 2 ^ 53 }
         requires within { IsWithin (serves self.now) call }
         ensures { UnlessPremature (submits self.now) token.old tally.old.held now call bell result token.new
             tally.new.held };
 
     /// Makes a token that has seen the history as it is.
-    fn token<R: Wait>(&self, rt: &R) -> Token<L>
+    fn token<R: Wait>(&self, rt: &R) -> Token<Self::Ledgers>
         ensures { shows self.now result };
 
     /// Returns another token, which has seen as much.
-    fn again(&self, token: &mut Token<L>) -> Token<L>
+    fn again(&self, token: &mut Token<Self::Ledgers>) -> Token<Self::Ledgers>
         ensures { (result ≡ token.old) × (token.new ≡ token.old) };
 
     /// Returns the answer to a ticket, or that it waits.
-    fn look<R: Wait>(&self, rt: &R, token: &mut Token<L>, ticket: Ticket) -> Look
+    fn look<R: Wait>(&self, rt: &R, token: &mut Token<Self::Ledgers>, ticket: Ticket) -> Look
         ensures { looks self.now token.old ticket result token.new };
 
     /// Returns the reply to the client of the call with a ticket, `None` while the ticket has no answer.
@@ -140,7 +143,7 @@ pub trait Service<K: Keep, L: Ledgers>: Drop {
     fn render<R: Wait>(
         &self,
         rt: &R,
-        token: &mut Token<L>,
+        token: &mut Token<Self::Ledgers>,
         ticket: Ticket,
     ) -> Result<Option<Reply>, AllocError>
         ensures { IfOk result (λ reply. renders self.now token.old ticket reply token.new) };
@@ -154,7 +157,7 @@ pub trait Service<K: Keep, L: Ledgers>: Drop {
     fn history<R: Wait>(
         &self,
         rt: &R,
-        token: &mut Token<L>,
+        token: &mut Token<Self::Ledgers>,
         ticket: Ticket,
     ) -> Result<Option<Draft>, AllocError>
         ensures { IfOk result (λ text. tells self.now token.old ticket text token.new) };
@@ -182,15 +185,24 @@ pub trait Service<K: Keep, L: Ledgers>: Drop {
         ensures { closes self.now trail.old result trail.new };
 
     /// Returns the text of the environments. The only error is `AllocError`.
-    fn environments<R: Wait>(&self, rt: &R, token: &mut Token<L>) -> Result<Vec<u8>, AllocError>
+    fn environments<R: Wait>(
+        &self,
+        rt: &R,
+        token: &mut Token<Self::Ledgers>,
+    ) -> Result<Vec<u8>, AllocError>
         ensures { IfOk result (λ text. lists self.now token.old text.items token.new) };
 
     /// Returns the counts.
-    fn stats<R: Wait>(&self, rt: &R, token: &mut Token<L>) -> Stats
+    fn stats<R: Wait>(&self, rt: &R, token: &mut Token<Self::Ledgers>) -> Stats
         ensures { counts self.now token.old result token.new };
 
     /// Returns the reservation in force of a function, by its number from 1, `None` if it has none.
-    fn reservation<R: Wait>(&self, rt: &R, token: &mut Token<L>, function: FnNo) -> Option<u32>
+    fn reservation<R: Wait>(
+        &self,
+        rt: &R,
+        token: &mut Token<Self::Ledgers>,
+        function: FnNo,
+    ) -> Option<u32>
         requires { IsFunction (serves self.now) function }
         ensures { reserves self.now token.old function result token.new };
 }

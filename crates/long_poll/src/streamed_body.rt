@@ -24,7 +24,7 @@ pub enum StreamedBody<R, S, T, K: Keep, L: Ledgers> {
     Trace(Box<TraceBody<R, S, T, K, L>>),
 }
 
-impl<R: Wait + Drop, S: Service<K, L, Trail = T>, T: Drop, K: Keep, L: Ledgers> Body
+impl<R: Wait + Drop, S: Service<K, Ledgers = L, Trail = T>, T: Drop, K: Keep, L: Ledgers> Body
     for StreamedBody<R, S, T, K, L> {
     ghost use Rattle.long_poll.specs.declared.streamed_body.StreamedBody.TheVariants.{History, Trace};
 

@@ -22,26 +22,26 @@ use usage_ledger::{Keep, Ledgers};
 
 /// The response to one request: a refusal, or what its exchange comes to.
 #[derive(Drop)]
-pub struct Responding<R, A: Service<K, L>, D: Decide, N, B, K: Keep, L: Ledgers> {
+pub struct Responding<R, A: Service<K>, D: Decide, N, B, K: Keep> {
     alloc: Global,
     // The API that its port speaks.
     port: Port,
     // Whether the request's body is left unread, so that the connection ends.
     is_unread: bool,
     // `None` if the request is refused.
-    exchange: Option<Box<Exchange<R, A, D, N, B, K, L>>>,
+    exchange: Option<Box<Exchange<R, A, D, N, B, K>>>,
     // Why the request never becomes a call.
     refusal: Option<Refusal>,
 }
 
-impl<R, A: Service<K, L>, D: Decide, N, B, K: Keep, L: Ledgers> Responding<R, A, D, N, B, K, L> {
+impl<R, A: Service<K>, D: Decide, N, B, K: Keep> Responding<R, A, D, N, B, K> {
     /// Returns the response to a request that never becomes a call.
     pub(crate) fn refused(
         alloc: Global,
         port: Port,
         is_unread: bool,
         refusal: Refusal,
-    ) -> Responding<R, A, D, N, B, K, L>
+    ) -> Responding<R, A, D, N, B, K>
         ensures at { (result.port ≡ port) × (result.is_unread ≡ is_unread) }
         ensures refused { (result.refusal ≡ Some refusal) × (result.exchange ≡ None) }
     {
@@ -59,8 +59,8 @@ impl<R, A: Service<K, L>, D: Decide, N, B, K: Keep, L: Ledgers> Responding<R, A,
         alloc: Global,
         port: Port,
         is_unread: bool,
-        exchange: Box<Exchange<R, A, D, N, B, K, L>>,
-    ) -> Responding<R, A, D, N, B, K, L>
+        exchange: Box<Exchange<R, A, D, N, B, K>>,
+    ) -> Responding<R, A, D, N, B, K>
         ensures at { (result.port ≡ port) × (result.is_unread ≡ is_unread) }
         ensures exchanging { (result.refusal ≡ None) × (result.exchange ≡ Some exchange) }
     {
@@ -76,13 +76,12 @@ impl<R, A: Service<K, L>, D: Decide, N, B, K: Keep, L: Ledgers> Responding<R, A,
 
 impl<
     R: Wait + time::Clock + Copy + Drop,
-    A: Service<K, L>,
+    A: Service<K>,
     D: Decide + Drop,
     N: Clock + Drop,
     B: Body,
     K: Keep,
-    L: Ledgers,
-> Future for Responding<R, A, D, N, B, K, L>
+> Future for Responding<R, A, D, N, B, K>
 where
     B::Data: Into<Bytes>,
     B::Error: BodyFault,
@@ -91,18 +90,18 @@ where
     ghost use Rattle.http_front.specs.Responses.{IsAnswerTo, IsRefusal};
 
     type Output = Result<
-        Response<Either<Full<Bytes>, StreamedBody<R, A, A::Trail, K, L>>>,
+        Response<Either<Full<Bytes>, StreamedBody<R, A, A::Trail, K, A::Ledgers>>>,
         ResponseFault,
     >;
 
-    ghost can_poll = { λ r. IfSome r.exchange (λ e. ⟦<Exchange<R, A, D, N, B, K, L> as Future>⟧.can_poll e.value) };
+    ghost can_poll = { λ r. IfSome r.exchange (λ e. ⟦<Exchange<R, A, D, N, B, K> as Future>⟧.can_poll e.value) };
 
     ghost needs = { λ r source. IsSomeAnd r.exchange (λ e.
-        ⟦<Exchange<R, A, D, N, B, K, L> as Future>⟧.needs e.value source) };
+        ⟦<Exchange<R, A, D, N, B, K> as Future>⟧.needs e.value source) };
 
     ghost gives = { λ r answer. IfOk answer (λ response. MatchOption r.refusal
         (IsSomeAnd r.exchange (λ exchange. (made : _)
-        × ⟦<Exchange<R, A, D, N, B, K, L> as Future>⟧.gives exchange.value made
+        × ⟦<Exchange<R, A, D, N, B, K> as Future>⟧.gives exchange.value made
         × IsAnswerTo r.port r.is_unread made response))
         (λ refusal. IsRefusal r.port r.is_unread refusal response)) };
 

@@ -19,17 +19,16 @@ use usage_ledger::{Keep, Ledgers, Token};
 
 impl<
     R: Wait + time::Clock + Copy + Drop,
-    S: Service<K, L>,
+    S: Service<K>,
     D: Decide + Drop,
     N: Clock + Drop,
     K: Keep,
-    L: Ledgers,
-> Connection<R, S, D, N, K, L> {
+> Connection<R, S, D, N, K> {
     ghost use Rattle.long_poll.specs.Exchanges.{IsOfClock, IsTickedAt, IsTickRefused, clock_of};
     ghost use Rattle.long_poll.specs.Views.{clock_reply as shows};
 
     /// Submits a Tick at this moment. If it is refused, the token that is returned has seen what was then seen.
-    fn tick(&self, now: u64) -> Result<Token<L>, (Refused<OneShotBell>, Token<L>)>
+    fn tick(&self, now: u64) -> Result<Token<S::Ledgers>, (Refused<OneShotBell>, Token<S::Ledgers>)>
         requires { now < 2 ^ 53 }
         ensures { MatchResult result (λ token. IsTickedAt self.now token now)
             (λ back. IsTickRefused self.now now back.0 back.1) }
@@ -49,7 +48,7 @@ impl<
     /// Moves the clock forward, and lets everything that is then due expire by a Tick. Nothing is moved if the clock
     /// would come past 2^53 - 1. If the Tick is refused, the clock has moved, and what is due expires at the next Tick
     /// that is taken.
-    fn advance_clock(&self, by: u64) -> Result<(Reply, Token<L>), AllocError>
+    fn advance_clock(&self, by: u64) -> Result<(Reply, Token<S::Ledgers>), AllocError>
         ensures { IfOk result (λ replied. IsOfClock self.now N.Clock (Advance by) replied.0 replied.1) }
     {
         let _setting = self.shared.beat.setting.lock(&self.rt);
@@ -86,7 +85,7 @@ impl<
     }
 
     /// Returns the reply that shows the clock.
-    fn show_clock(&self, face: ClockFace) -> Result<(Reply, Token<L>), AllocError>
+    fn show_clock(&self, face: ClockFace) -> Result<(Reply, Token<S::Ledgers>), AllocError>
         ensures { IfOk result (λ replied. replied.0 ≡ shows face.now face.is_running) }
     {
         Ok((clock_reply(self.alloc(), face)?, self.another_token()))
@@ -94,7 +93,7 @@ impl<
 
     /// Does what is asked of the clock, and returns the reply, with a token of the history that the Tick of an advance
     /// made.
-    fn set_clock(&self, request: ClockRequest) -> Result<(Reply, Token<L>), AllocError>
+    fn set_clock(&self, request: ClockRequest) -> Result<(Reply, Token<S::Ledgers>), AllocError>
         ensures { IfOk result (λ replied. IsOfClock self.now N.Clock request replied.0 replied.1) }
     {
         match request {
@@ -116,7 +115,10 @@ impl<
 
     /// Does what is asked of the clock, and returns the reply, with a token of the history that the Tick of an advance
     /// made. Then it wakes those whom that concerns.
-    pub(crate) fn ask_clock(&self, request: ClockRequest) -> Result<(Reply, Token<L>), AllocError>
+    pub(crate) fn ask_clock(
+        &self,
+        request: ClockRequest,
+    ) -> Result<(Reply, Token<S::Ledgers>), AllocError>
         ensures { IfOk result (λ replied. IsOfClock self.now N.Clock request replied.0 replied.1) }
     {
         let replied = self.set_clock(request);

@@ -35,18 +35,18 @@ use usage_ledger::{Keep, Ledgers, Tally, Token};
 /// requests, of the same configuration as the service's account; its tally and token; and the note of its open
 /// Next.
 #[derive(Drop)]
-pub struct Connection<R, S: Service<K, L>, D: Decide, N, K: Keep, L: Ledgers> {
+pub struct Connection<R, S: Service<K>, D: Decide, N, K: Keep> {
     pub(crate) rt: R,
     pub(crate) shared: Arc<Shared<S, N>>,
     pub(crate) decider: Arc<D>,
-    pub(crate) tally: Arc<Mutex<Tally<K, L>>>,
+    pub(crate) tally: Arc<Mutex<Tally<K, S::Ledgers>>>,
     pub(crate) open: Arc<OpenPoll>,
     // The function whose environment asks here, if one does.
     pub(crate) function: Option<FnNo>,
     // The number of its port, 0 if it is not known.
     port: u16,
     // The token, which has seen the history up to the earlier requests; none while a request has it.
-    seen: Cell<Option<Token<L>>>,
+    seen: Cell<Option<Token<S::Ledgers>>>,
     // The scratch space in which payloads are read, one decision at a time.
     scratch: Cell<PayloadScratch>,
     ghost agree: { S.serves (arc_value (arc_value shared).service) ≡ D.decides_for (arc_value decider) },
@@ -77,12 +77,11 @@ pub(crate) enum Begun<L: Ledgers> {
 
 impl<
     R: Wait + time::Clock + Copy + Drop,
-    S: Service<K, L>,
+    S: Service<K>,
     D: Decide + Drop,
     N: Clock + Drop,
     K: Keep,
-    L: Ledgers,
-> Connection<R, S, D, N, K, L> {
+> Connection<R, S, D, N, K> {
     ghost use Rattle.long_poll.specs.Exchanges.{service_of, clock_of};
     ghost use Rattle.long_poll.specs.Exchanges.{HasBegun, Decides};
     ghost use Rattle.long_poll.specs.Exchanges.{Counts, Lists, Reserves, Renders, RendersOnce, shown};
@@ -103,10 +102,10 @@ impl<
         rt: R,
         shared: Arc<Shared<S, N>>,
         decider: Arc<D>,
-        tally: Arc<Mutex<Tally<K, L>>>,
-        token: Token<L>,
+        tally: Arc<Mutex<Tally<K, S::Ledgers>>>,
+        token: Token<S::Ledgers>,
         open: Arc<OpenPoll>,
-    ) -> Result<Connection<R, S, D, N, K, L>, AllocError>
+    ) -> Result<Connection<R, S, D, N, K>, AllocError>
         requires { S.serves (arc_value (arc_value shared).service) ≡ D.decides_for (arc_value decider) }
         ensures { IfOk result (λ connection. (connection.shared ≡ shared) × (connection.decider ≡ decider)) }
     {
@@ -126,7 +125,7 @@ impl<
 
     /// Returns the same connection at the port of an environment of this function, if it is at one: its Nexts call
     /// the callers of this function.
-    pub fn of_function(mut self, function: Option<FnNo>) -> Connection<R, S, D, N, K, L>
+    pub fn of_function(mut self, function: Option<FnNo>) -> Connection<R, S, D, N, K>
         ensures { (result.shared ≡ self.shared) × (result.decider ≡ self.decider) }
     {
         self.function = function;
@@ -134,7 +133,7 @@ impl<
     }
 
     /// Returns the same connection, at the port with this number.
-    pub fn at_port(mut self, port: u16) -> Connection<R, S, D, N, K, L>
+    pub fn at_port(mut self, port: u16) -> Connection<R, S, D, N, K>
         ensures { (result.shared ≡ self.shared) × (result.decider ≡ self.decider) }
     {
         self.port = port;
@@ -207,7 +206,7 @@ impl<
 
     /// Takes the connection's token, which has to be put back. If a request has it, makes another token, which
     /// has seen the history as it is.
-    pub(crate) fn token(&self) -> Token<L> {
+    pub(crate) fn token(&self) -> Token<S::Ledgers> {
         match self.seen.take() {
             Some(token) => token,
             None => self.service().token(&self.rt),
@@ -215,7 +214,7 @@ impl<
     }
 
     /// Puts the connection's token back, and returns another, which has seen as much.
-    pub(crate) fn put_back(&self, mut token: Token<L>) -> Token<L>
+    pub(crate) fn put_back(&self, mut token: Token<S::Ledgers>) -> Token<S::Ledgers>
         ensures { result ≡ token }
     {
         let other = self.service().again(&mut token);
@@ -224,12 +223,16 @@ impl<
     }
 
     /// Returns another token of the connection's, which has seen as much.
-    pub(crate) fn another_token(&self) -> Token<L> {
+    pub(crate) fn another_token(&self) -> Token<S::Ledgers> {
         self.put_back(self.token())
     }
 
     /// Decides a request, and does what is decided. Of a body that is too long none of the bytes matters.
-    pub(crate) fn begin(&self, parts: &Parts, body: &Received) -> Result<Begun<L>, ExchangeFault>
+    pub(crate) fn begin(
+        &self,
+        parts: &Parts,
+        body: &Received,
+    ) -> Result<Begun<S::Ledgers>, ExchangeFault>
         ensures ok { IfOk result (HasBegun self.now N.Clock parts.now body.now) }
         ensures alike { longest_body < length body.now → IfOk result
             (λ begun. (other : List ℕ) → longest_body < length other → HasBegun self.now N.Clock parts.now other begun) }
@@ -242,7 +245,7 @@ impl<
     }
 
     /// Returns the counts of its account, with a token of the history that has them.
-    fn stats(&self) -> (Stats, Token<L>)
+    fn stats(&self) -> (Stats, Token<S::Ledgers>)
         ensures { Counts self.now result.0 result.1 }
     {
         let mut token = self.token();
@@ -251,7 +254,7 @@ impl<
     }
 
     /// Returns a function's reservation in its account, with a token of the history that has it.
-    fn reservation(&self, function: FnNo) -> (Option<u32>, Token<L>)
+    fn reservation(&self, function: FnNo) -> (Option<u32>, Token<S::Ledgers>)
         requires { IsFunction (S.serves (service_of self.now)) function }
         ensures { Reserves self.now function result.0 result.1 }
     {
@@ -261,7 +264,7 @@ impl<
     }
 
     /// Returns the text of its account's environments, with a token of the history that has them.
-    fn environments(&self) -> Result<(Vec<u8>, Token<L>), AllocError>
+    fn environments(&self) -> Result<(Vec<u8>, Token<S::Ledgers>), AllocError>
         ensures { IfOk result (λ shown. Lists self.now shown.0.items shown.1) }
     {
         let mut token = self.token();
@@ -271,7 +274,11 @@ impl<
     }
 
     /// Does what was decided about the request with this head.
-    fn carry_out(&self, parts: &Parts, decision: Decision) -> Result<Begun<L>, ExchangeFault>
+    fn carry_out(
+        &self,
+        parts: &Parts,
+        decision: Decision,
+    ) -> Result<Begun<S::Ledgers>, ExchangeFault>
         requires { IsAllowed (S.serves (service_of self.now)) decision }
         ensures ok { IfOk result
             (λ begun. (head : Head) → (body : List ℕ) → Decides self.now head body decision
@@ -312,7 +319,7 @@ impl<
     pub(crate) fn history(
         &self,
         from: Option<Ticket>,
-    ) -> Result<Box<HistoryBody<R, S, K, L>>, AllocError>
+    ) -> Result<Box<HistoryBody<R, S, K, S::Ledgers>>, AllocError>
         ensures { IfOk result (λ body. ShowsFrom (service_of self.now) from body.value) }
     {
         let service = Arc::try_clone(&self.shared.service)?;
@@ -326,7 +333,7 @@ impl<
         &self,
         place: Option<FollowerPlace>,
         query: TraceQuery,
-    ) -> Result<Box<TraceBody<R, S, S::Trail, K, L>>, AllocError>
+    ) -> Result<Box<TraceBody<R, S, S::Trail, K, S::Ledgers>>, AllocError>
         ensures { IfOk result (λ body. IsTraceFrom S.Service (service_of self.now) query body.value) }
     {
         let service = Arc::try_clone(&self.shared.service)?;
@@ -342,14 +349,14 @@ impl<
     }
 
     /// Returns the reply to a request to follow the history for which no place is left.
-    pub(crate) fn turned_away(&self) -> Result<(Reply, Token<L>), AllocError>
+    pub(crate) fn turned_away(&self) -> Result<(Reply, Token<S::Ledgers>), AllocError>
         ensures { IfOk result (λ replied. replied.0 ≡ full_reply) }
     {
         Ok((followers_reply(self.alloc())?, self.another_token()))
     }
 
     /// Renders the answer to a ticket, and takes back the note of a Next.
-    fn render(&self, token: &mut Token<L>, ticket: Ticket) -> Result<Reply, ExchangeFault>
+    fn render(&self, token: &mut Token<S::Ledgers>, ticket: Ticket) -> Result<Reply, ExchangeFault>
         ensures { Renders (shown self.now token.old) ticket result token.new }
     {
         match self.service().render(&self.rt, token, ticket) {
@@ -367,7 +374,7 @@ impl<
     pub(crate) fn poll_render<H: Future>(
         &self,
         heard: &mut H,
-        token: &mut Token<L>,
+        token: &mut Token<S::Ledgers>,
         ticket: Ticket,
         cx: &mut Context<'_>,
     ) -> Poll<Result<Reply, ExchangeFault>>
@@ -392,8 +399,8 @@ impl<
     pub(crate) fn replied(
         &self,
         reply: Reply,
-        token: &mut Token<L>,
-    ) -> Outcome<StreamedBody<R, S, S::Trail, K, L>, L>
+        token: &mut Token<S::Ledgers>,
+    ) -> Outcome<StreamedBody<R, S, S::Trail, K, S::Ledgers>, S::Ledgers>
         ensures { result ≡ replied reply token.old }
     {
         Outcome::Reply(reply, self.service().again(token))

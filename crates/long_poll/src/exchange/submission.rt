@@ -76,17 +76,16 @@ fn invoked(call: &Call) -> Option<FnNo> {
 
 impl<
     R: Wait + time::Clock + Copy + Drop,
-    S: Service<K, L>,
+    S: Service<K>,
     D: Decide + Drop,
     N: Clock + Drop,
     K: Keep,
-    L: Ledgers,
-> Connection<R, S, D, N, K, L> {
+> Connection<R, S, D, N, K> {
     ghost use Rattle.long_poll.specs.Attempts.{IsAttempt, IsPatient, IsNearer};
     ghost use Rattle.long_poll.specs.Exchanges.{service_of, IsSubmission, IsBegun};
 
     /// Submits a call with its bell at the clock's reading.
-    fn submit_at_reading(&self, call: Call, bell: OneShotBell) -> Attempt<L>
+    fn submit_at_reading(&self, call: Call, bell: OneShotBell) -> Attempt<S::Ledgers>
         requires { IsWithin (S.serves (service_of self.now)) call }
         ensures attempt { IsAttempt self.now N.Clock bell call result }
         ensures patience { IsPatient 0 result }
@@ -105,7 +104,7 @@ impl<
     }
 
     /// Submits a call with its bell at the clock's reading, unless it is premature.
-    fn attempt(&self, call: Call, bell: OneShotBell) -> Attempt<L>
+    fn attempt(&self, call: Call, bell: OneShotBell) -> Attempt<S::Ledgers>
         requires { IsWithin (S.serves (service_of self.now)) call }
         ensures { IsAttempt self.now N.Clock bell call result }
     {
@@ -134,7 +133,7 @@ impl<
         place: &Option<Place>,
         call: Call,
         bell: OneShotBell,
-    ) -> Attempt<L>
+    ) -> Attempt<S::Ledgers>
         requires { IsWithin (S.serves (service_of self.now)) call }
         ensures attempt { IsAttempt self.now N.Clock bell call result }
         ensures patience { IsPatient left_us result }
@@ -151,7 +150,7 @@ impl<
     }
 
     /// Submits a call with a bell of its own, or holds it back, for as long as the service's patience.
-    pub(crate) fn submit_call(&self, call: Call) -> Result<Begun<L>, ExchangeFault>
+    pub(crate) fn submit_call(&self, call: Call) -> Result<Begun<S::Ledgers>, ExchangeFault>
         requires { IsWithin (S.serves (service_of self.now)) call }
         ensures ok { IfOk result (IsBegun self.now N.Clock call) }
         ensures err { IfErr result (λ fault. fault ≡ ExchangeFault.OutOfMemory) }
@@ -217,7 +216,7 @@ impl<
     /// Tries a submission once. If it was held back, its thread first sleeps at its place in the line, during which
     /// no lock is held. If it comes too early while some of its time is left, it is held back, with less time left: at
     /// least a microsecond less, so that a call is tried finitely often whatever its sleeps take.
-    pub(crate) fn submit(&self, submission: Submission) -> Result<Begun<L>, ExchangeFault>
+    pub(crate) fn submit(&self, submission: Submission) -> Result<Begun<S::Ledgers>, ExchangeFault>
         requires { IsSubmission self.now submission }
         ensures ok { IfOk result (IsBegun self.now N.Clock submission.call) }
         ensures nearer { IfOk result (IsNearer submission.left_us) }

@@ -18,7 +18,9 @@ use usage_ledger::{Keep, Tally, Token};
 
 // A submit returns a token that has seen the history that the call made. What is read with this token is
 // of a history that extends that one.
-impl<S: Identity + Drop, K: Keep> Service<K, S> for Account<S, OneShotBell> {
+impl<S: Identity + Drop, K: Keep> Service<K> for Account<S, OneShotBell> {
+    type Ledgers = S;
+
     type Trail = Trail<S>;
 
     ghost serves = { λ _. S.config };

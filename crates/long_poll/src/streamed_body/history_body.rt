@@ -52,7 +52,7 @@ pub struct HistoryBody<R, S, K: Keep, L: Ledgers> {
     of: PhantomData<Tally<K, L>>,
 }
 
-impl<R: Wait + Drop, S: Service<K, L>, K: Keep, L: Ledgers> HistoryBody<R, S, K, L> {
+impl<R: Wait + Drop, S: Service<K, Ledgers = L>, K: Keep, L: Ledgers> HistoryBody<R, S, K, L> {
     /// Streams the history of a service, from the entry of a ticket on, or whole if `from` is `None`. From a
     /// ticket past the last entry the body is empty. It takes no memory.
     pub fn new(rt: R, service: Arc<S>, from: Option<Ticket>) -> HistoryBody<R, S, K, L>
@@ -123,7 +123,8 @@ impl<R: Wait + Drop, S: Service<K, L>, K: Keep, L: Ledgers> HistoryBody<R, S, K,
     }
 }
 
-impl<R: Wait + Drop, S: Service<K, L>, K: Keep, L: Ledgers> Body for HistoryBody<R, S, K, L> {
+impl<R: Wait + Drop, S: Service<K, Ledgers = L>, K: Keep, L: Ledgers> Body
+    for HistoryBody<R, S, K, L> {
     ghost use Rattle.std.specs.Arc.{arc_value};
     ghost use Rattle.long_poll.specs.HistoryFrames.{Frames};
 

@@ -77,7 +77,7 @@ pub struct TraceBody<R, S, T, K: Keep, L: Ledgers> {
     of: PhantomData<Tally<K, L>>,
 }
 
-impl<R: Wait + Drop, S: Service<K, L, Trail = T>, T: Drop, K: Keep, L: Ledgers> TraceBody<
+impl<R: Wait + Drop, S: Service<K, Ledgers = L, Trail = T>, T: Drop, K: Keep, L: Ledgers> TraceBody<
     R,
     S,
     T,
@@ -253,7 +253,7 @@ impl<R: Wait + Drop, S: Service<K, L, Trail = T>, T: Drop, K: Keep, L: Ledgers> 
     }
 }
 
-impl<R: Wait + Drop, S: Service<K, L, Trail = T>, T: Drop, K: Keep, L: Ledgers> Body
+impl<R: Wait + Drop, S: Service<K, Ledgers = L, Trail = T>, T: Drop, K: Keep, L: Ledgers> Body
     for TraceBody<R, S, T, K, L> {
     ghost use Rattle.long_poll.specs.TraceFrames.{Yields, Waits};
 

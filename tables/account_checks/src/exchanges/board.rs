@@ -92,7 +92,9 @@ impl<S: Identity> Board<S> {
     }
 }
 
-impl<S: Identity> Service<KeepNone, S> for Board<S> {
+impl<S: Identity> Service<KeepNone> for Board<S> {
+    type Ledgers = S;
+
     type Trail = Ticket;
 
     ghost serves = { λ _. S.config };

@@ -158,7 +158,7 @@ impl<S: Identity> Rows<S> {
     }
 
     /// Submits a runtime's Next with a bell, at moment 500.
-    pub fn park<X: Service<KeepNone, S>>(
+    pub fn park<X: Service<KeepNone, Ledgers = S>>(
         &self,
         rt: &impl Wait,
         alloc: Global,

@@ -33,7 +33,7 @@ const TRIES: u32 = 2;
 
 /// What the connections of a case share: a service, its decider, and a tally.
 #[derive(Drop)]
-pub struct Served<X: Service<KeepNone, S>, S: Identity> {
+pub struct Served<X: Service<KeepNone, Ledgers = S>, S: Identity> {
     service: Arc<X>,
     rows: Arc<Rows<S>>,
     tally: Arc<Mutex<Tally<KeepNone, S>>>,
@@ -42,7 +42,7 @@ pub struct Served<X: Service<KeepNone, S>, S: Identity> {
 
 /// A service under test, and how long a connection holds back a premature call, in milliseconds.
 #[derive(Drop)]
-pub struct Scene<R, X: Service<KeepNone, S>, S: Identity> {
+pub struct Scene<R, X: Service<KeepNone, Ledgers = S>, S: Identity> {
     rt: R,
     alloc: Global,
     served: Served<X, S>,
@@ -69,7 +69,7 @@ fn heard_lost(alloc: Global) -> Result<Heard, AllocError> {
     Ok(heard)
 }
 
-impl<X: Service<KeepNone, S>, S: Identity> Served<X, S> {
+impl<X: Service<KeepNone, Ledgers = S>, S: Identity> Served<X, S> {
     /// Collects what the connections to this service share.
     pub fn new(
         alloc: Global,
@@ -103,7 +103,7 @@ impl<X: Service<KeepNone, S>, S: Identity> Served<X, S> {
 
 impl<
     R: Wait + Clock + RandomSource + AllocGlobal + Copy + Drop,
-    X: Service<KeepNone, S>,
+    X: Service<KeepNone, Ledgers = S>,
     S: Identity + Drop,
 > Scene<R, X, S> {
     /// Creates a scene around this service.
@@ -126,7 +126,7 @@ impl<
         &self,
         clock: At,
         open: Arc<OpenPoll>,
-    ) -> Result<Arc<Connection<R, X, Rows<S>, At, KeepNone, S>>, AllocError> {
+    ) -> Result<Arc<Connection<R, X, Rows<S>, At, KeepNone>>, AllocError> {
         let own = self.served.again()?;
         let token = own.service.token(&self.rt);
         let shared = Shared::new(self.alloc, own.service, clock, self.patience)?;
@@ -140,7 +140,7 @@ impl<
         &self,
         at: At,
         open: &Arc<OpenPoll>,
-    ) -> Result<Arc<Connection<R, X, Rows<S>, At, KeepNone, S>>, AllocError> {
+    ) -> Result<Arc<Connection<R, X, Rows<S>, At, KeepNone>>, AllocError> {
         let open = Arc::try_clone(open)?;
         self.connected(at, open)
     }
@@ -151,7 +151,7 @@ impl<
         line: u64,
         text: &str,
         open: &Arc<OpenPoll>,
-    ) -> Result<Exchange<R, X, Rows<S>, At, Pieces, KeepNone, S>, CaseFault>
+    ) -> Result<Exchange<R, X, Rows<S>, At, Pieces, KeepNone>, CaseFault>
         ensures { IfOk result (λ exchange. CanGoOn (Holds exchange) (λ _. ⊤) exchange.stage) }
     {
         let ask = ask_in(self.alloc, line, text)?;
@@ -274,7 +274,7 @@ impl<
 
 /// Polls on another thread for the answer of a runtime's Next, while this thread begins the request
 /// of a part.
-fn poll_across<R: Runner, X: Service<KeepNone, S> + Send + Sync, S: Identity + Drop + Send + Sync>(
+fn poll_across<R: Runner, X: Service<KeepNone, Ledgers = S> + Send + Sync, S: Identity + Drop + Send + Sync>(
     scene: &Scene<R, X, S>,
     part: &Part,
     given: &mut Given,
@@ -315,7 +315,7 @@ const DEEDS: [(&str, Deed); 8] = [
 ];
 
 /// Performs a part of a case.
-fn act<R: Runner, X: Service<KeepNone, S> + Send + Sync, S: Identity + Drop + Send + Sync>(
+fn act<R: Runner, X: Service<KeepNone, Ledgers = S> + Send + Sync, S: Identity + Drop + Send + Sync>(
     scene: &Scene<R, X, S>,
     part: &Part,
     given: &mut Given,
@@ -331,7 +331,7 @@ fn act<R: Runner, X: Service<KeepNone, S> + Send + Sync, S: Identity + Drop + Se
 }
 
 /// Performs the parts of a case, in their order.
-pub fn play<R: Runner, X: Service<KeepNone, S> + Send + Sync, S: Identity + Drop + Send + Sync>(
+pub fn play<R: Runner, X: Service<KeepNone, Ledgers = S> + Send + Sync, S: Identity + Drop + Send + Sync>(
     scene: &Scene<R, X, S>,
     case: &Case,
     given: &mut Given,
