@@ -137,7 +137,9 @@ class Explained(Case):
             ("a patience that is no number", json.dumps(CONFIGURATION), {"LAMBDA_LOCAL_PATIENCE_MS": "abc"},
              "usage: ", "LAMBDA_LOCAL_PATIENCE_MS=abc: write a whole number of milliseconds from 0 to 2000"),
             ("a host with a port", json.dumps(CONFIGURATION), {"LAMBDA_LOCAL_HOSTS": "a:80"}, "usage: ",
-             "LAMBDA_LOCAL_HOSTS=a:80: write names of letters"))
+             "LAMBDA_LOCAL_HOSTS=a:80: write names of letters"),
+            ("a handled port twice", json.dumps(CONFIGURATION), {"LAMBDA_LOCAL_HANDLED": "9100,9100"}, "usage: ",
+             "LAMBDA_LOCAL_HANDLED=9100,9100: write up to 64 ports from 1 to 65535, each once"))
         for name, text, more, line, told in refused:
             with open(path, "w") as file:
                 file.write(text)

@@ -1,6 +1,7 @@
 """Checks the handlers of a service's requests over sockets: without one nothing changes; one gets what may be handed
 over, and nothing else, byte for byte; the requester gets what was posted for its own request; each fault by name; a
-handler that dies with a request, one that comes back, and requesters that go away. The program is LAMBDA_LOCAL_PROGRAM,
+handler that dies with a request, one that comes back, and requesters that go away; and further ports, all of whose
+requests are handed over. The program is LAMBDA_LOCAL_PROGRAM,
 else ./lambda_local. Ends with 'N passed, M failed'."""
 import http.client
 import json
@@ -9,7 +10,7 @@ import threading
 import time
 from typing import Any, Dict, List, Optional, Sequence, Tuple
 
-from lambda_local.service import RUNTIME, Service, ask
+from lambda_local.service import RUNTIME, Fault, Service, ask, free_ports
 from tests.library.cases import Case
 
 CONFIGURATION = {"account": "123456789012", "region": "us-east-2", "functions": [{"name": "f", "ports": [0]}]}
@@ -19,7 +20,7 @@ EVENT = {"X-Amz-Invocation-Type": "Event"}
 LONGEST = 6291456
 GRACE = 5  # seconds for which a handler is waited for
 PATIENCE = 60  # seconds until something has to come, on a machine that does much else
-MANY, HANDLERS = 60, 3
+MANY, HANDLERS, STREAMS = 60, 3, 50
 # What is answered as ever, whether a handler is here or not.
 OWN: Tuple[Tuple[str, str, Dict[str, str], Optional[str]], ...] = (
     ("GET", "/_local/version", {}, None),
@@ -45,6 +46,19 @@ HANDED: Tuple[Tuple[str, str, Dict[str, str], bytes, int], ...] = (
     ("POST", INVOKE % "other", {}, b"{}", 404),
 )
 TAIL = {"X-Amz-Log-Type": "Tail"}
+# What a further port hands over as well: what is the service's own at its invoke port, and what pages send.
+AT_HANDLED: Tuple[Tuple[str, str, Dict[str, str], bytes], ...] = (
+    ("GET", "/_local/version", {}, b""),
+    ("GET", NEXT, {}, b""),
+    ("POST", "/_local/requests/1/response", {"Lambda-Local-Status": "200"}, b"x"),
+    ("POST", "/_local/stop", {}, b""),
+    ("POST", INVOKE % "f", {}, b"{}"),
+    ("GET", f"{RUNTIME}invocation/next", {}, b""),
+    ("OPTIONS", "/a?b=c", {"Origin": "http://a.example", "Access-Control-Request-Method": "PUT"}, b""),
+    ("PUT", "/a", {"Origin": "null", "Sec-Fetch-Site": "cross-site"}, bytes(range(256))),
+    ("POST", "/a", {"Host": "localhost:1"}, b"a=b"),
+)
+NO_HANDLER = (503, "ServiceException", "No handler is here")
 Fields = Sequence[Tuple[str, str]]
 # The fields of a post, and the message of its fault.
 WRONG: Tuple[Tuple[Fields, str], ...] = (
@@ -98,17 +112,67 @@ class Handler:
                fields: Fields = (("Lambda-Local-Status", "200"),)) -> Tuple[int, str]:
         return self.post(f"{head['id']}/response", fields, body)
 
+    def begin(self, head: Dict[str, Any], fields: Fields = (("Lambda-Local-Status", "200"),),
+              length: Optional[int] = None) -> None:
+        """Begins to post an answer: in chunks, unless its length is given."""
+        self.connection.putrequest("POST", f"/_local/requests/{head['id']}/response")
+        for name, value in fields:
+            self.connection.putheader(name, value)
+        framing = ("Transfer-Encoding", "chunked") if length is None else ("Content-Length", str(length))
+        self.connection.putheader(*framing)
+        self.connection.endheaders()
+
+    def chunk(self, piece: bytes) -> None:
+        self.connection.send(b"%x\r\n%s\r\n" % (len(piece), piece))
+
+    def end(self) -> Tuple[int, str]:
+        """Ends a post in chunks."""
+        self.connection.send(b"0\r\n\r\n")
+        return self.outcome()
+
+    def outcome(self) -> Tuple[int, str]:
+        answer = self.connection.getresponse()
+        text = answer.read()
+        return answer.status, json.loads(text)["errorType"] if text else ""
+
     def close(self) -> None:
         self.connection.close()
+
+
+class Reader:
+    """A requester that reads its answer as it comes."""
+
+    def __init__(self, service: Service, request: bytes) -> None:
+        self.socket = socket.create_connection(("127.0.0.1", service.port), PATIENCE)
+        self.socket.sendall(request)
+        self.came = b""
+
+    def until(self, end: bytes) -> bytes:
+        """What has come, once it ends so or the connection does."""
+        while not self.came.endswith(end) and (piece := self.socket.recv(65536)):
+            self.came += piece
+        return self.came
+
+    def rest(self) -> bytes:
+        """All that comes until the connection ends, or is reset."""
+        try:
+            while piece := self.socket.recv(1048576):
+                self.came += piece
+        except ConnectionResetError:
+            pass
+        return self.came
+
+    def close(self) -> None:
+        self.socket.close()
 
 
 class Requester(threading.Thread):
     """A request on a thread of its own: its answer once it has ended."""
 
     def __init__(self, service: Service, method: str, path: str, headers: Dict[str, str] = {},
-                 body: Any = None) -> None:
+                 body: Any = None, port: int = 0) -> None:
         super().__init__()
-        self.asked = (service.port, method, path, body, headers, PATIENCE)
+        self.asked = (port or service.port, method, path, body, headers, PATIENCE)
         self.seen: Tuple[int, Dict[str, str], bytes] = (0, {}, b"")
         self.start()
 
@@ -141,7 +205,7 @@ def fault_of(answer: Tuple[int, Dict[str, str], bytes]) -> Tuple[int, str, str]:
     return answer[0], answer[1].get("x-amzn-errortype", ""), said.get("message", "") or said["Message"]
 
 
-class Handlers(Case):
+class WithService(Case):
     def setUp(self) -> None:
         self.service = Service(CONFIGURATION)
 
@@ -161,6 +225,8 @@ class Handlers(Case):
         herald.answer()
         return handler
 
+
+class Handlers(WithService):
     def all_own(self) -> List[Tuple[int, Dict[str, str], bytes]]:
         return [self.asked(method, path, headers, body) for method, path, headers, body in OWN]
 
@@ -369,3 +435,240 @@ class Handlers(Case):
         self.check("and the service ends", self.service.stop(PATIENCE)[0], 0)
         handler.close()
         other.close()
+
+
+class Streams(WithService):
+    def begun(self, handler: Handler, request: bytes, fields: Fields = (("Lambda-Local-Status", "200"),),
+              length: Optional[int] = None) -> Reader:
+        """Who reads the answer that a handler has begun to post."""
+        reader = Reader(self.service, request)
+        head, _ = handler.next()
+        handler.begin(head, fields, length)
+        return reader
+
+    def test_a_stream_is_seen_piece_by_piece(self) -> None:
+        handler = self.handler()
+        fields = (("Lambda-Local-Status", "201"), ("Lambda-Local-Header", "X-One: 1"))
+        reader = self.begun(handler, b"GET /a HTTP/1.1\r\nHost: a\r\n\r\n", fields)
+        head = reader.until(b"\r\n\r\n").lower()
+        self.check("the head comes first", (head[:12], b"\r\nx-one: 1\r\n" in head), (b"http/1.1 201", True))
+        self.check("it is in chunks", b"\r\ntransfer-encoding: chunked\r\n" in head)
+        for piece in (b"one", b"two", bytes(70000)):
+            handler.chunk(piece)
+            end = piece[-3:] + b"\r\n"
+            self.check(f"{len(piece)} bytes are seen", reader.until(end).endswith(end))
+        self.check("the post is accepted", handler.end(), (202, ""))
+        self.check("and then is the end", reader.until(b"\r\n0\r\n\r\n").endswith(b"\r\n0\r\n\r\n"))
+        reader.close()
+        handler.close()
+
+    def test_a_reader_that_is_slow_holds_the_post(self) -> None:
+        handler = self.handler()
+        reader = self.begun(handler, b"GET /a HTTP/1.0\r\nHost: a\r\n\r\n")
+        whole = bytes(range(256)) * 4096
+        sent = 0
+        handler.connection.sock.settimeout(2)
+        try:
+            while sent < 64:
+                handler.chunk(whole)
+                sent += 1
+        except TimeoutError:
+            pass
+        self.check("the post is held", 0 < sent < 64)
+        reader.close()
+        handler.close()
+
+    def test_a_stream_may_be_long(self) -> None:
+        handler = self.handler()
+        reader = self.begun(handler, b"GET /a HTTP/1.0\r\nHost: a\r\n\r\n")
+        whole = bytes(range(256)) * 4096
+        came: List[bytes] = []
+        reading = threading.Thread(target=lambda: came.append(reader.rest()))
+        reading.start()
+        for _ in range(24):
+            handler.chunk(whole)
+        self.check("the post is accepted", handler.end(), (202, ""))
+        reading.join(PATIENCE)
+        head, _, body = came[0].partition(b"\r\n\r\n")
+        self.check("an old requester gets no chunks", b"chunked" not in head.lower())
+        self.check("and each byte, up to the connection's end", body == whole * 24)
+        handler.close()
+
+    def test_a_length_is_kept(self) -> None:
+        handler = self.handler()
+        whole = bytes(range(256)) * 4096
+        requester = Requester(self.service, "GET", "/a")
+        head, _ = handler.next()
+        handler.begin(head, length=len(whole))
+        for at in range(0, len(whole), 100003):
+            handler.connection.send(whole[at:at + 100003])
+        self.check("the post is accepted", handler.outcome(), (202, ""))
+        answer = requester.answer()
+        self.check("the answer has its length", (answer[1].get("content-length"), "transfer-encoding" in answer[1]),
+                   (str(len(whole)), False))
+        self.check("and its bytes", answer[2] == whole)
+        handler.close()
+
+    def test_a_post_that_breaks_off_cuts_the_answer(self) -> None:
+        for length in (None, 10):
+            handler = self.handler()
+            reader = self.begun(handler, b"GET /a HTTP/1.1\r\nHost: a\r\n\r\n", length=length)
+            if length is None:
+                handler.chunk(b"one")
+            else:
+                handler.connection.send(b"one")
+            reader.until(b"one" if length else b"one\r\n")
+            handler.close()
+            self.check("the requester's connection ends", reader.rest().endswith(b"one" if length else b"one\r\n"))
+            reader.close()
+
+    def test_a_requester_that_goes_away_ends_the_post(self) -> None:
+        handler = self.handler()
+        reader = self.begun(handler, b"GET /a HTTP/1.1\r\nHost: a\r\n\r\n")
+        handler.chunk(b"one")
+        reader.until(b"one\r\n")
+        reader.close()
+        self.check("while it has more to post", handler.outcome(), (409, "RequestIsOver"))
+        handler.close()
+        handler = self.handler()
+        reader = self.begun(handler, b"GET /a HTTP/1.1\r\nHost: a\r\n\r\n", length=LONGEST)
+        ended = threading.Timer(2, reader.close)
+        ended.start()
+        try:
+            handler.connection.send(bytes(LONGEST - 1))
+        except ConnectionError:
+            pass
+        self.check("and while it is held", handler.outcome(), (409, "RequestIsOver"))
+        handler.close()
+
+    def test_some_answers_have_no_body(self) -> None:
+        handler = self.handler()
+        for method, status in (("HEAD", 200), ("GET", 204), ("GET", 304)):
+            connection = http.client.HTTPConnection("127.0.0.1", self.service.port, timeout=PATIENCE)
+            connection.request(method, "/a")
+            body = b"body" if status != 204 else b""
+            handler.answer(handler.next()[0], body, (("Lambda-Local-Status", str(status)),))
+            answer = connection.getresponse()
+            self.check(f"{method} {status}", (answer.status, answer.read()), (status, b""))
+            connection.request("GET", "/b")
+            head, _ = handler.next()
+            handler.begin(head)
+            handler.chunk(b"b")
+            self.check("the connection goes on", handler.end(), (202, ""))
+            self.check("with the next answer", connection.getresponse().read(), b"b")
+            connection.close()
+        handler.close()
+
+    def test_a_refused_stream_leaves_the_request(self) -> None:
+        handler = self.handler()
+        requester = Requester(self.service, "GET", "/a")
+        head, _ = handler.next()
+        handler.begin(head, (("Lambda-Local-Status", "99"),))
+        handler.chunk(bytes(1000))
+        time.sleep(0.2)
+        handler.chunk(bytes(1000))
+        self.check("its status is none", handler.end(), (400, "InvalidResponse"))
+        handler.begin({"id": head["id"] + 1})
+        handler.chunk(bytes(1000))
+        self.check("another is not there", handler.end(), (404, "UnknownRequest"))
+        self.check("the request is", handler.answer(head, b"ok"), (202, ""))
+        self.check("and is answered", requester.answer()[2], b"ok")
+        handler.close()
+
+    def test_many_streams_at_once(self) -> None:
+        def handle() -> None:
+            handler = Handler(self.service)
+            head, _ = handler.next()
+            handler.begin(head)
+            for number in range(20):
+                handler.chunk(b"%s %d " % (head["target"].encode(), number) * 500)
+            outcomes.append(handler.end())
+            handler.close()
+        outcomes: List[Tuple[int, str]] = []
+        first = self.handler()
+        handlers = [threading.Thread(target=handle) for _ in range(STREAMS)]
+        requesters = [Requester(self.service, "GET", f"/{number}") for number in range(STREAMS)]
+        for one in handlers:
+            one.start()
+        answers = [one.answer()[2] for one in requesters]
+        self.check("each requester has its own, whole and in order", answers == [
+            b"".join(b"/%d %d " % (number, piece) * 500 for piece in range(20)) for number in range(STREAMS)])
+        for one in handlers:
+            one.join(PATIENCE)
+        self.check("each post is accepted", outcomes, [(202, "")] * STREAMS)
+        first.close()
+
+
+class HandledPorts(WithService):
+    def setUp(self) -> None:
+        self.ports = free_ports(2, ())
+        listed = ",".join(str(port) for port in self.ports)
+        self.service = Service(CONFIGURATION, variables={"LAMBDA_LOCAL_HANDLED": listed})
+
+    def test_without_a_handler_each_request_is_refused(self) -> None:
+        for port in self.ports:
+            for method, path, headers, body in AT_HANDLED:
+                refused = ask(port, method, path, body or None, headers, PATIENCE)
+                self.check(f"{method} {path}", fault_of(refused), NO_HANDLER)
+        connection = http.client.HTTPConnection("127.0.0.1", self.ports[0], timeout=PATIENCE)
+        for body in (b"", bytes(1000), b"x"):
+            connection.request("POST", "/a", body)
+            answer = connection.getresponse()
+            self.check("its connection stays", (answer.status, json.loads(answer.read())["Type"]), (503, "Service"))
+        connection.close()
+        self.check("the service goes on", self.asked("GET", "/_local/version")[0], 200)
+
+    def test_each_request_is_handed_over_with_its_port(self) -> None:
+        stats = self.asked("GET", "/_local/stats")
+        handler = self.handler()
+        for port in self.ports:
+            for method, path, headers, body in AT_HANDLED:
+                requester = Requester(self.service, method, path, headers, body or None, port)
+                head, came = handler.next()
+                self.check(f"the handler gets {method} {path}", (head["port"], head["method"], head["target"], came),
+                           (port, method, path, body))
+                self.check("and its fields", all([name.lower(), value] in head["headers"]
+                                                 for name, value in headers.items()))
+                self.check("it answers", handler.answer(head, b"from %d" % port), (202, ""))
+                self.check("and that is the answer", requester.answer()[2], b"from %d" % port)
+        requester = Requester(self.service, "GET", "/nothing")
+        head, _ = handler.next()
+        handler.answer(head)
+        self.check("the invoke port's have its number", (head["port"], requester.answer()[0]), (self.service.port, 200))
+        self.check("and none of it counts", self.asked("GET", "/_local/stats"), stats)
+        handler.close()
+
+    def test_the_guard_stays(self) -> None:
+        handler = self.handler()
+        port = self.ports[0]
+        foreign = ask(port, "GET", "/a", None, {"Host": "evil.example.com"}, PATIENCE)
+        self.check("a foreign host is refused", fault_of(foreign),
+                   (403, "AccessDeniedException", "Host is neither local nor in LAMBDA_LOCAL_HOSTS"))
+        page = ask(self.service.port, "GET", "/a", None, {"Origin": "http://a.example"}, PATIENCE)
+        self.check("a page at the invoke port as well", fault_of(page),
+                   (403, "AccessDeniedException", "Web pages may not call this service"))
+        coded = ask(port, "POST", "/a", b"x", {"Transfer-Encoding": "gzip, chunked"}, PATIENCE)
+        self.check("and a foreign coding", coded[0], 501)
+        longer = ask(port, "POST", "/a", bytes(LONGEST + 1), timeout=PATIENCE)
+        self.check("a body is within the limit", fault_of(longer),
+                   (413, "RequestTooLargeException", f"Payload exceeds {LONGEST} bytes"))
+        handler.close()
+
+    def test_requests_of_all_ports_wait_in_one_line(self) -> None:
+        handler = self.handler()
+        requesters = []
+        for number in range(MANY):
+            requesters.append(Requester(self.service, "GET", f"/{number}", {}, None, self.ports[number % 2]))
+        for _ in requesters:
+            head, _ = handler.next()
+            handler.answer(head, b"%d%s" % (head["port"], head["target"].encode()))
+        self.check("each has its own answer", [one.answer()[2] for one in requesters],
+                   [b"%d/%d" % (self.ports[number % 2], number) for number in range(MANY)])
+        handler.close()
+
+    def test_a_port_that_is_taken_ends_the_start(self) -> None:
+        taken = {"LAMBDA_LOCAL_HANDLED": str(self.ports[0])}
+        with self.assertRaises(Fault) as failed:
+            Service(CONFIGURATION, variables=taken)
+        self.check("by the fault of the network", (failed.exception.status, "network: failed" in str(failed.exception)),
+                   (4, True))

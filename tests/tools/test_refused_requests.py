@@ -200,7 +200,7 @@ class RefusedRequests(Case):
         for line, wanted in (
                 ("404 GET /a at port 9003: no such route", ("g/1", "-- GET /a: 404, there is no such route")),
                 ("404 GET /a at port 9002: no such route", None), ("404 GET /a at port 9000: no such route", None),
-                ("404 at the invoke port: 5 more since; no such route", None), ("404", None),
+                ("404 at a callers' port: 5 more since; no such route", None), ("404", None),
                 ("405 POST /2018-06-01/runtime/invocation/next?a at port 9001: this route does not have this method",
                  ("f/1", "-- POST /2018-06-01/runtime/invocation/next: 405, this route has the method GET")),
                 ('400 POST /2020-01-01/extension/register at port 9001, {"errorMessage":"a: b",'

@@ -19,9 +19,11 @@ from .outgoing import tell
 from .reasons import LineOf, among, sentence
 
 NOT_READ = "usage: "  # the program's line if it does not read its arguments or its variables
-PATIENCE, HOSTS = "LAMBDA_LOCAL_PATIENCE_MS", "LAMBDA_LOCAL_HOSTS"
+PATIENCE, HOSTS, HANDLED = "LAMBDA_LOCAL_PATIENCE_MS", "LAMBDA_LOCAL_HOSTS", "LAMBDA_LOCAL_HANDLED"
 LONGEST_PATIENCE = 2000  # milliseconds
 HOST_NAMES = re.compile(r"[A-Za-z0-9._-]+(,[A-Za-z0-9._-]+)*")
+PORTS = re.compile(r"[1-9][0-9]{0,4}(,[1-9][0-9]{0,4})*", re.ASCII)
+MOST_HANDLED = 64
 SIGNALS = (signal.SIGHUP, signal.SIGINT, signal.SIGQUIT, signal.SIGTERM)
 SHOWN = 80  # characters of a value
 AT_ONCE = 64 << 10  # bytes
@@ -59,13 +61,24 @@ def of_configuration(program: str, path: str) -> Iterator[str]:
         yield f"{path}: {told.partition(', the configuration: ')[2]}"
 
 
+def are_ports(text: str) -> bool:
+    """Whether a text lists ports that `serve` may listen on beside those of its configuration."""
+    if not PORTS.fullmatch(text):
+        return False
+    ports = [int(piece) for piece in text.split(",")]
+    return len(ports) == len(set(ports)) <= MOST_HANDLED and max(ports) < 65536
+
+
 def of_variables() -> Iterator[str]:
-    patience, hosts = os.environ.get(PATIENCE), os.environ.get(HOSTS)
+    patience, hosts, handled = os.environ.get(PATIENCE), os.environ.get(HOSTS), os.environ.get(HANDLED)
     if patience is not None and not (re.fullmatch("[0-9]+", patience) and int(patience[:20]) <= LONGEST_PATIENCE):
         yield f"{PATIENCE}={patience[:SHOWN]}: write a whole number of milliseconds from 0 to {LONGEST_PATIENCE}"
     if hosts and not HOST_NAMES.fullmatch(hosts):
         yield (f"{HOSTS}={hosts[:SHOWN]}: write names of letters, digits, -, . and _, separated by commas, without "
                "spaces or ports")
+    if handled and not are_ports(handled):
+        yield (f"{HANDLED}={handled[:SHOWN]}: write up to {MOST_HANDLED} ports from 1 to 65535, each once, separated "
+               "by commas, without spaces")
 
 
 def of_script(program: str, path: str) -> Iterator[str]:

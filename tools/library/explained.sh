@@ -13,7 +13,7 @@ explain() {
 # Whether the program would serve the configuration $1, by these variables.
 takes() {
   [ -f "$1" ] && [ -r "$1" ] || return 0
-  if [ -n "${LAMBDA_LOCAL_PATIENCE_MS+x}${LAMBDA_LOCAL_HOSTS+x}" ]; then
+  if [ -n "${LAMBDA_LOCAL_PATIENCE_MS+x}${LAMBDA_LOCAL_HOSTS+x}${LAMBDA_LOCAL_HANDLED+x}" ]; then
     case $("$program" serve /dev/null 2>&1) in usage:*) return 1 ;; esac
   fi
   { echo "form 2" && tr '\r\n' '  ' <"$1" && echo; } | "$program" replay >/dev/null 2>&1

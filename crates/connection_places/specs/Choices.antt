@@ -1,4 +1,5 @@
--- Which new connections get a place, and which connection makes room for one.
+-- Which new connections get a place, and which connection makes room for one. The account's port and those of handlers
+-- are callers' ports: their connections share their places.
 use Rattle.std.specs.Prelude.{◌≤◌, ℕ, ◌+◌, ◌==◌, Bool, true, false, ◌||◌, ◌&&◌, nat_lt, if◌then◌else◌, fold, Option}
 use Rattle.std.specs.Prelude.{Some, None, List, All, option_map, ◌≡◌, ◌<◌, ◌⊎◌}
 use Rattle.std.specs.Option.{option_or}
@@ -6,7 +7,7 @@ use Rattle.service_port.specs.Ports.{environment_of}
 use Rattle.connection_places.specs.Looks.{looks_of_caller, looks_of_environment, reserve_of, better}
 use Rattle.connection_places.specs.declared.choice.Spare.{Spare}
 use Rattle.service_port.specs.declared.port.Port.{Port}
-use Rattle.service_port.specs.declared.port.Port.TheVariants.{Account, Environment}
+use Rattle.service_port.specs.declared.port.Port.TheVariants.{Account, Environment, Handled}
 use Rattle.connection_places.specs.declared.running.Running.{Running}
 use Rattle.connection_places.specs.declared.slots.Slot.{Slot}
 
@@ -60,7 +61,7 @@ module _ {Y V : Type 0} where
   abbrev pub searched : Search → Slot Y V → Search
   searched search slot = record { at = search.at + 1; best = better search.best search.at (spare_of slot.running) }
 
-  -- Of the connections at the account's port that may make room, the one that has been longest without a complete
+  -- Of the connections at callers' ports that may make room, the one that has been longest without a complete
   -- request, and the first of equal ones: its place, and for how many looks it has been so.
   abbrev pub best_of : List (Slot Y V) → Option (ℕ × ℕ)
   best_of slots = (fold searched (record { at = 0; best = None }) slots).best
@@ -108,10 +109,11 @@ module _ {Y V : Type 0} where
   GivesWay e slots best = (best.environment ≡ e) ⊎ (count_at e slots < best.held)
 
   -- Whether a new connection at this port may have one of `most` places that no connection has. At an
-  -- environment's port, the places that are kept for the account's port are not available.
+  -- environment's port, the places that are kept for callers' ports are not available.
   abbrev pub admits : ℕ → Port → List (Slot Y V) → Bool
   admits most Account slots = true
   admits most (Environment e) slots = nat_lt (count_of_environments slots + reserve_of most) most
+  admits most (Handled number) slots = true
 
   -- The place whose connection makes room for a newcomer at this port.
   abbrev pub place_for : ℕ → Port → List (Slot Y V) → Option ℕ
@@ -120,3 +122,4 @@ module _ {Y V : Type 0} where
       if admits most (Environment e) slots
       then option_or (option_map (λ best. best.0) (best_of slots)) (option_map (λ best. best.at) (best_of_ports e slots))
       else option_map (λ best. best.at) (best_of_ports e slots)
+  place_for most (Handled number) slots = option_map (λ best. best.0) (best_of slots)

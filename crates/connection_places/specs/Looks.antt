@@ -6,7 +6,7 @@ use Rattle.connection_state.specs.Limits.{has_outstayed}
 use Rattle.connection_state.specs.declared.pulse.Told.{Told}
 use Rattle.connection_places.specs.declared.observation.Observation.{Observation}
 use Rattle.service_port.specs.declared.port.Port.{Port}
-use Rattle.service_port.specs.declared.port.Port.TheVariants.{Account, Environment}
+use Rattle.service_port.specs.declared.port.Port.TheVariants.{Account, Environment, Handled}
 
 -- What is seen of a connection that has just come in.
 abbrev pub first_seen : Port → Told → Observation
@@ -46,10 +46,11 @@ spare_looks seen =
     if is_between seen.told.awaited || (is_unserved seen.told.awaited && nat_lt 0 seen.unasked) then Some seen.unasked
     else None
 
--- The same of a connection at the account's port; `None` for any other.
+-- The same of a connection at a callers' port: the account's, or one of handlers; `None` for any other.
 abbrev pub looks_at : Port → Observation → Option ℕ
 looks_at Account seen = spare_looks seen
 looks_at (Environment e) seen = None
+looks_at (Handled number) seen = spare_looks seen
 
 abbrev pub looks_of_caller : Observation → Option ℕ
 looks_of_caller seen = looks_at seen.port seen
@@ -63,12 +64,13 @@ offered_at newcomer (Environment own) seen =
     if own == newcomer then option_map (λ looks. (own, looks)) (spare_looks seen)
     else if is_unserved seen.told.awaited then Some (own, seen.unasked)
     else None
+offered_at newcomer (Handled number) seen = None
 
 abbrev pub looks_of_environment : ℕ → Observation → Option (ℕ × ℕ)
 looks_of_environment newcomer seen = offered_at newcomer seen.port seen
 
--- The number of places that are kept for the account's port: one in sixteen, up to 64; and of 1,024 or more, 64 further
--- ones, since as many connections may follow the trace there.
+-- The number of places that are kept for callers' ports: one in sixteen, up to 64; and of 1,024 or more, 64 further ones,
+-- since as many connections may follow the trace there.
 abbrev pub reserve_of : ℕ → ℕ
 reserve_of most = min (most / 16) 64 + min (most / 1024 * 64) 64
 

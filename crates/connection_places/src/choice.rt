@@ -1,4 +1,5 @@
-//! Which new connections get a place, and which connection makes room for one.
+//! Which new connections get a place, and which connection makes room for one. The account's port and those of handlers
+//! are callers' ports: their connections share their places.
 
 ghost use Rattle.std.specs.Prelude.{◌≡◌, ◌≤◌, length, IfSome, option_map};
 ghost use Rattle.connection_places.specs.Choices as choice;
@@ -8,7 +9,7 @@ use crate::running::Running;
 use crate::slots::Slot;
 use service_port::Port;
 
-/// The place of a connection at the account's port that may make room, and for how many looks it
+/// The place of a connection at callers' ports that may make room, and for how many looks it
 /// has been without a complete request.
 type Best = Option<(usize, u32)>;
 
@@ -55,7 +56,7 @@ fn fuller(best: Option<Spare>, spare: Option<Spare>) -> Option<Spare>
     }
 }
 
-/// Returns how many of `most` places are kept for the account's port: one in sixteen, up to 64; and of 1,024 or more, 64
+/// Returns how many of `most` places are kept for callers' ports: one in sixteen, up to 64; and of 1,024 or more, 64
 /// further ones, since as many connections may follow the trace there, of which none makes room.
 pub(crate) fn reserve_of(most: usize) -> usize
     ensures { result ≡ spec.reserve_of most }
@@ -74,7 +75,7 @@ fn spare_looks(running: &Option<Running>) -> Option<u32>
     }
 }
 
-/// Returns the place whose connection makes room at the account's port: among those that may, the
+/// Returns the place whose connection makes room at callers' ports: among those that may, the
 /// first that has been longest without a complete request.
 fn best_of<Y, V>(slots: &[Slot<Y, V>]) -> Best
     ensures { result ≡ choice.best_of slots.now }
@@ -203,13 +204,13 @@ fn best_of_ports<Y, V>(environment: u32, slots: &[Slot<Y, V>]) -> Option<Spare>
 }
 
 /// Returns whether a newcomer at this port may have one of `most` places that no
-/// connection has. At an environment's port, the places that are kept for the account's port are
+/// connection has. At an environment's port, the places that are kept for callers' ports are
 /// not available.
 pub(crate) fn admits<Y, V>(most: usize, port: Port, slots: &[Slot<Y, V>]) -> bool
     ensures { result ≡ choice.admits most port slots.now }
 {
     match port {
-        Port::Account => true,
+        Port::Account | Port::Handled(_) => true,
         Port::Environment(_) => {
             count_of_environments(slots).saturating_add(reserve_of(most)) < most
         }
@@ -227,8 +228,8 @@ fn place_of_ports<Y, V>(environment: u32, slots: &[Slot<Y, V>]) -> Option<usize>
 }
 
 /// Returns the place whose connection makes room for a newcomer at this port, if one of
-/// `most` places cannot be had otherwise: at the account's port, and as long as environments have not
-/// used up their share, that of the connection at the account's port that has been longest without a
+/// `most` places cannot be had otherwise: at callers' ports, and as long as environments have not
+/// used up their share, that of the connection at callers' ports that has been longest without a
 /// complete request; otherwise that of one at the environment's port that holds most.
 pub(crate) fn place_for<Y, V>(most: usize, port: Port, slots: &[Slot<Y, V>]) -> Option<usize>
     ensures { result ≡ choice.place_for most port slots.now }
@@ -239,7 +240,7 @@ pub(crate) fn place_for<Y, V>(most: usize, port: Port, slots: &[Slot<Y, V>]) -> 
         return Some(at);
     }
     match port {
-        Port::Account => None,
+        Port::Account | Port::Handled(_) => None,
         Port::Environment(environment) => place_of_ports(environment, slots),
     }
 }

@@ -88,20 +88,20 @@ impl Observation {
         ensures { result ≡ spec.looks_of_caller self }
     {
         match self.port {
-            Port::Account => self.spare_looks(),
+            Port::Account | Port::Handled(_) => self.spare_looks(),
             Port::Environment(_) => None,
         }
     }
 
     /// Returns the environment at whose port the connection came in, and for how many looks it has
-    /// been without a complete request; `None` if it came in at the account's port, or may not make
+    /// been without a complete request; `None` if it came in at a callers' port, or may not make
     /// room for a newcomer at the port of this environment. At another port than the newcomer's, it
     /// may if it serves no request.
     pub(crate) fn looks_of_environment(self, newcomer: u32) -> Option<(u32, u32)>
         ensures { result ≡ spec.looks_of_environment newcomer self }
     {
         match self.port {
-            Port::Account => None,
+            Port::Account | Port::Handled(_) => None,
             Port::Environment(own) if own == newcomer => match self.spare_looks() {
                 Some(looks) => Some((own, looks)),
                 None => None,

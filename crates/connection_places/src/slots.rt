@@ -328,7 +328,7 @@ impl<Y: Drop, V: Drop> Slots<Y, V> {
     }
 
     /// Returns whether a newcomer at this port may have a place that no connection has:
-    /// one in sixteen, up to 64, and of 1,024 or more 64 further ones are kept for the account's port.
+    /// one in sixteen, up to 64, and of 1,024 or more 64 further ones are kept for callers' ports.
     pub fn admits(&self, port: Port) -> bool {
         admits(self.most, port, self.slots.as_slice())
     }
@@ -344,12 +344,12 @@ impl<Y: Drop, V: Drop> Slots<Y, V> {
         }
     }
 
-    /// If no place is left for a newcomer at this port, and some are kept for the
-    /// account's port, asks one connection to make room. Returns whether there is one. It ends if it
+    /// If no place is left for a newcomer at this port, and some are kept for
+    /// callers' ports, asks one connection to make room. Returns whether there is one. It ends if it
     /// serves no request when it is asked; its place is free once it has ended.
     ///
-    /// At the account's port, and as long as environments have not used up their share, it is the
-    /// one at the account's port that has been longest without a complete request. For a newcomer at
+    /// At callers' ports, and as long as environments have not used up their share, it is the
+    /// one at callers' ports that has been longest without a complete request. For a newcomer at
     /// an environment's port it is otherwise the longest of the environment's port that holds most.
     pub fn ask_for_room(&mut self, port: Port) -> bool
         ensures { self.new ≡ self.old }

@@ -4,13 +4,14 @@ use Rattle.connection_state.specs.declared.pulse.Awaited.{Awaited}
 use Rattle.connection_state.specs.declared.pulse.Awaited.TheVariants.{Answer, First, Head, Body, Taking, Next, End}
 use Rattle.connection_state.specs.declared.pulse.Told.{Told}
 use Rattle.service_port.specs.declared.port.Port.{Port}
-use Rattle.service_port.specs.declared.port.Port.TheVariants.{Account, Environment}
+use Rattle.service_port.specs.declared.port.Port.TheVariants.{Account, Environment, Handled}
 
 -- How many seconds a connection may be idle between two requests. At an environment's port this is far above the 900
 -- that a handler may take, since its runtime keeps the connection of its Next open meanwhile.
 abbrev pub idle_limit : Port → ℕ
 idle_limit Account = 300
 idle_limit (Environment e) = 3600
+idle_limit (Handled number) = 300
 
 -- How many seconds a connection may go without a byte; `None` if there is no limit.
 abbrev pub still_limit : Port → Awaited → Option ℕ

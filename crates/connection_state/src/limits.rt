@@ -13,7 +13,7 @@ fn idle_limit(port: Port) -> u64
     ensures { result ≡ spec.idle_limit port }
 {
     match port {
-        Port::Account => 300,
+        Port::Account | Port::Handled(_) => 300,
         Port::Environment(_) => 3_600,
     }
 }

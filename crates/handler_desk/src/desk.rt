@@ -135,6 +135,11 @@ impl Desk {
         }
     }
 
+    /// Returns why a handler may not answer the request with this identifier, if it may not.
+    pub fn denial(&self, rt: &impl Wait, handler: u64, id: u64) -> Option<NotTaken> {
+        self.state.lock(rt).denial(id, handler)
+    }
+
     /// Returns where what a handler gives for a request is sent, which is over then.
     fn sender(
         &self,

@@ -3,11 +3,13 @@
 
 mod asked;
 mod desk;
+mod pipe;
 mod posted;
 mod state;
 
 pub use asked::{Asked, is_of_handler, read_asked};
 pub use desk::{Desk, Taken};
 pub use handover::{AnswerFault, NotTaken, Request};
+pub use pipe::{PipeFault, PipeReceiver, PipeSender, open_pipe};
 pub use posted::{Given, Posted};
 pub use state::{NotPut, Put};

@@ -6,13 +6,13 @@ ghost use Rattle.handover.specs.Posted.{IsHeadOf, status_among, fields_in};
 ghost use Rattle.handler_desk.specs.Asked.{asked};
 ghost use Rattle.handler_desk.specs.declared.asked.Asked.TheVariants.{Response};
 
-use bytes::Bytes;
+use crate::pipe::PipeReceiver;
 use handover::{AnswerFault, AnswerHead, read_answer};
 use http::request::Parts;
 use std::alloc::Global;
 
-/// What a handler has posted for a request: the head of its post, the identifier in its path, and the status, the fields
-/// and the body of the answer.
+/// What a handler posts for a request: the head of its post, the identifier in its path, the status and the fields of the
+/// answer, and where its body is taken out while it comes.
 #[derive(Drop)]
 pub struct Posted {
     /// The head of the post.
@@ -22,18 +22,24 @@ pub struct Posted {
     /// The head of the answer, as the post's fields say it.
     pub head: AnswerHead,
     /// The body of the answer, which is that of the post.
-    pub body: Bytes,
+    pub body: PipeReceiver,
     pub ghost named: { asked post ≡ Response id },
     pub ghost status_read: { status_among (get_all post.headers (codes "lambda-local-status")) ≡ Ok head.status },
     pub ghost fields_read: { fields_in (get_all post.headers (codes "lambda-local-header")) ≡ Ok head.fields.items },
 }
 
 impl Posted {
-    /// Reads what is posted for the request with this identifier, which is the one in the path.
+    /// Reads what is posted for the request with this identifier, which is the one in the path. Its body is taken out of
+    /// this pipe.
     ///
     /// # Errors
     /// If the fields of the post say no head; or if memory is refused.
-    pub fn read(alloc: Global, post: Parts, id: u64, body: Bytes) -> Result<Posted, AnswerFault>
+    pub fn read(
+        alloc: Global,
+        post: Parts,
+        id: u64,
+        body: PipeReceiver,
+    ) -> Result<Posted, AnswerFault>
         requires { asked post ≡ Response id }
         ensures of_post { IfOk result (λ posted. (posted.post ≡ post) × (posted.id ≡ id) × (posted.body ≡ body)) }
         ensures fault { IfErr result (λ fault. IsHeadOf post.headers (Err fault)) }

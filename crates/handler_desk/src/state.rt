@@ -193,6 +193,13 @@ impl State {
         let _ = self.seats.remove(&id);
     }
 
+    /// Returns why a handler may not answer a request, if it may not.
+    pub(crate) fn denial(&self, id: u64, handler: u64) -> Option<NotTaken>
+        ensures { result ≡ denial handler (stage id self.now.requests) }
+    {
+        self.requests.denial(id, handler)
+    }
+
     /// Lets a handler give something for a request, which is over then. Returns where it is sent.
     ///
     /// # Errors

@@ -7,3 +7,4 @@ mod Hands
 mod Bounds
 mod Fields
 mod Messages
+mod Piping

@@ -5,3 +5,4 @@ pub mod Runs
 pub mod Presence
 pub mod Heads
 pub mod Posted
+pub mod Pipes

@@ -191,26 +191,34 @@ impl Requests {
         pop(&mut self.waiting, &mut self.bytes)
     }
 
+    /// Returns why a handler may not answer a request, if it may not: it has not taken it, or it is over.
+    pub fn denial(&self, id: u64, handler: u64) -> Option<NotTaken>
+        ensures { result ≡ denial handler (stage id self.now) }
+    {
+        match self.stage(id) {
+            Stage::Taken(other) if other == handler => None,
+            Stage::Taken(_) => Some(NotTaken::ByAnother),
+            Stage::Waits => Some(NotTaken::StillWaits),
+            Stage::Over => Some(NotTaken::IsOver),
+            Stage::NotGiven => Some(NotTaken::NotGiven),
+        }
+    }
+
     /// Lets a handler answer a request, which is over then.
     ///
     /// # Errors
-    /// If the handler has not taken it, or it is over. All is then as it was.
+    /// If [`Requests::denial`] says why. All is then as it was.
     pub fn answer(&mut self, id: u64, handler: u64) -> Result<(), NotTaken>
         ensures fault { MatchResult result (λ _. denial handler (stage id self.old) ≡ None)
             (λ e. denial handler (stage id self.old) ≡ Some e) }
         ensures state { OnOk result (self.new ≡ answered id self.old) }
         ensures same { OnErr result (self.new ≡ self.old) }
     {
-        match self.stage(id) {
-            Stage::Taken(other) if other == handler => {
-                let _ = self.taken.remove(&id);
-                Ok(())
-            }
-            Stage::Taken(_) => Err(NotTaken::ByAnother),
-            Stage::Waits => Err(NotTaken::StillWaits),
-            Stage::Over => Err(NotTaken::IsOver),
-            Stage::NotGiven => Err(NotTaken::NotGiven),
+        if let Some(fault) = self.denial(id, handler) {
+            return Err(fault);
         }
+        let _ = self.taken.remove(&id);
+        Ok(())
     }
 
     /// Returns the requests that are at a handler, in the order in which it took them.

@@ -8,6 +8,7 @@ mod counter;
 mod fault;
 mod head;
 pub mod laws;
+mod pipe;
 mod request;
 mod stage;
 
@@ -17,5 +18,6 @@ pub use attendance::Attendance;
 pub use counter::{Limits, Requests};
 pub use fault::{NotTaken, PutFault};
 pub use head::write_head;
+pub use pipe::{Ending, MOST_HELD, Pipe, Put, Taken};
 pub use request::Request;
 pub use stage::Stage;

@@ -20,7 +20,7 @@ use Rattle.http.specs.declared.request.Parts.{Parts}
 use Rattle.http.specs.declared.response.Response.{Response}
 use Rattle.http_body.specs.declared.frame.Frame.{Frame}
 use Rattle.http_body_util.specs.declared.either.Either.{Either}
-use Rattle.http_body_util.specs.declared.full.Full.{Full}
+use Rattle.http_front.specs.Sent.{SentBody}
 use Rattle.http_front.specs.Answered.{IsReplyTo, IsOutcomeOf, IsDecided, IsItsOwn, IsAnswerAt, IsTicked}
 use Rattle.http_front.specs.Exchanged.{ComesTo, IsAnswer, IsOwnAnswer}
 use Rattle.http_front.specs.Handing.{IsGivenAtDesk}
@@ -169,7 +169,7 @@ module _ {R S D N K L B P E T : Type 0} {service : Service.Ghosts S K L T} {deci
   outcome_of shows head body (outcome.Trace shown) x =
       (x.0, sym (decides head body (decided.Show (show.Trace x.0)) x.1), x.2)
 
-  module _ (hosts : List ℕ) (head : Parts) (response : Response (Either (Full (List ℕ)) H)) where
+  module _ (hosts : List ℕ) (head : Parts) (response : Response (Either SentBody H)) where
     abbrev shows : Shown → H → Type 0
     shows = IsStreamOf service (service_of connection)
 
@@ -218,20 +218,20 @@ module _ {R S D N K L B P E T : Type 0} {service : Service.Ghosts S K L T} {deci
         → arc_value front.hosts ≡ hosts → IsOwnAnswer clock yields has front head response
         → IsItsOwn L (IsStreamOf service account) (clock.reads it) served most yields has hosts head response
     own_at_port account same it is at listed x =
-        let of_hosts : MatchOption (refusal_of hosts head) (IsRefusal front.port (declares_too_long head) refused.OutOfMemory response ⊎ Exchanged front.port)
+        let of_hosts : MatchOption (refusal_of front.port hosts head) (IsRefusal front.port (declares_too_long head) refused.OutOfMemory response ⊎ Exchanged front.port)
         (λ refusal. IsRefusal front.port (declares_too_long head) refusal response)
-        = subst (λ h. MatchOption (refusal_of h head)
+        = subst (λ h. MatchOption (refusal_of front.port h head)
         (IsRefusal front.port (declares_too_long head) refused.OutOfMemory response ⊎ Exchanged front.port)
         (λ refusal. IsRefusal front.port (declares_too_long head) refusal response)) listed x in
-        let of_api : MatchOption (refusal_of hosts head)
+        let of_api : MatchOption (refusal_of served.port hosts head)
         (IsRefusal served.port (declares_too_long head) refused.OutOfMemory response ⊎ Exchanged served.port)
         (λ refusal. IsRefusal served.port (declares_too_long head) refusal response)
-        = subst (λ a. MatchOption (refusal_of hosts head)
+        = subst (λ a. MatchOption (refusal_of a hosts head)
         (IsRefusal a (declares_too_long head) refused.OutOfMemory response ⊎ Exchanged a) (λ refusal. IsRefusal a (declares_too_long head) refusal response))
         at of_hosts in
         subst (λ a. IsItsOwn L (IsStreamOf service a) (clock.reads it) served most yields has hosts head response) same
         (subst (λ c. IsItsOwn L shows (clock.reads c) served most yields has hosts head response) is
-        (guarded (refusal_of hosts head) of_api))
+        (guarded (refusal_of served.port hosts head) of_api))
 
     pub at_port : (account : S) → service_of connection ≡ account
         → (it : N) → clock_of connection ≡ it → front.port ≡ served.port
@@ -241,6 +241,6 @@ module _ {R S D N K L B P E T : Type 0} {service : Service.Ghosts S K L T} {deci
     at_port account same it is at listed sided (inl x) = inl (own_at_port account same it is at listed x)
     at_port account same it is at listed sided (inr x) =
         inr (
-          subst (λ h. refusal_of h head ≡ None) listed x.0,
+          subst (λ a. refusal_of a hosts head ≡ None) at (subst (λ h. refusal_of front.port h head ≡ None) listed x.0),
           subst (λ s. IsGivenAtDesk s head response) sided x.1,
         )

@@ -10,7 +10,7 @@ use Rattle.http.specs.declared.request.Request.{Request}
 use Rattle.http.specs.declared.response.Response.{Response}
 use Rattle.http_body.specs.declared.frame.Frame.{Frame}
 use Rattle.http_body_util.specs.declared.either.Either.{Either}
-use Rattle.http_body_util.specs.declared.full.Full.{Full}
+use Rattle.http_front.specs.Sent.{SentBody}
 use Rattle.http_connection.specs.Written.{Gave}
 use Rattle.http_front.specs.Courses.{IsExchangeOf, Takes, TakesItself}
 use Rattle.http_front.specs.Exchanged.{ComesTo, IsAnswer, IsOwnAnswer}
@@ -42,7 +42,7 @@ use Rattle.usage_ledger.specs.declared.keep.Keep as Keep
 module _ {R S D N K L B P E T : Type 0} {service : Service.Ghosts S K L T} {decider : Decide.Ghosts D}
     {keep : Keep.Ghosts K} (clock : Clock.Ghosts N) (yields : B → Runs (Result (Frame P) E))
     (has : P → List ℕ → Type 0) (front : Front R S D N K L T service decider keep) (head : Parts) (body : B)
-    (response : Response (Either (Full (List ℕ)) (StreamedBody R S T K L))) where
+    (response : Response (Either SentBody (StreamedBody R S T K L))) where
   abbrev Ex : Type 0
   Ex = Exchange R S D N B K L T service decider keep
 
@@ -104,7 +104,7 @@ module _ {R S D N K L B P E T : Type 0} {service : Service.Ghosts S K L T} {deci
     {keep : Keep.Ghosts K} (clock : Clock.Ghosts N) (yields : B → Runs (Result (Frame P) E)) (has : P → List ℕ → Type 0)
     (X : Type 0) (front : Front R S D N K L T service decider keep) where
   abbrev Answer : Type 0
-  Answer = Response (Either (Full (List ℕ)) (StreamedBody R S T K L))
+  Answer = Response (Either SentBody (StreamedBody R S T K L))
 
   abbrev GivenItself : Responding R S D N B K L T service decider keep → Result Answer X → Type 0
   GivenItself future answer = IfOk answer (λ response. MatchOption future.refusal
@@ -122,7 +122,7 @@ module _ {R S D N K L B P E T : Type 0} {service : Service.Ghosts S K L T} {deci
       → TakesItself front head body future → GivenItself future (Ok response)
       → IsOwnAnswer clock yields has front head response
   of_own head body response future took gave =
-      answer_of clock yields has front head body response (refusal_of (arc_value front.hosts) head)
+      answer_of clock yields has front head body response (refusal_of front.port (arc_value front.hosts) head)
       (front.port, declares_too_long head) (future.port, future.is_unread) future.refusal
       future.exchange (λ i. (took.0 i, took.1 i)) took.2 gave
 

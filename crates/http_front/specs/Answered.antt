@@ -18,7 +18,7 @@ use Rattle.http.specs.declared.request.Parts.{Parts}
 use Rattle.http.specs.declared.response.Response.{Response}
 use Rattle.http_body.specs.declared.frame.Frame.{Frame}
 use Rattle.http_body_util.specs.declared.either.Either.{Either}
-use Rattle.http_body_util.specs.declared.full.Full.{Full}
+use Rattle.http_front.specs.Sent.{SentBody}
 use Rattle.http_front.specs.Handing.{IsGivenAtDesk}
 use Rattle.http_front.specs.Responses.{IsResponseTo, IsRefusal}
 use Rattle.http_routes.specs.Decisions.{Served, decision}
@@ -75,7 +75,7 @@ module _ {H : Type 0} (L : Type 0) (shows : Shown → H → Type 0) (reads : ℕ
   module _ {B P E : Type 0} (yields : B → Runs (Result (Frame P) E)) (has : P → List ℕ → Type 0)
       (hosts : List ℕ) (head : Parts) where
     -- The response is that to the decision, at the port, on a request with this head and the body that came.
-    abbrev pub IsDecided : Response (Either (Full (List ℕ)) H) → Type 0
+    abbrev pub IsDecided : Response (Either SentBody H) → Type 0
     IsDecided response =
         (came : B) × (given : Outcome H L)
         × IsOfBody has (yields came) head [] (λ body. IsOutcomeOf (decision served head body) given)
@@ -83,14 +83,14 @@ module _ {H : Type 0} (L : Type 0) (shows : Shown → H → Type 0) (reads : ℕ
 
     -- The response that the service itself gives to a request with this head at the port. If the head is refused, it is
     -- that of the refusal. Otherwise it is that of a body that failed, of an allocation that failed, or of the decision.
-    abbrev pub IsItsOwn : Response (Either (Full (List ℕ)) H) → Type 0
-    IsItsOwn response = MatchOption (refusal_of hosts head)
+    abbrev pub IsItsOwn : Response (Either SentBody H) → Type 0
+    IsItsOwn response = MatchOption (refusal_of served.port hosts head)
         (IsRefusal served.port (declares_too_long head) BrokenBody response
         ⊎ (IsRefusal served.port (declares_too_long head) OutOfMemory response ⊎ IsDecided response))
         (λ refusal. IsRefusal served.port (declares_too_long head) refusal response)
 
     -- The response to a request with this head at the port. The service itself gives it; or the head is not refused, and
     -- it is given at the desk: the request is one that may be handed over, or a handler's own.
-    abbrev pub IsAnswerAt : Response (Either (Full (List ℕ)) H) → Type 0
+    abbrev pub IsAnswerAt : Response (Either SentBody H) → Type 0
     IsAnswerAt response =
-        IsItsOwn response ⊎ ((refusal_of hosts head ≡ None) × IsGivenAtDesk served head response)
+        IsItsOwn response ⊎ ((refusal_of served.port hosts head ≡ None) × IsGivenAtDesk served head response)

@@ -5,7 +5,7 @@ use Rattle.account_lock.specs.declared.account.Account.{Account}
 use Rattle.futures.specs.Runs.{Runs}
 use Rattle.http_body.specs.declared.frame.Frame.{Frame}
 use Rattle.http_body_util.specs.declared.either.Either.{Either}
-use Rattle.http_body_util.specs.declared.full.Full.{Full}
+use Rattle.http_front.specs.Sent.{SentBody}
 use Rattle.http_connection.specs.Written.{Written, outcome_of}
 use Rattle.http_connection.specs.Wires.{name_of}
 use Rattle.http_connection.specs.declared.event_loop.Ended.{Ended}
@@ -24,7 +24,7 @@ use Rattle.socket_loop.specs.declared.unused.Unused.{Unused}
 -- The account is a service; the bodies of responses and those of requests yield frames, and the data of a frame has
 -- bytes.
 module _ {R S N K L T B P X E : Type 0} (service : Service.Ghosts (Account S OneShotBell) K L T) (clock : Clock.Ghosts N)
-    (sends : Either (Full (List ℕ)) (StreamedBody R (Account S OneShotBell) T K L) → Runs (Result (Frame P) X))
+    (sends : Either SentBody (StreamedBody R (Account S OneShotBell) T K L) → Runs (Result (Frame P) X))
     (yields : B → Runs (Result (Frame P) E)) (has : P → List ℕ → Type 0) (common : Common S N)
     (served : Served) (most name : ℕ) where
   -- A connection at this port, over the socket of this name, came to this. It is the same socket, and each response that

@@ -41,7 +41,7 @@ module _ {R S D N B K L T : Type 0} {service : Service.Ghosts S K L T} {decider 
   abbrev pub TakesItself : Responding R S D N B K L T service decider keep → Type 0
   TakesItself future =
       (future.port ≡ front.port) × (future.is_unread ≡ declares_too_long head)
-      × MatchOption (refusal_of (arc_value front.hosts) head)
+      × MatchOption (refusal_of front.port (arc_value front.hosts) head)
       (MatchOption future.exchange (future.refusal ≡ Some OutOfMemory)
       (λ exchange. (future.refusal ≡ None) × IsExchangeOf exchange.value))
       (λ refusal. (future.refusal ≡ Some refusal) × (future.exchange ≡ None))
@@ -55,9 +55,9 @@ module _ {R S D N B K L T : Type 0} {service : Service.Ghosts S K L T} {decider 
   abbrev pub Takes : Course R S D N B K L T service decider keep → Type 0
   Takes (answers.Own future) = TakesItself future
   Takes (answers.Handed future) =
-      (refusal_of (arc_value front.hosts) head ≡ None) × (hands_over side head ≡ true)
+      (refusal_of front.port (arc_value front.hosts) head ≡ None) × (hands_over side head ≡ true)
       × (future.value.is_unread ≡ declares_too_long head)
   Takes (answers.OfHandler future) =
-      (refusal_of (arc_value front.hosts) head ≡ None)
+      (refusal_of front.port (arc_value front.hosts) head ≡ None)
       × (is_own side head ≡ true) × (asks head ≡ true)
       × (future.value.is_unread ≡ declares_too_long head)

@@ -11,6 +11,8 @@ use Rattle.lambda_wire.specs.declared.body_writer.InvokeFault.TheVariants.{User,
 use Rattle.lambda_wire.specs.declared.reply.Reply.{Reply}
 use Rattle.long_poll.specs.declared.exchange.fault.ExchangeFault.{ExchangeFault}
 use Rattle.long_poll.specs.declared.exchange.fault.ExchangeFault.TheVariants as exchange
+use Rattle.http_front.specs.declared.at_desk.flowing.FlowFault.{FlowFault}
+use Rattle.http_front.specs.declared.at_desk.flowing.FlowFault.TheVariants as flow
 use Rattle.http_front.specs.declared.at_desk.fault.HandedFault.{HandedFault}
 use Rattle.http_front.specs.declared.at_desk.fault.HandedFault.TheVariants as handed
 use Rattle.http_front.specs.declared.at_desk.fault.HandlerFault.{HandlerFault}
@@ -27,6 +29,24 @@ abbrev pub of_posted_body : ExchangeFault → HandlerFault
 of_posted_body exchange.BodyFailed = own.BodyFailed
 of_posted_body exchange.OutOfMemory = own.OutOfMemory
 of_posted_body exchange.BellLost = own.OutOfMemory
+
+-- Why a post is refused if the head of its answer cannot be read.
+abbrev pub of_head : AnswerFault → HandlerFault
+of_head head.NoStatus = own.Unreadable head.NoStatus
+of_head head.SeveralStatuses = own.Unreadable head.SeveralStatuses
+of_head head.NotAStatus = own.Unreadable head.NotAStatus
+of_head head.StatusOutOfRange = own.Unreadable head.StatusOutOfRange
+of_head head.NoColon = own.Unreadable head.NoColon
+of_head head.BadName = own.Unreadable head.BadName
+of_head head.FramingName = own.Unreadable head.FramingName
+of_head head.BadValue = own.Unreadable head.BadValue
+of_head head.OutOfMemory = own.OutOfMemory
+
+-- Why a post is refused if its body is not passed on to its end.
+abbrev pub of_flow : FlowFault → HandlerFault
+of_flow flow.Gone = own.NotTaken taken.IsOver
+of_flow flow.BodyFailed = own.BodyFailed
+of_flow flow.OutOfMemory = own.OutOfMemory
 
 -- Why a request that does not wait has no answer.
 abbrev pub of_put : NotPut → HandedFault

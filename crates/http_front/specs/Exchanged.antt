@@ -7,7 +7,7 @@ use Rattle.http.specs.declared.request.Parts.{Parts}
 use Rattle.http.specs.declared.response.Response.{Response}
 use Rattle.http_body.specs.declared.frame.Frame.{Frame}
 use Rattle.http_body_util.specs.declared.either.Either.{Either}
-use Rattle.http_body_util.specs.declared.full.Full.{Full}
+use Rattle.http_front.specs.Sent.{SentBody}
 use Rattle.http_front.specs.Handing.{IsGivenAtDesk}
 use Rattle.http_front.specs.Responses.{IsAnswerTo, IsRefusal}
 use Rattle.http_front.specs.declared.front.Front.{Front}
@@ -35,15 +35,15 @@ module _ {R S D N K L B P E T : Type 0} {service : Service.Ghosts S K L T} {deci
 
   -- The response that the service itself gives to a request with this head. If the head is refused, it is that of the
   -- refusal. Otherwise it is that of its exchange, or of an allocation that failed.
-  abbrev pub IsOwnAnswer : Response (Either (Full (List ℕ)) (StreamedBody R S T K L)) → Type 0
-  IsOwnAnswer response = MatchOption (refusal_of (arc_value front.hosts) head)
+  abbrev pub IsOwnAnswer : Response (Either SentBody (StreamedBody R S T K L)) → Type 0
+  IsOwnAnswer response = MatchOption (refusal_of front.port (arc_value front.hosts) head)
       (IsRefusal front.port (declares_too_long head) OutOfMemory response
       ⊎ ((made : Result (Outcome (StreamedBody R S T K L) L) ExchangeFault) × ComesTo made
       × IsAnswerTo front.port (declares_too_long head) made response))
       (λ refusal. IsRefusal front.port (declares_too_long head) refusal response)
 
   -- The response to a request with this head: the service itself gives it, or it is given at the desk.
-  abbrev pub IsAnswer : Response (Either (Full (List ℕ)) (StreamedBody R S T K L)) → Type 0
+  abbrev pub IsAnswer : Response (Either SentBody (StreamedBody R S T K L)) → Type 0
   IsAnswer response = IsOwnAnswer response
-      ⊎ ((refusal_of (arc_value front.hosts) head ≡ None)
+      ⊎ ((refusal_of front.port (arc_value front.hosts) head ≡ None)
       × IsGivenAtDesk (arc_value (arc_value front.at_desk).side) head response)

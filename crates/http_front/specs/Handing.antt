@@ -11,7 +11,7 @@ use Rattle.http.specs.Uri.{uri_path_and_query}
 use Rattle.http.specs.declared.request.Parts.{Parts}
 use Rattle.http.specs.declared.response.Response.{Response}
 use Rattle.http_body_util.specs.declared.either.Either.{Either}
-use Rattle.http_body_util.specs.declared.full.Full.{Full}
+use Rattle.http_front.specs.Sent.{SentBody, IsPassed}
 use Rattle.http_header.specs.FieldValue.{FieldValue}
 use Rattle.http_front.specs.DeskFaults.{handed_reply, handler_reply}
 use Rattle.http_front.specs.Responses.{HasMap, HasHead, IsWhole, IsResponseOf}
@@ -55,15 +55,15 @@ IsWayOf served p Own = Unit {0}
 IsWayOf served p Handed = hands_over served p ≡ true
 IsWayOf served p OfHandler = (is_own served p ≡ true) × (asks p ≡ true)
 
--- The response is what a handler has posted, and the connection's last or not: it has its status, its fields and no
--- other, and its bytes.
-abbrev pub IsPosted : {H : Type 0} → Bool → Posted → Response (Either (Full (List ℕ)) H) → Type 0
+-- The response is what a handler posts, and the connection's last or not: it has its status, its fields and no other, and
+-- its body is what comes out of the pipe into which that of the post is put.
+abbrev pub IsPosted : {H : Type 0} → Bool → Posted → Response (Either SentBody H) → Type 0
 IsPosted is_last posted response =
     HasMap is_last posted.head.status (fields posted.head.fields.items) response
-    × IsWhole posted.body (body_of response)
+    × IsPassed posted.body (body_of response)
 
 -- The response is that to a request that was to be handed over: what a handler has posted, or why there is nothing.
-abbrev pub IsHandedResponse : {H : Type 0} → Bool → Result Posted HandedFault → Response (Either (Full (List ℕ)) H)
+abbrev pub IsHandedResponse : {H : Type 0} → Bool → Result Posted HandedFault → Response (Either SentBody H)
     → Type 0
 IsHandedResponse is_last (Ok posted) response = IsPosted is_last posted response
 IsHandedResponse is_last (Err fault) response = IsResponseOf is_last (handed_reply fault) response
@@ -74,7 +74,7 @@ octets_headers = header (codes "content-type") (codes "application/octet-stream"
 
 -- The response is that to a handler's own request: a request, as the line of its head and its body; that what it posted
 -- was given to the requester; or why it is refused.
-abbrev pub IsHandlerResponse : {H : Type 0} → Bool → Result Done HandlerFault → Response (Either (Full (List ℕ)) H)
+abbrev pub IsHandlerResponse : {H : Type 0} → Bool → Result Done HandlerFault → Response (Either SentBody H)
     → Type 0
 IsHandlerResponse is_last (Ok (done.Request id request)) response =
     HasHead is_last 200 octets_headers response
@@ -83,16 +83,16 @@ IsHandlerResponse is_last (Ok done.Accepted) response = HasMap is_last 202 [] re
 IsHandlerResponse is_last (Err fault) response = IsResponseOf is_last (handler_reply fault) response
 
 -- The response is one to a request that was to be handed over.
-abbrev pub IsHandedAnswer : {H : Type 0} → Bool → Response (Either (Full (List ℕ)) H) → Type 0
+abbrev pub IsHandedAnswer : {H : Type 0} → Bool → Response (Either SentBody H) → Type 0
 IsHandedAnswer is_last response = (outcome : Result Posted HandedFault) × IsHandedResponse is_last outcome response
 
 -- The response is one to a handler's own request.
-abbrev pub IsHandlerAnswer : {H : Type 0} → Bool → Response (Either (Full (List ℕ)) H) → Type 0
+abbrev pub IsHandlerAnswer : {H : Type 0} → Bool → Response (Either SentBody H) → Type 0
 IsHandlerAnswer is_last response = (outcome : Result Done HandlerFault) × IsHandlerResponse is_last outcome response
 
 -- The response is one that is given at the desk of a port: to a request that may be handed over, or to a handler's own. It
 -- is the connection's last if the head declares a body that is too long, which is then left unread.
-abbrev pub IsGivenAtDesk : {H : Type 0} → Served → Parts → Response (Either (Full (List ℕ)) H) → Type 0
+abbrev pub IsGivenAtDesk : {H : Type 0} → Served → Parts → Response (Either SentBody H) → Type 0
 IsGivenAtDesk served head response =
     ((hands_over served head ≡ true) × IsHandedAnswer (declares_too_long head) response)
     ⊎ ((is_own served head ≡ true) × (asks head ≡ true) × IsHandlerAnswer (declares_too_long head) response)

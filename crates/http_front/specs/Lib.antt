@@ -1,3 +1,5 @@
+pub mod Sent
+pub mod Passed
 pub mod Responses
 pub mod Courses
 pub mod HostFaults

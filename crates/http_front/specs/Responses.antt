@@ -7,6 +7,7 @@ use Rattle.http.specs.declared.version.TheConstants.Version.{HTTP_11}
 use Rattle.http_body_util.specs.declared.either.Either.{Either}
 use Rattle.http_body_util.specs.declared.either.Either.TheVariants.{Left, Right}
 use Rattle.http_body_util.specs.declared.full.Full.{Full}
+use Rattle.http_front.specs.Sent.{SentBody}
 use Rattle.http_header.specs.FieldValue.{FieldValue, plain_value}
 use Rattle.http_header.specs.HeaderMap.{Entries, append}
 use Rattle.lambda_wire.specs.HeaderFields.{fields}
@@ -42,19 +43,20 @@ abbrev pub whole : List ℕ → Option (List ℕ)
 whole bytes = if length bytes == 0 then None else Some bytes
 
 -- A body is these bytes in one piece.
-abbrev pub IsWhole : {H : Type 0} → List ℕ → Either (Full (List ℕ)) H → Type 0
-IsWhole bytes (Left full) = full.buf ≡ whole bytes
+abbrev pub IsWhole : {H : Type 0} → List ℕ → Either SentBody H → Type 0
+IsWhole bytes (Left (Left full)) = full.buf ≡ whole bytes
+IsWhole bytes (Left (Right passed)) = ⊥
 IsWhole bytes (Right body) = ⊥
 
 -- A response is that of a reply, and the connection's last or not: it has its status, its header fields and no other,
 -- and its bytes.
-abbrev pub IsResponseOf : {H : Type 0} → Bool → Replied → Response (Either (Full (List ℕ)) H) → Type 0
+abbrev pub IsResponseOf : {H : Type 0} → Bool → Replied → Response (Either SentBody H) → Type 0
 IsResponseOf is_last reply response =
     HasHead is_last reply.status reply.headers response × IsWhole reply.body (body_of response)
 
 -- A response is that of an outcome, and the connection's last or not: that of its reply; or, if it is a history,
 -- one with status 200 and the headers of a text, which shows the history as its body; a trace is shown as lines of JSON.
-abbrev pub IsResponseTo : {H L : Type 0} → Bool → Outcome H L → Response (Either (Full (List ℕ)) H) → Type 0
+abbrev pub IsResponseTo : {H L : Type 0} → Bool → Outcome H L → Response (Either SentBody H) → Type 0
 IsResponseTo is_last (Reply reply token) response = IsResponseOf is_last reply response
 IsResponseTo is_last (History body) response =
     HasHead is_last 200 history_headers response × (body_of response ≡ Right body)
@@ -63,14 +65,14 @@ IsResponseTo is_last (Trace body) response =
 
 -- A response is that of a refusal, in the form of its port's API. It is the connection's last if the body is left
 -- unread, or if the refusal itself ends the connection.
-abbrev pub IsRefusal : {H : Type 0} → Port → Bool → Refusal → Response (Either (Full (List ℕ)) H) → Type 0
+abbrev pub IsRefusal : {H : Type 0} → Port → Bool → Refusal → Response (Either SentBody H) → Type 0
 IsRefusal at is_unread refusal response =
     IsResponseOf (is_unread || closes refusal) (refusal_reply at refusal) response
 
 -- A response is that of an exchange's result, whose body was left unread or not: 400 for a body that failed, 500 if an
 -- allocation failed. There is none for a lost bell.
 abbrev pub IsAnswerTo : {H L : Type 0} → Port → Bool → Result (Outcome H L) ExchangeFault
-    → Response (Either (Full (List ℕ)) H) → Type 0
+    → Response (Either SentBody H) → Type 0
 IsAnswerTo at is_unread (Ok outcome) response = IsResponseTo is_unread outcome response
 IsAnswerTo at is_unread (Err fault.BodyFailed) response = IsRefusal at is_unread BrokenBody response
 IsAnswerTo at is_unread (Err fault.OutOfMemory) response = IsRefusal at is_unread OutOfMemory response

@@ -1,8 +1,10 @@
 //! What a connection needs to hand its requests over to handlers, and to serve one.
 
 mod fault;
+mod flowing;
 mod handed;
 mod of_handler;
+mod passed;
 mod response;
 
 ghost use Rattle.std.specs.Prelude.{◌≡◌, IfOk};
@@ -11,6 +13,7 @@ ghost use Rattle.http_header.specs.HeaderMap.{pairs};
 ghost use Rattle.json.specs.Print.{print};
 ghost use Rattle.handover.specs.Heads.{head_tokens};
 ghost use Rattle.http_front.specs.Handing as spec;
+ghost use Rattle.http_front.specs.Ports.{number_of};
 
 use crate::Side;
 use arn_ids::LONGEST_BODY;
@@ -22,6 +25,7 @@ use handover::write_head;
 use http::request::Parts;
 use long_poll::OpenPoll;
 pub use of_handler::OfHandler;
+pub use passed::{PassedBody, PassedFault};
 use std::alloc::{AllocError, Global};
 use std::sync::{Arc, Wait};
 use std::time;
@@ -50,6 +54,7 @@ pub struct AtDesk<R> {
     pub(crate) number: u16,
     // The number of the connection, by which it is known if it is a handler's.
     pub(crate) connection: u64,
+    ghost numbered: { number ≡ number_of (arc_value side).config (arc_value side).port },
 }
 
 /// Returns the target of a request: its path and its query.
@@ -109,6 +114,19 @@ impl<R: Wait + time::Clock + Drop> AtDesk<R> {
         Ok(Way::Own)
     }
 
+    /// Makes what a handler gets of a request with this head and this body: its head has the number of this port.
+    ///
+    /// # Errors
+    /// If memory is refused.
+    fn request(&self, parts: &Parts, body: Bytes) -> Result<Request, AllocError>
+        ensures head { IfOk result (λ request. request.head.items ≡ print (head_tokens
+            (number_of (arc_value self.now.side).config (arc_value self.now.side).port)
+            parts.now.method (spec.target_of parts.now) (pairs parts.now.headers))) }
+        ensures body { IfOk result (λ request. request.body ≡ body) }
+    {
+        request_of(self.alloc, self.number, parts, body)
+    }
+
     /// Lets a request with this head and this body wait for a handler.
     ///
     /// # Errors
@@ -117,7 +135,7 @@ impl<R: Wait + time::Clock + Drop> AtDesk<R> {
         if body.len() > LONGEST_BODY {
             return Err(HandedFault::TooLong);
         }
-        let Ok(request) = request_of(self.alloc, self.number, parts, body) else {
+        let Ok(request) = self.request(parts, body) else {
             return Err(HandedFault::OutOfMemory);
         };
         match self.desk.put(&self.rt, request) {

@@ -4,7 +4,7 @@ mod fault;
 mod responding;
 mod response;
 
-use crate::{Handed, OfHandler};
+use crate::{Handed, OfHandler, PassedBody};
 use bytes::Bytes;
 use decisions::Decide;
 pub use fault::ResponseFault;
@@ -15,10 +15,14 @@ use http_body::Body;
 use http_body_util::{Either, Full};
 use long_poll::{BodyFault, Clock, Service, StreamedBody};
 pub use responding::Responding;
-pub(crate) use response::{reply_response, with_map};
+pub(crate) use response::{reply_response, whole, with_map};
 use std::sync::Wait;
 use std::time;
 use usage_ledger::{Keep, Ledgers};
+
+/// What is sent as the body of a response that shows nothing of the account: bytes that are there at once, or a handler's
+/// answer while it comes.
+pub type SentBody = Either<Full<Bytes>, PassedBody>;
 
 /// The response to one request, by who answers it. (Those of handlers are on the heap: each response has the size of the
 /// largest.)
@@ -47,7 +51,7 @@ where
     ghost use Rattle.http_front.specs.declared.course.Course.TheVariants.{Own, Handed, OfHandler};
 
     type Output = Result<
-        Response<Either<Full<Bytes>, StreamedBody<R, A, A::Trail, K, A::Ledgers>>>,
+        Response<Either<SentBody, StreamedBody<R, A, A::Trail, K, A::Ledgers>>>,
         ResponseFault,
     >;
 

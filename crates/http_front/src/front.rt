@@ -8,14 +8,14 @@ ghost use Rattle.http_front.specs.HandedStages.{CanGoOn, CanServe};
 ghost use Rattle.long_poll.specs.Lengths as lengths;
 
 use crate::at_desk::Way;
-use crate::{AtDesk, Course, Handed, OfHandler, Port, Responding, ResponseFault};
+use crate::{AtDesk, Course, Handed, OfHandler, Port, Responding, ResponseFault, SentBody};
 use bytes::Bytes;
 use decisions::Decide;
 use futures::Future;
 use http::request::Parts;
 use http::{Request, Response};
 use http_body::Body;
-use http_body_util::{Either, Full};
+use http_body_util::Either;
 use hyper::body::Incoming;
 use hyper::service;
 use long_poll::{
@@ -44,7 +44,8 @@ fn cause_of(refusal: Refusal) -> Option<Cause>
 /// A port, for one connection: each request is an exchange. The decider of its exchanges knows
 /// whose port it is: an environment's (Runtime API 2018-06-01, Extensions API 2020-01-01), or the
 /// account's (Lambda API: Invoke, PutFunctionConcurrency, GetFunctionConcurrency; and this
-/// service's own routes). At the account's port, some requests are handed over to handlers, if there is one.
+/// service's own routes), or one of handlers. At the account's port, some requests are handed over to
+/// handlers, if there is one, and at those of handlers all.
 #[derive(Drop)]
 pub struct Front<R, A: Service<K>, D: Decide, N, K: Keep> {
     alloc: Global,
@@ -181,7 +182,7 @@ impl<
         ensures can_poll { ⟦<Course<R, A, D, N, B, K> as Future>⟧.can_poll result }
     {
         let is_unread = declares_too_long(&parts);
-        if let Some(refusal) = self.hosts.refusal(&parts) {
+        if let Some(refusal) = self.hosts.refusal(self.port, &parts) {
             self.note(&parts, refusal);
             return Course::Own(Responding::refused(self.alloc, self.port, is_unread, refusal));
         }
@@ -212,7 +213,7 @@ impl<
     I: Drop,
     K: Keep,
 > service::Service<Request<Incoming<I>>> for Front<R, A, D, N, K> {
-    type Response = Response<Either<Full<Bytes>, StreamedBody<R, A, A::Trail, K, A::Ledgers>>>;
+    type Response = Response<Either<SentBody, StreamedBody<R, A, A::Trail, K, A::Ledgers>>>;
 
     type Error = ResponseFault;
 

@@ -3,7 +3,7 @@
 mod fault;
 mod plan;
 
-ghost use Rattle.std.specs.Prelude.{◌≡◌, ◌⊎◌, ◌+◌, ◌^◌, ◌≤◌, ◌↔◌, length, IfErr, IsErrOf};
+ghost use Rattle.std.specs.Prelude.{◌≡◌, ◌⊎◌, ◌+◌, ◌^◌, ◌≤◌, ◌↔◌, length, IfErr, IfOk, IsErrOf};
 ghost use Rattle.std.specs.Arc.{arc_value};
 ghost use Rattle.arn_ids.specs.Environments.{owners};
 ghost use Rattle.arn_ids.specs.declared.faults.ConfigFault.TheVariants.{EntriesOutOfRange};
@@ -25,6 +25,7 @@ use long_poll::{Clock, OneShotBell};
 use mio::Poll;
 pub use plan::Plan;
 use request_guard::KnownHosts;
+use service_port::HandledPorts;
 use std::alloc::AllocError;
 use std::sync::Arc;
 use std::thread::{self, JoinHandle};
@@ -84,17 +85,16 @@ fn try_threads<R: Machine>(rt: R) -> Result<(), HostFault>
     Ok(())
 }
 
-/// An account that is served over HTTP/1.1 on 127.0.0.1: on the invoke port for callers, and on a
-/// port of each environment for its runtime and its extensions. `S` names the configuration, the
-/// salt, the limit, the ledgers and the history of the account, `N` is the clock, in Unix
-/// milliseconds, and `K` is what each tally keeps.
+/// An account that is served over HTTP/1.1 on 127.0.0.1: on the invoke port for callers, on a port
+/// of each environment for its runtime and its extensions, and on further ports for handlers. `S`
+/// names the configuration, the salt, the limit, the ledgers and the history of the account, `N` is
+/// the clock, in Unix milliseconds, and `K` is what each tally keeps.
 #[derive(Drop)]
 pub struct Host<R, S: Identity, N, K: Keep> {
     acceptor: Acceptor<R, S, N, K>,
     ticker: Ticker<R, S, N, K>,
     ports: Ports<S>,
     notices: Arc<Notices>,
-    ghost listens: { all_served ports.listeners.items ≡ all_served_of S.config S.salt },
 }
 
 /// What a host leaves: its account, and all the tallies in which its calls count.
@@ -113,8 +113,8 @@ impl<
     K: Keep + Send + 'static,
 > Host<R, S, N, K> {
     /// Opens the account of a plan and listens on every port. It takes up to `most` connections at
-    /// once; one place in sixteen, up to 64, is kept for the account's port. If there is no place,
-    /// and some are kept, a new connection takes that of the connection at the account's port that has
+    /// once; one place in sixteen, up to 64, is kept for callers' ports. If there is no place,
+    /// and some are kept, a new connection takes that of the connection at callers' ports that has
     /// been longest without a complete request; any other new connection is closed. If an Invoke would be
     /// throttled while an environment that could serve it has answered and is about to ask for the
     /// next invocation, it is held back for up to `patience` milliseconds, in which that
@@ -141,12 +141,16 @@ impl<
         ensures range { IsErrOf result (Config EntriesOutOfRange)
             ↔ ((length (owners (arc_value plan.config)) + 1 ≤ plan.max_entries) × (plan.max_entries ≤ 2 ^ 32) → ⊥) }
         ensures fault { IfErr result (λ fault. (fault ≡ Config EntriesOutOfRange) ⊎ IsOfMachine fault) }
+        // The ports are those of the configuration, and those of handlers: no other, each with its decider.
+        ensures listens { IfOk result (λ host.
+            all_served host.ports.listeners.items ≡ all_served_of (arc_value plan.config) plan.salt plan.handled) }
     {
         let Plan {
             config,
             shared,
             salt,
             max_entries,
+            handled,
         } = plan;
         let step = shared.environments().saturating_add(1);
         match Account::open(rt.alloc(), config, salt, max_entries, blanks) {
@@ -158,6 +162,7 @@ impl<
                     hosts,
                     &shared,
                     salt,
+                    &handled,
                     (max_entries, step),
                     most,
                     patience,
@@ -175,6 +180,7 @@ impl<
         hosts: KnownHosts,
         config: &Arc<Checked>,
         salt: u64,
+        handled: &HandledPorts,
         room: (u64, u32),
         most: u32,
         patience: u32,
@@ -182,9 +188,11 @@ impl<
         requires configured { arc_value config.now ≡ S.config }
         requires salted { salt ≡ S.salt }
         requires parts { 2 ≤ opened.1.held.parts }
-        ensures { IfErr result IsOfMachine }
+        ensures fault { IfErr result IsOfMachine }
+        ensures listens { IfOk result (λ host.
+            all_served host.ports.listeners.items ≡ all_served_of (arc_value config.now) salt handled.now) }
     {
-        match Ports::open(&rt, rt.alloc(), config, salt) {
+        match Ports::open(&rt, rt.alloc(), config, salt, handled) {
             Ok(ports) => Host::of(rt, opened, clock, hosts, ports, room, most, patience),
             Err(fault) => Err(fault),
         }
@@ -203,8 +211,8 @@ impl<
         patience: u32,
     ) -> Result<Host<R, S, N, K>, HostFault>
         requires parts { 2 ≤ opened.1.held.parts }
-        requires listens { all_served ports.listeners.items ≡ all_served_of S.config S.salt }
-        ensures { IfErr result IsOfMachine }
+        ensures fault { IfErr result IsOfMachine }
+        ensures ports { IfOk result (λ host. host.ports ≡ ports) }
     {
         let Ok(mut acceptor) = Acceptor::open(rt, opened, clock, hosts, most, patience) else {
             return Err(HostFault::OutOfMemory);

@@ -28,8 +28,8 @@ mod worker;
 mod host;
 mod notices;
 
-pub use at_desk::{AtDesk, Handed, OfHandler};
-pub use course::{Course, Responding, ResponseFault};
+pub use at_desk::{AtDesk, Handed, OfHandler, PassedBody, PassedFault};
+pub use course::{Course, Responding, ResponseFault, SentBody};
 pub use front::Front;
 pub use host::{Host, HostFault, Hosted, Plan};
 pub use http_connection::Machine;

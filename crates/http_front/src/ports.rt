@@ -3,13 +3,14 @@
 mod listener;
 mod served_port;
 
-ghost use Rattle.std.specs.Prelude.{◌≡◌, ◌++◌, ◌∷◌, [], IfOk, IfErr, OnOk};
+ghost use Rattle.std.specs.Prelude.{◌≡◌, ◌++◌, ◌∷◌, [], IfOk, IfErr, OnOk, length};
 ghost use Rattle.std.specs.Arc.{arc_value};
+ghost use Rattle.arn_ids.specs.Environments.{owners};
 ghost use Rattle.http_routes.specs.Decisions.{IsPortOf};
 ghost use Rattle.service_port.specs.declared.port.Port.TheVariants.{Account};
 ghost use Rattle.http_front.specs.HostFaults.{IsOfMachine};
 ghost use Rattle.http_front.specs.Ports.{ports_of, environment_ports, number_of};
-ghost use Rattle.http_front.specs.ServedPorts.{served, all_served, all_served_of};
+ghost use Rattle.http_front.specs.ServedPorts.{served, all_served, all_served_of, served_environments, served_handled};
 
 use crate::host::at_socket;
 use crate::{HostFault, Port};
@@ -19,6 +20,7 @@ pub(crate) use listener::{AcceptedSocket, Listener};
 use mio::net::TcpListener;
 use mio::{Events, Interest, Poll, Token, Waker};
 pub(crate) use served_port::ServedPort;
+use service_port::HandledPorts;
 use std::alloc::{AllocError, Global};
 use std::io;
 use std::net::{IpAddr, Ipv4Addr, Net, SocketAddr};
@@ -31,7 +33,7 @@ const MOST_EVENTS: usize = 256;
 /// The token of the waker, which is no port's.
 const OF_WAKER: Token = Token(usize::MAX);
 
-/// The ports of a host: the account's, and one of each environment. The token of each is its index.
+/// The ports of a host: the account's, one of each environment, and those of handlers. The token of each is its index.
 #[derive(Drop)]
 pub(crate) struct Ports<S: Identity> {
     pub(crate) poll: Poll,
@@ -52,7 +54,7 @@ fn push_ports(ports: &mut Vec<u16>, slots: &[Slot]) -> Result<(), AllocError>
 }
 
 /// Returns the ports of the environments, in the order of their numbers.
-fn ports_in_order(alloc: Global, config: &Checked) -> Result<Vec<u16>, AllocError>
+pub(crate) fn ports_in_order(alloc: Global, config: &Checked) -> Result<Vec<u16>, AllocError>
     ensures { IfOk result (λ ports. ports.items ≡ environment_ports config.now) }
 {
     let mut ports = Vec::new(alloc);
@@ -63,7 +65,7 @@ fn ports_in_order(alloc: Global, config: &Checked) -> Result<Vec<u16>, AllocErro
 }
 
 impl<S: Identity> Ports<S> {
-    /// Listens at the number that a port has in the configuration, and adds the listener of the port.
+    /// Listens at the number of a port, and adds the listener of the port.
     fn listen(
         &mut self,
         net: &impl Net,
@@ -105,8 +107,9 @@ impl<S: Identity> Ports<S> {
         Ok(listener)
     }
 
-    /// Listens at every port of a configuration on 127.0.0.1: first the account's, and then one for
-    /// each environment, in the order of their numbers.
+    /// Listens at every port of a configuration on 127.0.0.1, and at these of handlers: first the
+    /// account's, then one for each environment, in the order of their numbers, and then those of
+    /// handlers, in the order of their list.
     ///
     /// # Errors
     /// `Network` if a port cannot be listened on, otherwise `OutOfMemory`. No port is then listened
@@ -116,16 +119,18 @@ impl<S: Identity> Ports<S> {
         alloc: Global,
         config: &Arc<Checked>,
         salt: u64,
+        handled: &HandledPorts,
     ) -> Result<Ports<S>, HostFault>
         requires configured { arc_value config.now ≡ S.config }
         requires salted { salt ≡ S.salt }
         ensures all_served { IfOk result (λ ports.
-            all_served ports.listeners.items ≡ all_served_of (arc_value config.now) salt) }
+            all_served ports.listeners.items ≡ all_served_of (arc_value config.now) salt handled.now) }
         ensures fault { IfErr result IsOfMachine }
     {
         let mut ports = Ports::new(net, alloc)?;
         ports.listen(net, config.invoke_port(), config, salt, Port::Account)?;
         ports.listen_for_environments(net, alloc, config, salt)?;
+        ports.listen_for_handlers(net, config, salt, handled)?;
         Ok(ports)
     }
 
@@ -157,14 +162,35 @@ impl<S: Identity> Ports<S> {
         requires configured { arc_value config.now ≡ S.config }
         requires salted { salt ≡ S.salt }
         requires account { all_served self.old.listeners.items ≡ served (arc_value config.now) salt Account ∷ [] }
-        ensures all_served { OnOk result
-            (all_served self.new.listeners.items ≡ all_served_of (arc_value config.now) salt) }
+        ensures all_served { OnOk result (all_served self.new.listeners.items
+            ≡ served (arc_value config.now) salt Account
+            ∷ served_environments (arc_value config.now) salt (length (owners (arc_value config.now)))) }
         ensures fault { IfErr result IsOfMachine }
     {
         let ports = ports_in_order(alloc, config)?;
         for place in 0..config.environments() {
             let number = ports[place as usize];
             self.listen(net, number, config, salt, Port::Environment(place + 1))?;
+        }
+        Ok(())
+    }
+
+    /// Listens at each of these ports of handlers, in their order, after the other ports.
+    fn listen_for_handlers(
+        &mut self,
+        net: &impl Net,
+        config: &Arc<Checked>,
+        salt: u64,
+        handled: &HandledPorts,
+    ) -> Result<(), HostFault>
+        requires configured { arc_value config.now ≡ S.config }
+        requires salted { salt ≡ S.salt }
+        ensures all_served { OnOk result (all_served self.new.listeners.items
+            ≡ all_served self.old.listeners.items ++ served_handled (arc_value config.now) salt handled.now) }
+        ensures fault { IfErr result IsOfMachine }
+    {
+        for number in handled.numbers() {
+            self.listen(net, *number, config, salt, Port::Handled(*number))?;
         }
         Ok(())
     }

@@ -10,13 +10,14 @@ ghost use Rattle.http_connection.specs.Wires.{IsFresh, name_of};
 ghost use Rattle.http_connection.specs.Written.{Written, outcome_of};
 ghost use Rattle.http_front.specs.Connections.{IsServed};
 ghost use Rattle.http_front.specs.Exchanged.{IsAnswer};
+ghost use Rattle.http_front.specs.Ports.{number_of};
 ghost use Rattle.http_front.specs.Readings.{IsRead};
 ghost use Rattle.http_front.specs.Withdrawn.{IsWithdrawn};
 ghost use Rattle.socket_loop.specs.Halves.{name_of_accepted, name_of_unused};
 
 use crate::common::Common;
 use crate::ports::ServedPort;
-use crate::{AtDesk, Front, Port, Side};
+use crate::{AtDesk, Front, Port, SentBody, Side};
 use account_book::Refusal;
 use account_lock::{Account, Identity, Trail};
 use arn_ids::FnNo;
@@ -27,7 +28,7 @@ use connection_state::{Pulse, Signals};
 use deciders::Deciders;
 use decisions::Decide;
 use http_body::Body;
-use http_body_util::{Either, Full};
+use http_body_util::Either;
 use http_connection::{Ended, Ends, EventLoop, Machine, Park, Wire};
 use hyper::body::Incoming;
 use long_poll::{
@@ -128,7 +129,7 @@ fn serve_by<R: Machine, A: Service<K>, D: Decide + Drop, N: Clock + Drop, O: Par
     pulse: Arc<Pulse>,
 ) -> Ended<Wire>
     requires { IsFresh ends.wire }
-    ensures written { Written ⟦<Either<Full<Bytes>, StreamedBody<R, A, A::Trail, K, A::Ledgers>> as Body>⟧.yields
+    ensures written { Written ⟦<Either<SentBody, StreamedBody<R, A, A::Trail, K, A::Ledgers>> as Body>⟧.yields
         ⟦<Bytes as Into<Bytes>>⟧.converts
         (IsAnswer N.Clock ⟦<Incoming<Wire> as Body>⟧.yields ⟦<Bytes as Into<Bytes>>⟧.converts front)
         result.io (outcome_of result.outcome) }
@@ -201,7 +202,7 @@ impl<R: Machine, S: Identity + Drop, N: Clock + Drop, K: Keep> Worker<R, S, N, K
     /// If the connection cannot be served. Its socket is then closed, and nothing was written to it.
     fn serve(&self, tools: &mut Tools<S>, job: Job<S>) -> Result<Ended<Wire>, Unused>
         ensures { IsServed ⟦<Account<S, OneShotBell> as Service<K>>⟧ N.Clock
-            ⟦<Either<Full<Bytes>, StreamedBody<R, Account<S, OneShotBell>, Trail<S>, K, S>> as Body>⟧.yields
+            ⟦<Either<SentBody, StreamedBody<R, Account<S, OneShotBell>, Trail<S>, K, S>> as Body>⟧.yields
             ⟦<Incoming<Wire> as Body>⟧.yields ⟦<Bytes as Into<Bytes>>⟧.converts
             self.now.common job.served S.most (name_of_accepted job.pending.socket) result }
     {
@@ -252,7 +253,7 @@ impl<R: Machine, S: Identity + Drop, N: Clock + Drop, K: Keep> Worker<R, S, N, K
         open: &Arc<OpenPoll>,
     ) -> Result<Ended<Wire>, Unused>
         ensures { IsServed ⟦<Account<S, OneShotBell> as Service<K>>⟧ N.Clock
-            ⟦<Either<Full<Bytes>, StreamedBody<R, Account<S, OneShotBell>, Trail<S>, K, S>> as Body>⟧.yields
+            ⟦<Either<SentBody, StreamedBody<R, Account<S, OneShotBell>, Trail<S>, K, S>> as Body>⟧.yields
             ⟦<Incoming<Wire> as Body>⟧.yields ⟦<Bytes as Into<Bytes>>⟧.converts
             self.now.common job.served S.most (name_of_accepted job.pending.socket) result }
     {
@@ -340,6 +341,7 @@ impl<
         connection: u64,
         open: &Arc<OpenPoll>,
     ) -> Result<Arc<AtDesk<R>>, AllocError>
+        requires { number ≡ number_of (arc_value decider.now).config (arc_value decider.now).port }
         ensures { IfOk result (λ at_desk. arc_value (arc_value at_desk).side ≡ arc_value decider.now) }
     {
         let desk = Arc::try_clone(&self.common.desk)?;

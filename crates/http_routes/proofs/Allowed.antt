@@ -248,6 +248,7 @@ decision_on-allowed : (config : Config) (salt : ℕ) (of : Port) (p : Parts) (bo
     → IsAllowed config (decision_on config salt of p body)
 decision_on-allowed config salt port.Account p body h = account_decision-allowed config p body
 decision_on-allowed config salt (port.Environment e) p body env = environment_decision-allowed config salt e p body env
+decision_on-allowed config salt (port.Handled number) p body h = refused-allowed config cause.NoHandler
 
 -- What is decided on a port of the configuration, its account can carry out.
 pub as_decided : {E : Type 0} (r : Result Decision E) (side : Served) (p : Parts) (body : List ℕ)

@@ -122,6 +122,7 @@ module _ (a b : List ℕ) (la : longest_body < length a) (lb : longest_body < le
   unfolding account_decision environment_decision
   on_alike config salt port.Account p = at_account_alike config p (route_in account_rows (uri_path p.uri))
   on_alike config salt (port.Environment e) p = at_environment_alike config salt e p (route_in environment_rows (uri_path p.uri))
+  on_alike config salt (port.Handled number) p = refl
 
   -- two bodies that are too long are decided alike
   pub alike : (side : Served) (p : Parts) → decision side p a ≡ decision side p b

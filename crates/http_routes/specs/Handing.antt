@@ -15,7 +15,7 @@ use Rattle.http_routes.specs.declared.names.Target.TheVariants.{Malformed, Unkno
 use Rattle.http_routes.specs.declared.routes.AccountRoute.{AccountRoute}
 use Rattle.http_routes.specs.declared.routes.AccountRoute.TheVariants as account
 use Rattle.service_port.specs.declared.port.Port.{Port}
-use Rattle.service_port.specs.declared.port.Port.TheVariants.{Account, Environment}
+use Rattle.service_port.specs.declared.port.Port.TheVariants.{Account, Environment, Handled}
 
 -- Whether an Invoke of this target is one that the account's port does not answer with an invocation, though its name is
 -- well formed: that of a function or a version that the configuration does not know; or one whose caller does not wait
@@ -50,18 +50,21 @@ hands_over_at config p (Some account.ResumeClock) = false
 unfoldable pub account_hands_over : Config → Parts → Bool
 account_hands_over config p = hands_over_at config p (route_in account_rows (uri_path p.uri))
 
--- Whether a request on a port may be handed over. At an environment's port none may.
+-- Whether a request on a port may be handed over. At an environment's port none may, at one of handlers each.
 abbrev pub hands_over_on : Config → Port → Parts → Bool
 hands_over_on config Account p = account_hands_over config p
 hands_over_on config (Environment e) p = false
+hands_over_on config (Handled number) p = true
 
 abbrev pub hands_over : Served → Parts → Bool
 hands_over side p = hands_over_on side.config side.port p
 
--- Whether a request on a port is a handler's own: by which it gets a request or answers one.
+-- Whether a request on a port is a handler's own: by which it gets a request or answers one. Only the account's port has
+-- such routes.
 abbrev pub is_of_handler_on : Port → Parts → Bool
 is_of_handler_on Account p = is_of_handler (uri_path p.uri)
 is_of_handler_on (Environment e) p = false
+is_of_handler_on (Handled number) p = false
 
 abbrev pub is_own : Served → Parts → Bool
 is_own side p = is_of_handler_on side.port p

@@ -13,7 +13,7 @@ use Rattle.http_routes.specs.declared.refusals.Cause.TheVariants.{WrongMilliseco
 use Rattle.http_routes.specs.declared.refusals.Cause.TheVariants.{MissingHeader, TooLarge, UnreadableRegistration}
 use Rattle.http_routes.specs.declared.refusals.Cause.TheVariants.{WrongEvent, MalformedName, UnknownFunction}
 use Rattle.http_routes.specs.declared.refusals.Cause.TheVariants.{WrongInvocationType, PayloadTooLarge}
-use Rattle.http_routes.specs.declared.refusals.Cause.TheVariants.{UnreadablePayload, UnreadableReservation}
+use Rattle.http_routes.specs.declared.refusals.Cause.TheVariants.{UnreadablePayload, UnreadableReservation, NoHandler}
 
 -- The status, the type and the message of a refusal (Runtime API: InvalidRequestID, 413; Extensions API: 403; Lambda
 -- API: InvalidParameterValueException, ResourceNotFoundException, RequestTooLargeException,
@@ -39,6 +39,7 @@ refusal_words WrongInvocationType =
 refusal_words PayloadTooLarge = (413, codes "RequestTooLargeException", codes "Payload exceeds 6291456 bytes")
 refusal_words UnreadablePayload = (400, codes "InvalidRequestContentException", codes "Payload is not JSON")
 refusal_words UnreadableReservation = (400, codes "InvalidRequestContentException", codes "Body is not readable")
+refusal_words NoHandler = (503, codes "ServiceException", codes "No handler is here")
 
 -- Whose fault a refusal says it is, which only replies of the Lambda API say; `None` for the other APIs and for this
 -- service's own routes.
@@ -60,6 +61,7 @@ fault_of WrongInvocationType = Some fault.User
 fault_of PayloadTooLarge = Some fault.User
 fault_of UnreadablePayload = Some fault.User
 fault_of UnreadableReservation = Some fault.User
+fault_of NoHandler = Some fault.Service
 
 -- The reply, in the form of its API.
 abbrev pub reply_of : Option InvokeFault → ℕ × List ℕ × List ℕ → Decision

@@ -50,6 +50,8 @@ pub(crate) enum Cause {
     UnreadablePayload,
     /// A reservation is not JSON of the required form.
     UnreadableReservation,
+    /// No handler is here, and only handlers answer what comes to this port.
+    NoHandler,
 }
 
 /// Returns the status, the type and the message of a refusal.
@@ -105,6 +107,7 @@ fn refusal_words(cause: Cause) -> (u16, &'static str, &'static str)
             "InvalidRequestContentException",
             "Body is not readable",
         ),
+        Cause::NoHandler => (503, "ServiceException", "No handler is here"),
     }
 }
 
@@ -131,6 +134,7 @@ fn fault_of(cause: Cause) -> Option<InvokeFault>
         | Cause::PayloadTooLarge
         | Cause::UnreadablePayload
         | Cause::UnreadableReservation => Some(InvokeFault::User),
+        Cause::NoHandler => Some(InvokeFault::Service),
     }
 }
 

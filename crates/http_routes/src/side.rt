@@ -11,6 +11,7 @@ ghost use Rattle.decisions.specs.Decisions.{IsAllowed};
 use crate::account_port::account_decision;
 use crate::environment_port::environment_decision;
 use crate::handing::account_hands_over;
+use crate::refusals::{Cause, refused};
 use crate::routes::{AccountRoute, EnvironmentRoute, account_routes, environment_routes};
 use arn_ids::{Checked, EnvNo};
 use decisions::{Decide, Decision, Received};
@@ -28,6 +29,8 @@ use std::sync::Arc;
 enum Routes {
     Account(Router<AccountRoute>),
     Environment(EnvNo, Router<EnvironmentRoute>),
+    // One of handlers, with this number, has none.
+    Handled(u16),
 }
 
 fn routes_of(alloc: Global, port: Port) -> Result<Routes, AllocError>
@@ -42,6 +45,7 @@ fn routes_of(alloc: Global, port: Port) -> Result<Routes, AllocError>
             Ok(router) => Ok(Routes::Environment(env, router)),
             Err(_) => Err(AllocError),
         },
+        Port::Handled(number) => Ok(Routes::Handled(number)),
     }
 }
 
@@ -66,8 +70,8 @@ impl Model for Side {
 }
 
 impl Side {
-    /// Opens a port of the configuration, with the salt of its identifiers: the account's port, or
-    /// that of an environment from 1 to `Checked::environments`. Its routes are made here, once. It
+    /// Opens a port of the configuration, with the salt of its identifiers: the account's port, that
+    /// of an environment from 1 to `Checked::environments`, or one of handlers. Its routes are made here, once. It
     /// fails only if an allocation fails.
     pub fn open(
         alloc: Global,
@@ -122,12 +126,14 @@ impl Side {
                 parts,
                 body,
             ),
+            Routes::Handled(_) => refused(alloc, Cause::NoHandler),
         }
     }
 
-    /// Returns whether a request with this head may be handed over to a handler, as long as there is one: what no
-    /// route has; and an Invoke of a function or version that is not configured, of another type than
-    /// `RequestResponse`, or one that asks for the tail of the log.
+    /// Returns whether a request with this head may be handed over to a handler, as long as there is
+    /// one. At the account's port it may if no route has it; or if it is an Invoke of a function or
+    /// version that is not configured, of another type than `RequestResponse`, or one that asks for the
+    /// tail of the log. At an environment's port none may, at one of handlers each.
     ///
     /// # Errors
     /// If an allocation fails.
@@ -137,16 +143,18 @@ impl Side {
         match &self.routes {
             Routes::Account(router) => account_hands_over(alloc, router, &self.config, parts),
             Routes::Environment(..) => Ok(false),
+            Routes::Handled(_) => Ok(true),
         }
     }
 
-    /// Returns whether a request with this head is a handler's own, by which it gets a request or answers one.
+    /// Returns whether a request with this head is a handler's own, by which it gets a request or answers one. Only the
+    /// account's port has such routes.
     pub fn is_own(&self, parts: &Parts) -> bool
         ensures { result ≡ is_own self.now parts.now }
     {
         match &self.routes {
             Routes::Account(_) => is_of_handler(parts.uri.path()),
-            Routes::Environment(..) => false,
+            Routes::Environment(..) | Routes::Handled(_) => false,
         }
     }
 }

@@ -9,7 +9,7 @@ use Rattle.lambda_wire.specs.declared.fault.WireFault.TheVariants.{TooLong}
 use Rattle.lambda_wire.specs.declared.setup.Setup.{Setup}
 use Rattle.lambda_local.specs.Explaining.{IsSetupOf}
 use Rattle.lambda_local.specs.declared.serve_fault.ServeFault.{ServeFault}
-use Rattle.lambda_local.specs.declared.serve_fault.ServeFault.TheVariants.{Config, Wire, Settlement, Read, Write}
+use Rattle.lambda_local.specs.declared.serve_fault.ServeFault.TheVariants.{Config, Wire, PortInBoth, Settlement, Read, Write}
 use Rattle.lambda_local.specs.declared.serve_fault.ServeFault.TheVariants.{Network, TooFewDescriptors, TooFewThreads}
 use Rattle.lambda_local.specs.declared.serve_fault.ServeFault.TheVariants.{OutOfMemory}
 
@@ -30,6 +30,7 @@ same_setup : (text input : List ℕ) (r : Result Setup ServeFault) → read_setu
 same_setup text input (Ok setup) same is = sym same ∙ is
 same_setup text input (Err (Config fault)) same is = is
 same_setup text input (Err (Wire fault)) same is = sym same ∙ is
+same_setup text input (Err PortInBoth) same is = is
 same_setup text input (Err (Settlement fault)) same is = is
 same_setup text input (Err Read) same is = is
 same_setup text input (Err Write) same is = is

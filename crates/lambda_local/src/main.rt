@@ -19,6 +19,7 @@ mod serve;
 // The configuration, what is wrong with it and where, and the environment variables that set the rest.
 mod configuration;
 mod explain;
+mod handled;
 mod hosts;
 mod patience;
 
@@ -27,6 +28,7 @@ mod serve_fault;
 mod setting_fault;
 
 use crate::explain::explain;
+use crate::handled::read_handled;
 use crate::hosts::read_hosts;
 use crate::patience::read_patience;
 use crate::serve::serve;
@@ -149,7 +151,8 @@ where
         Ok(Asked::Serve(path)) => {
             let patience = read_patience(&rt)?;
             let hosts = read_hosts(&rt)?;
-            serve(rt, path.as_str(), patience, hosts).map_err(ProgramFault::Serve)
+            let handled = read_handled(&rt)?;
+            serve(rt, path.as_str(), patience, hosts, handled).map_err(ProgramFault::Serve)
         }
         Err(error) if error.kind() == io::ErrorKind::OutOfMemory => {
             Err(ProgramFault::Replay(ReplayFault::OutOfMemory))

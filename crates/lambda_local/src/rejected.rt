@@ -4,7 +4,7 @@ use http_front::{Cause, Kind, Rejections, Told};
 use log::{Log, info};
 use std::sync::Wait;
 
-/// How many kinds there are: 11 causes, at the account's port or an environment's.
+/// How many kinds there are: 11 causes, at a callers' port or an environment's.
 const KINDS: u32 = 22;
 
 /// Returns the status of the response to a rejected request, as text.
@@ -24,7 +24,7 @@ fn port_of(kind: Kind) -> &'static str {
     if kind.is_of_environment {
         "an environment's port"
     } else {
-        "the invoke port"
+        "a callers' port"
     }
 }
 

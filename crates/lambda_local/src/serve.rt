@@ -16,6 +16,7 @@ use account_lock::{Identity, Settled};
 use http_front::{Host, Hosted, Machine, Plan};
 use log::Log;
 use request_guard::KnownHosts;
+use service_port::HandledPorts;
 use std::fmt::Display;
 use std::fs;
 use std::io::{self, Read};
@@ -134,7 +135,8 @@ fn serve_by_brand<R: Machine + Log>(
 
 /// Serves the configuration in a file until it is stopped, settles, and writes the account's counts
 /// to standard output. A premature Invoke is held back for up to `patience` milliseconds. A request
-/// is refused if it names a host that is neither local nor one of `hosts` ([`Host::open`]).
+/// is refused if it names a host that is neither local nor one of `hosts` ([`Host::open`]). All
+/// requests to the ports `handled` are handed over to handlers.
 ///
 /// # Errors
 /// Those of the fault; nothing is then written to standard output.
@@ -143,11 +145,15 @@ pub fn serve<R: Machine + Log + Files + Print>(
     path: &str,
     patience: u32,
     hosts: KnownHosts,
+    handled: HandledPorts,
 ) -> Result<(), ServeFault>
 where
     R::File: Read + Drop,
 {
     let plan = read_plan(&rt, path)?;
+    let Some(plan) = plan.handing(rt.alloc(), handled)? else {
+        return Err(ServeFault::PortInBoth);
+    };
     let line = serve_by_brand(rt, plan, patience, hosts)?;
     println!(rt; "{line}").map_err(|fault| ServeFault::at_output(&fault))
 }

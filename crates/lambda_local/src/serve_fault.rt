@@ -23,6 +23,9 @@ pub enum ServeFault {
     /// The file does not hold a configuration.
     #[error("configuration: {0:?}")]
     Wire(WireFault),
+    /// A port of the configuration is also listed as one all of whose requests are handed over.
+    #[error("LAMBDA_LOCAL_HANDLED: DuplicatePort")]
+    PortInBoth,
     /// The shares of the threads do not settle.
     #[error("settlement: {0}")]
     Settlement(SettleFault),
@@ -47,13 +50,13 @@ pub enum ServeFault {
 }
 
 impl ServeFault {
-    /// Returns the exit status of a program that ends with it: 2 if the configuration is at fault,
-    /// 3 if the account does not settle, and 4 if the machine is at fault.
+    /// Returns the exit status of a program that ends with it: 2 if the configuration or a variable is at
+    /// fault, 3 if the account does not settle, and 4 if the machine is at fault.
     pub fn status(self) -> u8
         ensures { result ≡ status_of self }
     {
         match self {
-            ServeFault::Config(_) | ServeFault::Wire(_) => 2,
+            ServeFault::Config(_) | ServeFault::Wire(_) | ServeFault::PortInBoth => 2,
             ServeFault::Settlement(_) => 3,
             ServeFault::Read
             | ServeFault::Write

@@ -217,7 +217,9 @@ where
     fn poll_answer(
         &mut self,
         cx: &mut Context<'_>,
-    ) -> Poll<Result<Outcome<StreamedBody<R, S, S::Trail, K>, S::Ledgers>, ExchangeFault>>
+    ) -> Poll<
+        Result<Outcome<StreamedBody<R, S, S::Trail, K, S::Ledgers>, S::Ledgers>, ExchangeFault>,
+    >
         requires { IsWaiting self.old.stage }
         ensures value { IfReady result (⟦<Self as Future>⟧.gives self.old) }
         ensures again { OnPending result (IsWaiting self.new.stage) }
@@ -246,7 +248,9 @@ where
     fn poll_begin(
         &mut self,
         cx: &mut Context<'_>,
-    ) -> Poll<Result<Outcome<StreamedBody<R, S, S::Trail, K>, S::Ledgers>, ExchangeFault>>
+    ) -> Poll<
+        Result<Outcome<StreamedBody<R, S, S::Trail, K, S::Ledgers>, S::Ledgers>, ExchangeFault>,
+    >
         requires { IsStarting (Holds self.old) B.can_poll self.old.stage }
         ensures value { IfReady result (⟦<Self as Future>⟧.gives self.old) }
         ensures again { OnPending result (CanGoOn (Holds self.new) B.can_poll self.new.stage) }

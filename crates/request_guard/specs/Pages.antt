@@ -4,6 +4,15 @@ use Rattle.std.specs.List.{list_all}
 use Rattle.http.specs.HeaderMap.{get_all}
 use Rattle.http.specs.declared.request.Parts.{Parts}
 use Rattle.http_header.specs.FieldValue.{FieldValue}
+use Rattle.service_port.specs.declared.port.Port.{Port}
+use Rattle.service_port.specs.declared.port.Port.TheVariants.{Account, Environment, Handled}
+
+-- Whether what a page sends is refused at a port. What it sends to a port of handlers is for these to judge: an API
+-- answers a browser's questions about other sites itself (WHATWG Fetch, CORS protocol).
+abbrev pub refuses_pages : Port → Bool
+refuses_pages Account = true
+refuses_pages (Environment e) = true
+refuses_pages (Handled number) = false
 
 -- Whether there is a field.
 abbrev pub are_some : List FieldValue → Bool

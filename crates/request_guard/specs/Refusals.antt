@@ -4,7 +4,7 @@ use Rattle.lambda_wire.specs.Replies.{fault_reply, invoke_fault_reply}
 use Rattle.lambda_wire.specs.declared.body_writer.InvokeFault.TheVariants.{User, Service}
 use Rattle.lambda_wire.specs.declared.reply.Reply.{Reply}
 use Rattle.service_port.specs.declared.port.Port.{Port}
-use Rattle.service_port.specs.declared.port.Port.TheVariants.{Account, Environment}
+use Rattle.service_port.specs.declared.port.Port.TheVariants.{Account, Environment, Handled}
 use Rattle.request_guard.specs.declared.refusal.Refusal.{Refusal}
 use Rattle.request_guard.specs.declared.refusal.Refusal.TheVariants.{MalformedHost, FromPage, ForeignHost}
 use Rattle.request_guard.specs.declared.refusal.Refusal.TheVariants.{ForeignCoding, BrokenBody, OutOfMemory}
@@ -46,3 +46,4 @@ runtime_reply OutOfMemory = fault_reply 500 (codes "Out of memory") (codes "OutO
 abbrev pub refusal_reply : Port → Refusal → Reply
 refusal_reply Account = lambda_reply
 refusal_reply (Environment e) = runtime_reply
+refusal_reply (Handled number) = lambda_reply

@@ -7,6 +7,19 @@ ghost use Rattle.request_guard.specs.Pages as spec;
 
 use http::header;
 use http::request::Parts;
+use service_port::Port;
+
+/// Returns whether what a page sends is refused at a port. What it sends to a port of handlers is for
+/// these to judge: an API answers a browser's questions about other sites itself (WHATWG Fetch, CORS
+/// protocol).
+pub(crate) fn refuses_pages(port: Port) -> bool
+    ensures { result ≡ spec.refuses_pages port }
+{
+    match port {
+        Port::Account | Port::Environment(_) => true,
+        Port::Handled(_) => false,
+    }
+}
 
 /// Returns whether a site says that the user's own action sent the request, such as a typed
 /// address, or a page of this service.

@@ -139,13 +139,13 @@ fn runtime_reply(alloc: Global, refusal: Refusal) -> Result<Reply, AllocError>
 }
 
 /// Makes the reply to a refused request, in the form of its port's API: the Lambda
-/// API's at the account's port, the Runtime API's at an environment's. It fails only if an
+/// API's at the account's port and at those of handlers, the Runtime API's at an environment's. It fails only if an
 /// allocation fails.
 pub fn refusal_reply(alloc: Global, port: Port, refusal: Refusal) -> Result<Reply, AllocError>
     ensures { IfOk result (λ reply. reply ≡ spec.refusal_reply port refusal) }
 {
     match port {
-        Port::Account => lambda_reply(alloc, refusal),
+        Port::Account | Port::Handled(_) => lambda_reply(alloc, refusal),
         Port::Environment(_) => runtime_reply(alloc, refusal),
     }
 }

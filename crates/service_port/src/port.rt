@@ -11,6 +11,9 @@ pub enum Port {
     /// That of the environment with this number, from 1: its runtime and its extensions, by the
     /// Runtime API and the Extensions API.
     Environment(u32),
+    /// That of handlers, with this number: callers, of whatever API the handlers speak. All its requests are handed
+    /// over.
+    Handled(u16),
 }
 
 impl Port {
@@ -19,7 +22,7 @@ impl Port {
         ensures { result ≡ spec.environment_of self }
     {
         match self {
-            Port::Account => None,
+            Port::Account | Port::Handled(_) => None,
             Port::Environment(environment) => Some(environment),
         }
     }

@@ -1,6 +1,7 @@
 //! Requests that are handed over to a handler.
 
 mod messages;
+mod pipes;
 mod requests;
 
 use case_tables::{Case, CaseFault, Given};
@@ -10,6 +11,7 @@ use case_tables::{Case, CaseFault, Given};
 pub enum Table {
     Requests,
     Messages,
+    Pipes,
 }
 
 impl Table {
@@ -18,6 +20,7 @@ impl Table {
         match self {
             Table::Requests => requests::give(case, given),
             Table::Messages => messages::give(case, given),
+            Table::Pipes => pipes::give(case, given),
         }
     }
 }

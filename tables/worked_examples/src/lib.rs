@@ -33,7 +33,7 @@ enum Table {
 
 /// The files. Those whose shortest case is long come last: a test that lets each allocation fail in
 /// turn reaches them least often.
-const TABLES: [(&str, Table); 45] = [
+const TABLES: [(&str, Table); 46] = [
     ("parts/names.txt", Table::Parts(parts::Table::Names)),
     (
         "parts/identifiers.txt",
@@ -49,6 +49,7 @@ const TABLES: [(&str, Table); 45] = [
     ("parts/pools.txt", Table::Parts(parts::Table::Pools)),
     ("parts/deadlines.txt", Table::Parts(parts::Table::Deadlines)),
     ("parts/places.txt", Table::Parts(parts::Table::Places)),
+    ("parts/ports.txt", Table::Parts(parts::Table::Ports)),
     ("parts/moves.txt", Table::Parts(parts::Table::Moves)),
     (
         "parts/extensions.txt",
@@ -83,6 +84,7 @@ const TABLES: [(&str, Table); 45] = [
         "handed/messages.txt",
         Table::Handed(handed::Table::Messages),
     ),
+    ("handed/pipes.txt", Table::Handed(handed::Table::Pipes)),
     ("routes/routes.txt", Table::Routes),
     ("routes/worked.txt", Table::Routes),
     ("routes/names.txt", Table::Routes),

@@ -13,6 +13,7 @@ mod moves;
 mod names;
 mod places;
 mod pools;
+mod ports;
 mod script_calls;
 mod script_lines;
 mod written_answers;
@@ -31,6 +32,7 @@ pub enum Table {
     Pools,
     Deadlines,
     Places,
+    Ports,
     Moves,
     Extensions,
     Environments,
@@ -49,6 +51,7 @@ impl Table {
             Table::Pools => pools::give(case, given),
             Table::Deadlines => due::give(case, given),
             Table::Places => places::give(case, given),
+            Table::Ports => ports::give(case, given),
             Table::Moves => moves::give(case, given),
             Table::Extensions => extension_sets::give(case, given),
             Table::Environments => environments::give(case, given),

@@ -189,6 +189,14 @@ def faults():
         for hosts in ("a b", ",", "a,", "a, b", "a:80", "h\u00e4"):
             usage = 2, "", "usage: lambda_local [replay | serve PATH]\n"
             check(f"hosts of {hosts!r}", run("serve", config(json.dumps(good)), LAMBDA_LOCAL_HOSTS=hosts), usage)
+        for ports in ("x", "0", "65536", "09100", "+9100", "9100,", ",9100", "9100, 9101", "9100,9100", "9100;9101",
+                      ",".join(str(port) for port in range(9000, 9065))):
+            check(f"handled ports of {ports[:12]!r}",
+                  run("serve", config(json.dumps(good)), LAMBDA_LOCAL_HANDLED=ports), usage)
+        for port in (PORT, PORT + 1):
+            check("a handled port that is the configuration's",
+                  run("serve", config(json.dumps(good)), LAMBDA_LOCAL_HANDLED=f"9100,{port}"),
+                  (2, "", "LAMBDA_LOCAL_HANDLED: DuplicatePort\n"))
         check("a configuration that is not there", run("serve", os.path.join(folder, "none")),
               (4, "", "input: failed\n"))
         check("a configuration that is no JSON", run("serve", config("{")), (2, "", "configuration: NotJson\n"))

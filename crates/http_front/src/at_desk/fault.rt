@@ -6,6 +6,7 @@ ghost use Rattle.http_header.specs.Token.{is_value_byte};
 ghost use Rattle.lambda_wire.specs.Replies as replies;
 ghost use Rattle.http_front.specs.DeskFaults as spec;
 
+use crate::at_desk::flowing::FlowFault;
 use handler_desk::{AnswerFault, NotPut, NotTaken};
 use lambda_wire::{InvokeFault, Reply, fault_reply, invoke_fault_reply};
 use long_poll::ExchangeFault;
@@ -76,6 +77,27 @@ impl HandlerFault {
         match fault {
             ExchangeFault::BodyFailed => HandlerFault::BodyFailed,
             ExchangeFault::OutOfMemory | ExchangeFault::BellLost => HandlerFault::OutOfMemory,
+        }
+    }
+
+    /// Returns why a post is refused, if the head of its answer cannot be read.
+    pub(crate) fn of_head(fault: AnswerFault) -> HandlerFault
+        ensures { result ≡ spec.of_head fault }
+    {
+        match fault {
+            AnswerFault::OutOfMemory => HandlerFault::OutOfMemory,
+            fault => HandlerFault::Unreadable(fault),
+        }
+    }
+
+    /// Returns why a post is refused, if its body was not passed on to its end.
+    pub(crate) fn of_flow(fault: FlowFault) -> HandlerFault
+        ensures { result ≡ spec.of_flow fault }
+    {
+        match fault {
+            FlowFault::Gone => HandlerFault::NotTaken(NotTaken::IsOver),
+            FlowFault::BodyFailed => HandlerFault::BodyFailed,
+            FlowFault::OutOfMemory => HandlerFault::OutOfMemory,
         }
     }
 }

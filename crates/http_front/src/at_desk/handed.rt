@@ -7,7 +7,7 @@ ghost use Rattle.http_front.specs.HandedStages.{CanGoOn};
 
 use crate::at_desk::fault::HandedFault;
 use crate::at_desk::response::handed_response;
-use crate::{AtDesk, ResponseFault};
+use crate::{AtDesk, ResponseFault, SentBody};
 use bytes::Bytes;
 use futures::channel::oneshot::Canceled;
 use futures::future::Future;
@@ -17,7 +17,7 @@ use handler_desk::{Given, Posted, Put};
 use http::Response;
 use http::request::Parts;
 use http_body::Body;
-use http_body_util::{Either, Full};
+use http_body_util::Either;
 use long_poll::{BodyFault, Collecting};
 use std::marker::PhantomData;
 use std::sync::{Arc, Wait};
@@ -157,7 +157,7 @@ where
     ghost use Rattle.http_front.specs.Handing.{IsHandedAnswer};
     ghost use Rattle.http_front.specs.HandedStages.{WaitsFor};
 
-    type Output = Result<Response<Either<Full<Bytes>, H>>, ResponseFault>;
+    type Output = Result<Response<Either<SentBody, H>>, ResponseFault>;
 
     ghost can_poll = { λ handed. CanGoOn B.can_poll handed.stage };
 
@@ -168,6 +168,11 @@ where
     fn poll(&mut self, cx: &mut Context<'_>) -> Poll<Self::Output> {
         let outcome = ready!(self.poll_outcome(cx));
         self.at_desk.open.note_awaited(false);
-        Poll::Ready(handed_response(self.at_desk.alloc, self.is_unread, outcome))
+        Poll::Ready(handed_response(
+            self.at_desk.alloc,
+            &self.at_desk.open,
+            self.is_unread,
+            outcome,
+        ))
     }
 }

@@ -3,41 +3,57 @@
 ghost use Rattle.std.specs.Prelude.{◌≡◌, Ok, Err, MatchResult};
 ghost use Rattle.futures.specs.Poll.{IfReady, OnPending};
 ghost use Rattle.futures.specs.Task.{Covers, Keeps};
-ghost use Rattle.http_front.specs.HandedStages.{CanServe};
+ghost use Rattle.handler_desk.specs.Asked.{asked};
+ghost use Rattle.handler_desk.specs.declared.asked.Asked.TheVariants as asks_for;
+ghost use Rattle.http_front.specs.HandedStages.{AwaitsFlow, CanServe};
 
 use crate::at_desk::fault::HandlerFault;
+use crate::at_desk::flowing::Flowing;
 use crate::at_desk::response::{Done, handler_response};
-use crate::{AtDesk, ResponseFault};
+use crate::{AtDesk, ResponseFault, SentBody};
 use arn_ids::LONGEST_BODY;
 use bytes::Bytes;
 use futures::channel::oneshot::Receiver;
 use futures::future::Future;
 use futures::ready;
 use futures::task::{Context, Poll};
-use handler_desk::{AnswerFault, Asked, NotTaken, Posted, Taken, read_asked};
+use handler_desk::{Asked, NotTaken, Posted, Taken, open_pipe, read_asked};
 use http::Response;
 use http::request::Parts;
 use http_body::Body;
-use http_body_util::{Either, Full};
+use http_body_util::Either;
 use long_poll::{BodyFault, Collecting};
-use std::alloc::AllocError;
+use std::alloc::{AllocError, Global};
 use std::marker::PhantomData;
 use std::sync::{Arc, Wait};
-use std::{mem, time};
+use std::time;
 
 /// How far a handler's own request has come.
 #[derive(Drop)]
 pub(crate) enum OwnStage<B> {
-    /// Its body is being collected.
-    Collecting { parts: Parts, body: Collecting<B> },
     /// It asks for a request.
     Asking,
     /// It waits for one.
     Hearing(Receiver<()>),
+    /// It posts an answer, whose body is passed on while it comes: to the requester, once that has the head.
+    Posting {
+        posted: Option<Posted>,
+        flowing: Flowing<B>,
+    },
+    /// It says that the request with this identifier has failed, and its body is being collected.
+    Failing {
+        id: u64,
+        body: Collecting<B>,
+    },
+    /// It is refused, and its body is being collected.
+    Refused {
+        fault: HandlerFault,
+        body: Collecting<B>,
+    },
 }
 
-/// The response to a handler's own request: it waits for a request, or its body is collected, and what it posts is given
-/// to the requester. If its head declares that the body is too long, none of it is read.
+/// The response to a handler's own request: it waits for a request; or what it posts is given to the requester. If its
+/// head declares that the body is too long, none of it is read.
 #[derive(Drop)]
 pub struct OfHandler<R, B, H> {
     at_desk: Arc<AtDesk<R>>,
@@ -45,6 +61,34 @@ pub struct OfHandler<R, B, H> {
     is_unread: bool,
     stage: OwnStage<B>,
     of: PhantomData<H>,
+}
+
+/// Refuses a post whose body can be polled. Its body is collected first, so that the connection can go on.
+fn refused<B: Body>(alloc: Global, fault: HandlerFault, body: B) -> OwnStage<B>
+    requires { B.can_poll body }
+    ensures { CanServe B.can_poll result }
+{
+    let body = Collecting::new(alloc, body);
+    OwnStage::Refused { fault, body }
+}
+
+/// Begins to pass on what is posted for the request with the identifier in this head, unless the head of the answer
+/// cannot be read. It takes the memory of a pipe.
+fn posting<B: Body>(alloc: Global, parts: Parts, id: u64, body: B) -> OwnStage<B>
+    requires asked { asked parts ≡ asks_for.Response id }
+    requires body { B.can_poll body }
+    ensures { CanServe B.can_poll result }
+{
+    let Ok((sender, receiver)) = open_pipe(alloc, body.size_hint().exact()) else {
+        return refused(alloc, HandlerFault::OutOfMemory, body);
+    };
+    match Posted::read(alloc, parts, id, receiver) {
+        Ok(posted) => OwnStage::Posting {
+            posted: Some(posted),
+            flowing: Flowing::new(body, sender),
+        },
+        Err(fault) => refused(alloc, HandlerFault::of_head(fault), body),
+    }
 }
 
 /// Returns what a post has come to.
@@ -57,24 +101,82 @@ fn done(given: Result<(), NotTaken>) -> Result<Done, HandlerFault>
     }
 }
 
+/// Returns what is said of a post once its body is collected, if there is nothing against that.
+fn unless_too_long(body: &Bytes, said: HandlerFault) -> HandlerFault {
+    if body.len() > LONGEST_BODY {
+        return HandlerFault::TooLong;
+    }
+    said
+}
+
 impl<R: Wait + time::Clock + Drop> AtDesk<R> {
-    /// Gives what a handler posts, with this head and this body, to the requester.
-    fn post(&self, parts: Parts, body: Bytes) -> Result<Done, HandlerFault> {
+    /// Returns the first stage of a handler's own request with this head.
+    fn first_stage<B: Body>(&self, parts: Parts, body: B) -> OwnStage<B>
+        requires { B.can_poll body }
+        ensures { CanServe B.can_poll result }
+    {
         match read_asked(&parts) {
-            Asked::Response(id) => match Posted::read(self.alloc, parts, id, body) {
-                Ok(posted) => done(self.desk.answer(&self.rt, self.connection, posted)),
-                Err(AnswerFault::OutOfMemory) => Err(HandlerFault::OutOfMemory),
-                Err(fault) => Err(HandlerFault::Unreadable(fault)),
+            Asked::Next => OwnStage::Asking,
+            Asked::Response(id) => match self.desk.denial(&self.rt, self.connection, id) {
+                None => posting(self.alloc, parts, id, body),
+                Some(fault) => refused(self.alloc, HandlerFault::NotTaken(fault), body),
             },
-            Asked::Failure(id) => done(self.desk.fail(&self.rt, self.connection, id)),
-            Asked::Next | Asked::Nothing => Err(HandlerFault::NotTaken(NotTaken::NotGiven)),
+            Asked::Failure(id) => OwnStage::Failing {
+                id,
+                body: Collecting::new(self.alloc, body),
+            },
+            Asked::Nothing => refused(self.alloc, HandlerFault::NotTaken(NotTaken::NotGiven), body),
+        }
+    }
+
+    /// Gives what a handler posts to the requester, unless that has it.
+    fn give(&self, posted: &mut Option<Posted>) -> Result<(), NotTaken> {
+        match posted.take() {
+            Some(posted) => self.desk.answer(&self.rt, self.connection, posted),
+            None => Ok(()),
+        }
+    }
+
+    /// Lets a request fail, once the body of the post is collected.
+    fn fail(&self, id: u64, body: &Bytes) -> Result<Done, HandlerFault> {
+        if body.len() > LONGEST_BODY {
+            return Err(HandlerFault::TooLong);
+        }
+        done(self.desk.fail(&self.rt, self.connection, id))
+    }
+
+    /// Passes on what is posted: the body as far as it has come, then the head, and then the rest of the body.
+    fn poll_posting<B: Body>(
+        &self,
+        cx: &mut Context<'_>,
+        posted: &mut Option<Posted>,
+        flowing: &mut Flowing<B>,
+    ) -> Poll<Result<Done, HandlerFault>>
+    where
+        B::Data: Into<Bytes>,
+        B::Error: BodyFault,
+        requires { B.can_poll flowing.old.body }
+        ensures again { OnPending result (B.can_poll flowing.new.body) }
+        ensures registered { OnPending result (Covers cx.new (AwaitsFlow B.needs flowing.new)) }
+        ensures kept { Keeps cx.old cx.new }
+    {
+        match flowing.poll_flow(cx) {
+            Poll::Ready(Ok(())) => Poll::Ready(done(self.give(posted))),
+            Poll::Ready(Err(fault)) => Poll::Ready(Err(HandlerFault::of_flow(fault))),
+            Poll::Pending => match self.give(posted) {
+                Ok(()) => {
+                    self.open.note_awaited(flowing.awaits_body());
+                    Poll::Pending
+                }
+                Err(fault) => Poll::Ready(Err(HandlerFault::NotTaken(fault))),
+            },
         }
     }
 }
 
 impl<R: Wait + time::Clock + Drop, B: Body, H> OfHandler<R, B, H> {
     /// Returns the response to a handler's request with this head and this body, of which the head declares that it is
-    /// too long, or not. The body of a request for a request is left unread. It takes no memory.
+    /// too long, or not. The body of a request for a request is left unread.
     pub(crate) fn new(
         at_desk: Arc<AtDesk<R>>,
         parts: Parts,
@@ -85,13 +187,8 @@ impl<R: Wait + time::Clock + Drop, B: Body, H> OfHandler<R, B, H> {
         ensures unread { result.is_unread ≡ is_unread }
         ensures can_poll { CanServe B.can_poll result.stage }
     {
-        let stage = match read_asked(&parts) {
-            Asked::Next => OwnStage::Asking,
-            Asked::Response(_) | Asked::Failure(_) | Asked::Nothing => {
-                let body = Collecting::new(at_desk.alloc, body);
-                OwnStage::Collecting { parts, body }
-            }
-        };
+        let stage = at_desk.first_stage(parts, body);
+        at_desk.open.note_awaited(false);
         OfHandler {
             at_desk,
             is_unread,
@@ -107,16 +204,6 @@ where
     B::Error: BodyFault,
 {
     ghost use Rattle.http_front.specs.HandedStages.{WaitsAt};
-
-    /// Gives what was posted with this body to the requester.
-    fn post(&mut self, body: Bytes) -> Result<Done, HandlerFault>
-        ensures unread { self.new.is_unread ≡ self.old.is_unread }
-    {
-        match mem::replace(&mut self.stage, OwnStage::Asking) {
-            OwnStage::Collecting { parts, .. } => self.at_desk.post(parts, body),
-            OwnStage::Asking | OwnStage::Hearing(_) => Err(HandlerFault::OutOfMemory),
-        }
-    }
 
     /// Takes a request, or begins to wait for one.
     fn take(&mut self, cx: &mut Context<'_>) -> Poll<Result<Done, HandlerFault>>
@@ -141,7 +228,7 @@ where
         }
     }
 
-    /// Waits for a request; or collects the body, and gives what is posted to the requester.
+    /// Waits for a request; or passes on what is posted; or collects the body of another post.
     fn poll_outcome(&mut self, cx: &mut Context<'_>) -> Poll<Result<Done, HandlerFault>>
         requires { CanServe B.can_poll self.old.stage }
         ensures again { OnPending result (CanServe B.can_poll self.new.stage) }
@@ -158,18 +245,26 @@ where
                 Poll::Pending => Poll::Pending,
                 Poll::Ready(_) => self.take(cx),
             },
-            OwnStage::Collecting { body, .. } => match body.poll(cx) {
+            OwnStage::Posting { posted, flowing } => {
+                self.at_desk.poll_posting(cx, posted, flowing)
+            }
+            OwnStage::Failing { id, body } => match body.poll(cx) {
                 Poll::Pending => Poll::Pending,
                 Poll::Ready(Err(fault)) => Poll::Ready(Err(HandlerFault::of_body(fault))),
-                Poll::Ready(Ok(bytes)) => {
-                    if bytes.len() > LONGEST_BODY {
-                        return Poll::Ready(Err(HandlerFault::TooLong));
-                    }
-                    Poll::Ready(self.post(bytes))
-                }
+                Poll::Ready(Ok(bytes)) => Poll::Ready(self.at_desk.fail(*id, &bytes)),
+            },
+            OwnStage::Refused { fault, body } => match body.poll(cx) {
+                Poll::Pending => Poll::Pending,
+                Poll::Ready(Err(fault)) => Poll::Ready(Err(HandlerFault::of_body(fault))),
+                Poll::Ready(Ok(bytes)) => Poll::Ready(Err(unless_too_long(&bytes, *fault))),
             },
         }
     }
+}
+
+/// Returns whether a handler has a request now, which it has not answered yet.
+fn has_request(outcome: &Result<Done, HandlerFault>) -> bool {
+    matches!(outcome, Ok(Done::Request(..)))
 }
 
 impl<R: Wait + time::Clock + Drop, B: Body, H: Drop> Future for OfHandler<R, B, H>
@@ -181,7 +276,7 @@ where
     ghost use Rattle.http_front.specs.Handing.{IsHandlerAnswer};
     ghost use Rattle.http_front.specs.HandedStages.{WaitsAt};
 
-    type Output = Result<Response<Either<Full<Bytes>, H>>, ResponseFault>;
+    type Output = Result<Response<Either<SentBody, H>>, ResponseFault>;
 
     ghost can_poll = { λ own. CanServe B.can_poll own.stage };
 
@@ -191,7 +286,7 @@ where
 
     fn poll(&mut self, cx: &mut Context<'_>) -> Poll<Self::Output> {
         let outcome = ready!(self.poll_outcome(cx));
-        self.at_desk.open.note_awaited(false);
+        self.at_desk.open.note_awaited(has_request(&outcome));
         Poll::Ready(handler_response(self.at_desk.alloc, self.is_unread, outcome))
     }
 }

@@ -6,16 +6,19 @@ ghost use Rattle.lambda_wire.specs.HeaderFields.{fields};
 ghost use Rattle.handover.specs.Heads.{line_of};
 ghost use Rattle.http_front.specs.Handing as spec;
 
-use crate::ResponseFault;
 use crate::at_desk::fault::{HandedFault, HandlerFault, handed_reply, handler_reply};
-use crate::course::{reply_response, with_map};
+use crate::at_desk::passed::PassedBody;
+use crate::course::{reply_response, whole, with_map};
+use crate::{ResponseFault, SentBody};
 use bytes::Bytes;
-use handler_desk::{Posted, Request};
+use handler_desk::{PipeReceiver, Posted, Request};
 use handover::{AnswerHead, Field};
 use http::Response;
-use http_body_util::{Either, Full};
+use http_body_util::Either;
 use http_header::{HeaderMap, HeaderName, HeaderValue};
+use long_poll::OpenPoll;
 use std::alloc::{AllocError, Global};
+use std::sync::Arc;
 
 /// What a handler's own request has come to.
 #[derive(Drop)]
@@ -47,37 +50,41 @@ fn map_of(alloc: Global, posted: Vec<Field>) -> Result<HeaderMap, AllocError>
     Ok(map)
 }
 
-/// Returns the head and the body of an answer.
-fn apart(posted: Posted) -> (AnswerHead, Bytes)
+/// Returns the head of an answer, and where its body is taken out.
+fn apart(posted: Posted) -> (AnswerHead, PipeReceiver)
     ensures { (result.0 ≡ posted.head) × (result.1 ≡ posted.body) }
 {
     let Posted { head, body, .. } = posted;
     (head, body)
 }
 
-/// Makes the response that a handler has posted; it is the connection's last or not. Its body is not copied.
+/// Makes the response that a handler posts, whose body is passed on while it comes; it is the connection's last or not.
+/// What notes that more is awaited is the connection's.
 fn posted_response<H: Drop>(
     alloc: Global,
+    open: &Arc<OpenPoll>,
     is_last: bool,
     posted: Posted,
-) -> Result<Response<Either<Full<Bytes>, H>>, ResponseFault>
+) -> Result<Response<Either<SentBody, H>>, ResponseFault>
     ensures { IfOk result (spec.IsPosted is_last posted) }
 {
-    let (head, body) = apart(posted);
+    let (head, receiver) = apart(posted);
     let map = map_of(alloc, head.fields)?;
-    with_map(is_last, head.status, map, Either::Left(Full::new(body)))
+    let body = PassedBody::new(receiver, Arc::try_clone(open)?);
+    with_map(is_last, head.status, map, Either::Left(Either::Right(body)))
 }
 
 /// Makes the response to a request that was to be handed over; it is the connection's last or not.
 pub(crate) fn handed_response<H: Drop>(
     alloc: Global,
+    open: &Arc<OpenPoll>,
     is_last: bool,
     outcome: Result<Posted, HandedFault>,
-) -> Result<Response<Either<Full<Bytes>, H>>, ResponseFault>
+) -> Result<Response<Either<SentBody, H>>, ResponseFault>
     ensures { IfOk result (spec.IsHandedResponse is_last outcome) }
 {
     match outcome {
-        Ok(posted) => posted_response(alloc, is_last, posted),
+        Ok(posted) => posted_response(alloc, open, is_last, posted),
         Err(fault) => reply_response(alloc, None, is_last, handed_reply(alloc, fault)?),
     }
 }
@@ -108,21 +115,16 @@ pub(crate) fn handler_response<H: Drop>(
     alloc: Global,
     is_last: bool,
     outcome: Result<Done, HandlerFault>,
-) -> Result<Response<Either<Full<Bytes>, H>>, ResponseFault>
+) -> Result<Response<Either<SentBody, H>>, ResponseFault>
     ensures { IfOk result (spec.IsHandlerResponse is_last outcome) }
 {
     match outcome {
         Ok(Done::Request(id, request)) => {
             let text = text_of(alloc, id, &request)?;
             let map = octets_map(alloc)?;
-            with_map(is_last, 200, map, Either::Left(Full::new(text)))
+            with_map(is_last, 200, map, whole(text))
         }
-        Ok(Done::Accepted) => with_map(
-            is_last,
-            202,
-            HeaderMap::new(alloc),
-            Either::Left(Full::new(Bytes::new())),
-        ),
+        Ok(Done::Accepted) => with_map(is_last, 202, HeaderMap::new(alloc), whole(Bytes::new())),
         Err(fault) => reply_response(alloc, None, is_last, handler_reply(alloc, fault)?),
     }
 }

@@ -4,14 +4,14 @@ ghost use Rattle.std.specs.Prelude.{◌≡◌, IfOk, Some, None};
 ghost use Rattle.http_front.specs.Responses.{IsAnswerTo, IsRefusal};
 
 use crate::course::response::{reply_response, response_to};
-use crate::{Port, ResponseFault};
+use crate::{Port, ResponseFault, SentBody};
 use bytes::Bytes;
 use decisions::Decide;
 use futures::Future;
 use futures::task::{Context, Poll};
 use http::Response;
 use http_body::Body;
-use http_body_util::{Either, Full};
+use http_body_util::Either;
 use lambda_wire::HeaderMaps;
 use long_poll::{BodyFault, Clock, Exchange, ExchangeFault, Outcome, Service, StreamedBody};
 use request_guard::{Refusal, refusal_reply};
@@ -90,7 +90,7 @@ where
     ghost use Rattle.http_front.specs.Responses.{IsAnswerTo, IsRefusal};
 
     type Output = Result<
-        Response<Either<Full<Bytes>, StreamedBody<R, A, A::Trail, K, A::Ledgers>>>,
+        Response<Either<SentBody, StreamedBody<R, A, A::Trail, K, A::Ledgers>>>,
         ResponseFault,
     >;
 
@@ -132,7 +132,7 @@ fn refused<H: Drop>(
     port: Port,
     is_unread: bool,
     refusal: Refusal,
-) -> Result<Response<Either<Full<Bytes>, H>>, ResponseFault>
+) -> Result<Response<Either<SentBody, H>>, ResponseFault>
     ensures { IfOk result (IsRefusal port is_unread refusal) }
 {
     let is_last = is_unread || refusal.closes();
@@ -148,7 +148,7 @@ fn answer_to<H: Drop, L: Ledgers>(
     port: Port,
     is_unread: bool,
     made: Result<Outcome<H, L>, ExchangeFault>,
-) -> Result<Response<Either<Full<Bytes>, H>>, ResponseFault>
+) -> Result<Response<Either<SentBody, H>>, ResponseFault>
     ensures { IfOk result (IsAnswerTo port is_unread made) }
 {
     match made {

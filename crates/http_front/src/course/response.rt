@@ -2,11 +2,11 @@
 
 ghost use Rattle.std.specs.Prelude.{◌≡◌, IfOk, OnOk};
 ghost use Rattle.http.specs.Response.{body_of};
-ghost use Rattle.http_front.specs.Responses.{said_closing, HasHead, HasMap, IsResponseOf, IsResponseTo};
+ghost use Rattle.http_front.specs.Responses.{said_closing, HasHead, HasMap, IsResponseOf, IsResponseTo, IsWhole};
 ghost use Rattle.lambda_wire.specs.HeaderFields.{fields};
 ghost use Rattle.long_poll.specs.Views.{trace_headers};
 
-use crate::ResponseFault;
+use crate::{ResponseFault, SentBody};
 use bytes::Bytes;
 use http::response::Parts;
 use http::{Response, StatusCode, Version};
@@ -58,6 +58,13 @@ fn trace_map(alloc: Global) -> Result<HeaderMap, AllocError>
     }
 }
 
+/// Returns the body of these bytes, in one piece.
+pub(crate) fn whole<H: Drop>(bytes: Bytes) -> Either<SentBody, H>
+    ensures { IsWhole bytes result }
+{
+    Either::Left(Either::Left(Full::new(bytes)))
+}
+
 /// Returns the response with this status, these header fields, in a map, and this body.
 pub(crate) fn with_map<B: Drop>(
     is_last: bool,
@@ -106,7 +113,7 @@ pub(crate) fn reply_response<H: Drop>(
     maps: Option<&HeaderMaps>,
     is_last: bool,
     reply: Reply,
-) -> Result<Response<Either<Full<Bytes>, H>>, ResponseFault>
+) -> Result<Response<Either<SentBody, H>>, ResponseFault>
     ensures { IfOk result (IsResponseOf is_last reply) }
 {
     let Reply {
@@ -114,14 +121,7 @@ pub(crate) fn reply_response<H: Drop>(
         headers,
         body,
     } = reply;
-    with_head(
-        alloc,
-        maps,
-        is_last,
-        status,
-        headers,
-        Either::Left(Full::new(body)),
-    )
+    with_head(alloc, maps, is_last, status, headers, whole(body))
 }
 
 /// Returns the response that carries an outcome; it is the connection's last or not. It is that of
@@ -134,7 +134,7 @@ pub(crate) fn response_to<H: Drop, L: Ledgers>(
     maps: &HeaderMaps,
     is_last: bool,
     outcome: Outcome<H, L>,
-) -> Result<Response<Either<Full<Bytes>, H>>, ResponseFault>
+) -> Result<Response<Either<SentBody, H>>, ResponseFault>
     ensures { IfOk result (IsResponseTo is_last outcome) }
 {
     match outcome {

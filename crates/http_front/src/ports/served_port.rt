@@ -2,6 +2,7 @@
 
 ghost use Rattle.std.specs.Prelude.{◌≡◌, IfOk, IsTrue};
 ghost use Rattle.std.specs.Arc.{arc_value};
+ghost use Rattle.http_front.specs.Ports.{number_of};
 ghost use Rattle.http_front.specs.ServedPorts.{function_at};
 ghost use Rattle.http_routes.specs.Decisions.{IsPortOf};
 
@@ -17,7 +18,7 @@ use std::sync::Arc;
 #[derive(Drop)]
 pub(crate) struct ServedPort<S: Identity> {
     port: Port,
-    // Its number, which only the log shows.
+    // Its number, which the log shows, and handlers get.
     number: u16,
     config: Arc<Checked>,
     salt: u64,
@@ -27,6 +28,7 @@ pub(crate) struct ServedPort<S: Identity> {
 impl<S: Identity> Model for ServedPort<S> {
     ghost use Rattle.std.specs.Prelude.{◌≡◌};
     ghost use Rattle.std.specs.Arc.{arc_value};
+    ghost use Rattle.http_front.specs.Ports.{number_of};
     ghost use Rattle.http_routes.specs.Decisions.{Served, IsPortOf};
 
     ghost Value = { Served };
@@ -34,7 +36,7 @@ impl<S: Identity> Model for ServedPort<S> {
     ghost view = { λ d. record { config = arc_value d.config; salt = d.salt; port = d.port } };
 
     ghost invariant = { λ d. (arc_value d.config ≡ S.config) × (d.salt ≡ S.salt)
-        × IsPortOf (arc_value d.config) d.port };
+        × IsPortOf (arc_value d.config) d.port × (d.number ≡ number_of (arc_value d.config) d.port) };
 }
 
 impl<S: Identity> ServedPort<S> {
@@ -43,6 +45,7 @@ impl<S: Identity> ServedPort<S> {
         requires configured { arc_value config ≡ S.config }
         requires salted { salt ≡ S.salt }
         requires port { IsPortOf (arc_value config) port }
+        requires number { number ≡ number_of (arc_value config) port }
         ensures { result ≡ record { config = arc_value config; salt = salt; port = port } }
     {
         ServedPort {
@@ -62,16 +65,18 @@ impl<S: Identity> ServedPort<S> {
     }
 
     /// Returns its number.
-    pub(crate) fn number(&self) -> u16 {
+    pub(crate) fn number(&self) -> u16
+        ensures { result ≡ number_of self.now.config self.now.port }
+    {
         self.number
     }
 
-    /// Returns the function of the environment whose port this is, `None` at the account's.
+    /// Returns the function of the environment whose port this is, `None` at a callers' port.
     pub(crate) fn function(&self) -> Option<FnNo>
         ensures { result ≡ function_at self.now.config self.now.port }
     {
         match self.port {
-            Port::Account => None,
+            Port::Account | Port::Handled(_) => None,
             Port::Environment(environment) => Some(self.config.function_of(environment)),
         }
     }

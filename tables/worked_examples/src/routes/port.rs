@@ -15,14 +15,20 @@ pub struct PortOfCase {
     pub side: Side,
 }
 
-/// Reads the port that a part names: `account`, or `environment E`.
+/// Reads the port that a part names: `account`, `environment E`, or `handled N`.
 fn port_of(part: &Part) -> Result<Port, CaseFault> {
     let words = part.arguments();
     if words == "account" {
         return Ok(Port::Account);
     }
+    if let Some(number) = words.strip_prefix("handled ") {
+        return match number.parse::<u16>() {
+            Ok(number) => Ok(Port::Handled(number)),
+            Err(_) => Err(part.malformed("the number of a port is wanted")),
+        };
+    }
     let Some(number) = words.strip_prefix("environment ") else {
-        return Err(part.malformed("account or environment E is wanted"));
+        return Err(part.malformed("account, environment E or handled N is wanted"));
     };
     match number.parse::<u32>() {
         Ok(env) => Ok(Port::Environment(env)),

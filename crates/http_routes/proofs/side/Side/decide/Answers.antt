@@ -15,3 +15,9 @@ returns-in-Account-clause-alike c = as_alike c.account_decision.result c.args.se
 
 pub returns-in-Environment-clause-alike : goal.returns-in-Environment-clause-alike
 returns-in-Environment-clause-alike c = as_alike c.environment_decision.result c.args.self.now c.args.parts.now c.args.body.now (search rules)
+
+pub returns-in-Handled-clause-allowed : goal.returns-in-Handled-clause-allowed
+returns-in-Handled-clause-allowed c = as_decided c.refused.result c.args.self.now c.args.parts.now c.args.body.now (search rules) (search rules)
+
+pub returns-in-Handled-clause-alike : goal.returns-in-Handled-clause-alike
+returns-in-Handled-clause-alike c = as_alike c.refused.result c.args.self.now c.args.parts.now c.args.body.now (search rules)
