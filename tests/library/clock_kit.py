@@ -22,15 +22,28 @@ def posted(address, path, body=b"", headers={}):
 
 
 def pause(address):
-    return moment_in(posted(address, f"{CLOCK}/pause"))
+    return is_set(address, "pause")
 
 
 def resume(address):
-    return moment_in(posted(address, f"{CLOCK}/resume"))
+    return is_set(address, "resume")
 
 
 def advance(address, seconds):
-    return moment_in(posted(address, f"{CLOCK}/advance?ms={round(1000 * seconds)}"))
+    return is_set(address, f"advance?ms={round(1000 * seconds)}")
+
+
+def is_set(address, how):
+    """Sets it, as `lambda_local clock` does: `lambda_local up` has taken what came before, and begun what is due."""
+    settle(address)
+    moment = moment_in(posted(address, f"{CLOCK}/{how}"))
+    settle(address)
+    return moment
+
+
+def settle(address):
+    with urllib.request.urlopen(f"{address}{CLOCK}/settled", timeout=60) as answer:
+        assert answer.status == 204, answer.status
 
 
 def moment_in(answer):

@@ -1,7 +1,9 @@
 """A front over a service that does what a check asks for: it answers, breaks its connection off, or says something
-else than HTTP."""
+else than HTTP. The front has the port of a storm, in which no invocation meets trouble."""
 import contextlib
+import itertools
 import json
+import queue
 import re
 import socket
 import threading
@@ -11,16 +13,21 @@ from typing import Any, List, Tuple, cast
 from lambda_local.front.front import Front
 from lambda_local.front.settings import settings_of
 from lambda_local.outgoing import Log
+from lambda_local.storm import Storm
 from tests.library.events_kit import Caller
 
 PATIENCE = 60  # seconds, on a machine that does much else
 STOPPED = b'{"Message":"Service is stopped","Type":"Service"}'
 NO_MEMORY = b'{"Message":"Out of memory","Type":"Service"}'
-IS_KNOWN = b'{"Type":"User","message":"Invocation type is not RequestResponse"}'
 
 
 def answer(status, body, *headers):
     return "\r\n".join([f"HTTP/1.1 {status} X", f"Content-Length: {len(body)}", *headers, "", ""]).encode() + body
+
+
+def head_in(stream):
+    """The lines of a head; nothing at the end."""
+    return b"".join(itertools.takewhile(lambda line: line not in (b"\r\n", b""), iter(stream.readline, None)))
 
 
 MUCH = 64 << 10  # bytes of a result
@@ -43,8 +50,29 @@ DEEDS = {
 }
 
 
+class Handed:
+    """A request that waits for a handler, and its answer."""
+
+    def __init__(self, head, body):
+        method, target = head.split(b" ")[:2]
+        fields = [[name.decode(), value.strip().decode()]
+                  for name, _, value in (line.partition(b":") for line in head.splitlines()[1:])]
+        self.members = {"method": method.decode(), "target": target.decode(), "headers": fields}
+        self.body, self.answer, self.is_over = body, b"", threading.Event()
+
+    def given(self, number, port):
+        content = json.dumps({"id": number, "port": port, **self.members}).encode() + b"\n" + self.body
+        return answer(200, content)
+
+    def posted(self, head, body):
+        status = int(re.findall(rb"Lambda-Local-Status: (\d+)", head)[0]) if b"Lambda-Local-Status" in head else 502
+        self.answer = answer(status, body, *(one.decode() for one in re.findall(rb"Lambda-Local-Header: (.*)\r", head)))
+        self.is_over.set()
+
+
 class Service(threading.Thread):
-    """Does these deeds with its Invokes, one after the other, and then answers each. It notes each that it takes."""
+    """Does these deeds with its Invokes, one after the other, and then answers each. It notes each that it takes. It
+    hands over events, and what is no Invoke."""
 
     def __init__(self, *deeds: str) -> None:
         super().__init__(daemon=True)
@@ -52,6 +80,7 @@ class Service(threading.Thread):
         self.runs: List[Tuple[int, str]] = []  # the number of each event, and the deed
         self.heads: List[bytes] = []
         self.payloads: List[Any] = []
+        self.waiting: "queue.SimpleQueue[Handed]" = queue.SimpleQueue()
         self.listener = socket.create_server(("127.0.0.1", 0))
         self.port = self.listener.getsockname()[1]
         self.start()
@@ -64,22 +93,34 @@ class Service(threading.Thread):
                 threading.Thread(target=self.serve, args=(peer,), daemon=True).start()
 
     def serve(self, peer):
-        self.answer(peer)
-        self.closed += 1
+        is_closed = self.answer(peer)
+        self.closed += is_closed
 
     def answer(self, peer):
+        """Whether it is this side that has closed the connection, once it has."""
         with peer, peer.makefile("rb") as stream, contextlib.suppress(OSError):
-            while head := b"".join(iter(stream.readline, b"\r\n")):
+            while head := head_in(stream):
                 self.heads.append(head)
-                length = int(re.findall(rb"(?i)content-length: (\d+)", head)[0])
+                length = int((re.findall(rb"(?i)content-length: (\d+)", head) or [0])[0])
                 body = stream.read(length)
                 if len(body) < length:
-                    return
-                if b"/_local/" in head:
-                    peer.sendall(answer(200, b"{}"))
+                    break
+                if b"/_local/requests/next" in head:
+                    handed = self.waiting.get()
+                    peer.sendall(handed.given(self.connections, self.port))
                     continue
-                if b"Invocation-Type: Event" in head:
-                    peer.sendall(answer(400, IS_KNOWN))
+                if b"/_local/requests/" in head:
+                    handed.posted(head, body)
+                    peer.sendall(answer(202, b""))
+                    continue
+                if b"/_local/handler" in head or b"Invocation-Type: Event" in head:
+                    waits = Handed(head, body)
+                    self.waiting.put(waits)
+                    waits.is_over.wait()
+                    peer.sendall(waits.answer)
+                    continue
+                if b"/_local/" in head or b"/concurrency" in head:
+                    peer.sendall(answer(200, b"{}"))
                     continue
                 deed = self.deeds.pop(0) if self.deeds else "ok"
                 payload = json.loads(body)  # (of an event, or its record)
@@ -88,7 +129,8 @@ class Service(threading.Thread):
                 content, keeps = DEEDS[deed]
                 peer.sendall(content)
                 if not keeps:
-                    return
+                    return True
+        return False
 
     def close(self):
         self.listener.shutdown(socket.SHUT_RDWR)
@@ -119,7 +161,9 @@ def front_of(service, **members):
     configuration = {"region": "us-east-1", "account": "123456789012",
                      "functions": [{"name": name, "ports": [1]} for name in ("f", "sink")]}
     made: Any = SimpleNamespace(port=service.port, configuration=configuration)
-    front.serve(made)
+    no_trouble: Any = SimpleNamespace(kinds_of=lambda function: ())
+    front.serve(made, weather=(Storm(1), no_trouble))
+    service.heads.clear()
     try:
         with Caller(made.endpoint_url) as caller:
             yield front, caller, told
@@ -134,12 +178,12 @@ def statuses(told, function="f"):
 
 def answer_to(front, data, seconds=PATIENCE):
     """The status and body of the answer to these bytes."""
-    with socket.create_connection(("127.0.0.1", front.invoke_listener.getsockname()[1]), timeout=seconds) as peer:
+    with socket.create_connection(("127.0.0.1", front.service.through), timeout=seconds) as peer:
         peer.sendall(data)
         with peer.makefile("rb") as stream:
             status = 100
             while status == 100:
                 status = int((stream.readline() or b"HTTP/1.1 0").split(b" ")[1])
-                head = b"".join(iter(stream.readline, b"\r\n")) if status else b""
+                head = head_in(stream) if status else b""
             length = re.search(rb"(?i)content-length: (\d+)", head)
             return status, stream.read(int(length[1])) if length else b""

@@ -227,7 +227,7 @@ class FollowedClock(Case):
         self.clock.settle()
         self.check("all that is due by an entry's moment has come", self.came, ["first", "last"])
 
-    def test_nothing_is_due_while_the_clock_is_paused_or_being_set(self):
+    def test_nothing_is_due_while_the_clock_is_paused(self):
         self.service.set(False)
         self.clock.ask()
         self.check("it is known to be paused", self.clock.is_paused)
@@ -244,10 +244,7 @@ class FollowedClock(Case):
         time.sleep(0.8)
         self.check("a pause of which nothing was heard counts", self.came, ["soon"])
         self.service.set(False, 1000)
-        with self.clock.being_set():
-            time.sleep(0.6)
-            self.check("nothing is due while it is being set", self.came, ["soon"])
-        self.check("then it is", until(lambda: self.came == ["soon", "unseen"], 10))
+        self.check("an advance of which nothing was heard too", until(lambda: self.came == ["soon", "unseen"], 10))
 
     def test_a_wait_ends_when_it_is_over_or_when_the_event_is_set(self):
         event = threading.Event()

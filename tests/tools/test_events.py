@@ -13,6 +13,7 @@ import time
 import urllib.parse
 from collections import Counter
 
+from lambda_local.service import Service
 from tests import ROOT
 from tests.library.cases import Case
 from tests.library.events_kit import READY, READY_SECONDS, Caller, behind, caller_of, invoke_path, json_lines
@@ -98,6 +99,7 @@ def as_event(head):
     return f"POST {target} {version}\r\n{fields}X-Amz-Invocation-Type: Event\r\nContent-Length: 2\r\n\r\n{{}}"
 
 
+STORM = ("--storm", "11:0.001")  # in which the first invocations meet no trouble
 HIDDEN = b'{"do":"sleep","seconds":0.5,"whose":"hidden"}'
 HIDDEN_REQUEST = f"{INVOKE}Host: a\r\nContent-Length: {len(HIDDEN)}\r\n\r\n".encode() + HIDDEN
 
@@ -240,14 +242,14 @@ class Events(Case):
                                                        up.has("waiting up to ")),
                        ((0, []), 4, True))
 
-    def test_a_stop_by_request_waits_for_the_events(self):
+    def test_a_stop_by_request_loses_the_events_that_are_left(self):
         with self.running(timeout=10) as (up, caller):
             for number in range(3):
-                caller.event("f", {"do": "sleep", "seconds": 0.4, "number": number})
-            begun = time.monotonic()
-            status = caller.ask("POST", "/_local/stop", b"")[0]
-            self.check("so does POST /_local/stop", (status, time.monotonic() - begun > 0.8), (202, True))
-            self.check("and all ends", (up.end(None), up.count(r"\[f\] event \S+ ok")), ((0, []), 3))
+                caller.event("f", {"do": "sleep", "seconds": 2, "number": number})
+            self.check("POST /_local/stop is the service's", caller.ask("POST", "/_local/stop", b"")[0], 202)
+            self.check("all ends", up.end(None), (0, []))
+            ends = up.count(r"\[f\] event \S+ ok"), up.count("is lost by the stop")
+            self.check("each event that is lost is told", (sum(ends), ends[1] > 0), (3, True), shown=ends)
 
     def test_a_stop_waits_no_longer_than_drain_says(self):
         with self.running(options=["--drain", "0.5"], timeout=30) as (up, caller):
@@ -258,8 +260,8 @@ class Events(Case):
                                                                 up.count("is lost by the stop")),
                        (True, 1))
 
-    def test_all_else_passes_through_unchanged(self):
-        with self.running(timeout=2) as (up, caller), Caller(behind(up)) as direct:
+    def test_all_else_passes_through_a_storm_unchanged(self):
+        with self.running(options=STORM, timeout=2) as (up, caller), Caller(behind(up)) as direct:
             large = json.dumps({"x": "y" * 3_000_000}).encode()
             for name, method, path, body in (
                     ("an output", "POST", invoke_path("f"), b'{"a":"\xc3\xa9"}'),
@@ -282,13 +284,17 @@ class Events(Case):
                        (True, True))
 
     def test_heads_that_the_service_refuses_are_refused_alike(self):
-        """What the service refuses by a request's head, its front refuses alike, byte for byte, and events as well:
-        what is not refused is asked of the service, or taken."""
-        up = Up(*READY, functions=functions(), app=APP, whole={"asynchronous": True},
-                environ={**os.environ, "LAMBDA_LOCAL_HOSTS": "listed.example,x.y"})
+        """What the service refuses by a request's head, the port of a storm refuses alike, byte for byte, and events as
+        well: what is not refused is asked of the service, or taken."""
+        hosts = {"LAMBDA_LOCAL_HOSTS": "listed.example,x.y"}
+        up = Up(*READY, *STORM, functions=functions(), app=APP, whole={"asynchronous": True},
+                environ={**os.environ, **hosts})
         up.until("[up] ready", READY_SECONDS)
         statuses: Counter[bytes] = Counter()
-        service, taken = behind(up), 0
+        bare = Service({"account": "123456789012", "region": "us-east-1", "functions": [{"name": "f", "ports": [0]}]},
+                       variables=hosts)
+        self.addCleanup(bare.kill)
+        service, taken = bare.endpoint_url, 0
         for head in HEADS:
             wanted = raw_answer(service, head)
             self.check(f"the front answers {head!r} as the service", raw_answer(up.endpoint, head), wanted)

@@ -1,20 +1,17 @@
 """Asynchronous invocations under a mixed load, with runtimes that crash, hang and are restarted: no event is lost, and
-none runs again unless its run before failed. Then what the front adds to a synchronous call. The program is
-LAMBDA_LOCAL_PROGRAM, else ./lambda_local.
+none runs again unless its run before failed. The program is LAMBDA_LOCAL_PROGRAM, else ./lambda_local.
 
 Variable: LOAD_SECONDS is how long the load goes on (60)."""
 import json
 import os
 import random
 import re
-import statistics
 import threading
 import time
 from collections import Counter
-from typing import Dict, List
 
 from tests.library.cases import Case
-from tests.library.events_kit import READY, READY_SECONDS, Caller, behind, invoke_path
+from tests.library.events_kit import READY, READY_SECONDS, Caller
 from tests.library.up_kit import Up, until
 
 SECONDS = float(os.environ.get("LOAD_SECONDS", "60"))
@@ -162,18 +159,6 @@ def text_of(*path):
         return ""
 
 
-def medians(callers, count):
-    """The median milliseconds of a call of each, which take turns."""
-    taken: Dict[str, List[float]] = {name: [] for name in callers}
-    for _ in range(count):
-        for name, caller in callers.items():
-            begun = time.perf_counter()
-            status = caller.ask("POST", invoke_path("f"), b"{}")[0]
-            if status == 200:
-                taken[name].append(1000 * (time.perf_counter() - begun))
-    return {name: statistics.median(times) for name, times in taken.items()}
-
-
 class EventsLoad(Case):
     def test_mixed_load(self):
         up = Up(*READY, "--log", "json", app=APP, whole={"asynchronous": {"delays": [0.1, 0.3], "onFailure": "sink"}},
@@ -209,22 +194,4 @@ class EventsLoad(Case):
         print(f"     {len(stories)} events in {SECONDS:g} s, {sum(bool(story.records) for story in stories)} of them "
               f"given up; runs with their answers {json.dumps(dict(runs))}; {load.invoked} invocations; "
               f"{load.spun_down} spindowns", flush=True)
-        self.check("it ends in order, and leaves nothing", up.end(), (0, []))
-
-    def test_added_time(self):
-        up = Up(*READY, functions=[{"name": "f", "runtime": "python", "handler": "app.run"}], app=APP,
-                whole={"asynchronous": True})
-        self.check("all is ready", up.until("[up] ready", READY_SECONDS))
-        with Caller(up.endpoint) as front, Caller(behind(up)) as direct:
-            medians({"front": front, "direct": direct}, 100)
-            rounds = [medians({"front": front, "direct": direct}, 300) for _ in range(5)]
-        added = sorted(one["front"] - one["direct"] for one in rounds)
-        # (on a machine whose processors are not enough for all that it does, everything takes longer)
-        is_busy = os.getloadavg()[0] > (os.cpu_count() or 1)
-        most = 4 * statistics.median(one["direct"] for one in rounds) if is_busy else 1.0
-        print("     p50 in ms: " + json.dumps([{name: round(time_, 3) for name, time_ in one.items()}
-                                               for one in rounds]),
-              flush=True)
-        self.check("the front adds less than 1 ms at p50, or on a busy machine than four times what a call takes",
-                   added[len(added) // 2] < most, shown=(added, most))
         self.check("it ends in order, and leaves nothing", up.end(), (0, []))

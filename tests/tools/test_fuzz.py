@@ -6,6 +6,7 @@ tests/tools/fuzz.cases with its seed, and tried first from then on.
 
 Variables: FUZZ_HOURS is for how long all parts together go on (a minute), FUZZ_SEED the first seed (the days since
 1970; it is printed). Without hypothesis (Debian: python3-hypothesis) tests/library/strategies.py draws the inputs."""
+import asyncio
 import base64
 import contextlib
 import io
@@ -20,10 +21,12 @@ from lambda_local.configuration import explained, mistakes
 from lambda_local.from_template import command as template_command
 from lambda_local.from_template.messages import Fault as TemplateFault
 from lambda_local.front.events import in_json
+from lambda_local.front.handed import NotHanded, handed_of
 from lambda_local.front.payload import Unmappable, reply_of
 from lambda_local.history import comparison, reader, running, script
 from lambda_local.history.entries import Answer
 from lambda_local.history.shapes import NotTrace
+from lambda_local.http1 import request_head
 from lambda_local.json_reader import NotJson, read_json
 from lambda_local.life import Life
 from lambda_local.service import Fault
@@ -47,6 +50,7 @@ CASES = os.path.join(ROOT, "tests", "tools", "fuzz.cases")
 SHRINKING = 30.0  # seconds for making a failure small
 LONGEST_SECONDS = 20.0  # of one input, on a machine that does much else
 REQUEST = "00000000-0000-8000-8001-000000000001"
+HANDED = b'{"id":7,"port":9100,"method":"POST","target":"/a/b?c=d","headers":[["host","a"],["x","y"]]}\nbody'
 HISTORY = (b'form 2\n{"account":"123456789012","accountLimit":1000,"functions":[{"extensions":["x"],"handler":"a.b",'
            b'"name":"f","ports":[1],"timeout":3}],"invokePort":9,"leastRemainder":100,"maxEntries":1000,'
            b'"region":"us-east-1","salt":0}\n1 register 1 =x is a\n'
@@ -140,6 +144,14 @@ def of_results(data):
     read_json(in_json(data), deepest=10 ** 9)
     with contextlib.suppress(Unmappable):
         reply_of(data)
+
+
+def of_handed(data):
+    """What a service hands over: what is read of it can be written as a head, and its body is what it ends with."""
+    with contextlib.suppress(NotHanded):
+        request = handed_of(data).request
+        request_head(request.method, request.target or "*", request.headers)
+        assert data.endswith(b"\n" + asyncio.run(request.body.whole(len(data))))
 
 
 class SevenAtOnce(io.BytesIO):
@@ -251,7 +263,7 @@ def inputs_of(original):
 PARTS = {name: (reader, original, inputs_of(original)) for name, reader, original in (
     ("up", of_up, UP), ("reports", of_reports, REPORT), ("histories", of_histories, HISTORY),
     ("traces", of_traces, TRACE), ("templates", of_templates, TEMPLATE), ("results", of_results, RESULT),
-    ("output", of_output, b"a\r\n\x1b[1mb"))}
+    ("handed", of_handed, HANDED), ("output", of_output, b"a\r\n\x1b[1mb"))}
 PARTS.update(http_fuzz.parts(some, mutated))
 PARTS.update(given_fuzz.parts(some, mutated, inputs_of))
 PARTS.update(identity_fuzz.parts(of_templates, inputs_of))
@@ -342,6 +354,9 @@ class Fuzz(Case):
 
     def test_any_result_is_read_or_refused(self):
         self.fuzz("results")
+
+    def test_any_request_that_is_handed_over_is_read_or_refused(self):
+        self.fuzz("handed")
 
     def test_any_output_is_divided_into_lines(self):
         self.fuzz("output")

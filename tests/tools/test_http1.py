@@ -20,7 +20,7 @@ from lambda_local.http1 import (NEED_DATA, CutShort, Data, Malformed, Request, R
 from lambda_local.service import free_ports
 from tests import ROOT
 from tests.library.cases import Case
-from tests.library.events_kit import READY, READY_SECONDS, behind
+from tests.library.events_kit import READY, READY_SECONDS
 from tests.library.h11_beside import compared
 from tests.library.http_mutants import BROKEN, TAKEN, answers_to, messages_of, mutants, outcome_of, own_outcome
 from tests.library.up_kit import Up
@@ -164,20 +164,20 @@ class Http1(Case):
         self.check("both kinds are among them", min(counts["taken"], counts["refused"]) > COUNT / 10)
 
     def test_the_front_answers_mutants_as_the_service(self):
-        """What the front answers to them has the service's statuses."""
-        up = Up(*READY, functions=[{"name": "f", "runtime": "python", "handler": "app.run"}], app=APP,
-                whole={"asynchronous": True})
+        """What the front answers to them, at the port of a storm, has the service's statuses."""
+        up = Up(*READY, "--storm", "11:0.001", functions=[{"name": "f", "runtime": "python", "handler": "app.run"}],
+                app=APP, whole={"asynchronous": True})
         up.until("[up] ready", READY_SECONDS)
-        ports = [urllib.parse.urlsplit(address).port for address in (up.endpoint, behind(up))]
+        port = urllib.parse.urlsplit(up.endpoint).port
         counts: Counter[str] = Counter()
         requests, wrong = mutants(COUNT // 10, SEED + 1), []
-        with concurrent.futures.ThreadPoolExecutor(AT_ONCE) as pool:
-            for data, seen in zip(requests, pool.map(lambda data: [outcome_of(answers_to(port, data))
-                                                                   for port in ports],
-                                                     requests)):
-                counts["taken" if seen[1][:1] == [TAKEN] else "refused" if seen[1] else "cut"] += 1
-                if seen[0] != seen[1]:
-                    wrong.append((data, *seen))
+        with Serving() as service, concurrent.futures.ThreadPoolExecutor(AT_ONCE) as pool:
+            own = list(service.outcomes(requests))
+            for data, seen, wanted in zip(requests, pool.map(lambda data: outcome_of(answers_to(port, data)), requests),
+                                          own):
+                counts["taken" if wanted[:1] == [TAKEN] else "refused" if wanted else "cut"] += 1
+                if seen != wanted:
+                    wrong.append((data, seen, wanted))
         print(f"     {COUNT // 10} requests: {dict(counts)}", flush=True)
         self.check("the front answers them as the service", (len(wrong), wrong[:MOST_SHOWN]), (0, []))
         self.check("it ends in order, and leaves nothing", up.end(), (0, []))

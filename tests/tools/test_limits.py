@@ -13,6 +13,7 @@ from lambda_local.up.memory import is_above, peaks_of
 from lambda_local.up.patience import of_service, times_of, with_patience
 from lambda_local.up.processes import reason_of
 from tests.library.cases import Case
+from tests.library.clock_kit import INVOKE, posted
 from tests.library.threads import together
 from tests.library.up_kit import Up, until
 
@@ -61,6 +62,9 @@ def forked(count, size):
     return found
 
 
+TAIL = {"X-Amz-Log-Type": "Tail"}
+
+
 class OfLimits(Case):
     def test_what_is_near_a_limit_is_told_once_for_each_function(self):
         members: Dict[str, Members] = {
@@ -85,6 +89,8 @@ class OfLimits(Case):
                         call("late"))
         self.check("each is answered", seen[:4] + [len(seen[4])] + seen[5:], [
             200 << 20, 200 << 20, "Runtime.ExitError", "ok", 6_000_000, "ok", "ok", "ok"])
+        for _ in range(2):  # (of what only the service has answered, no size is known)
+            self.check("with its log", posted(up.endpoint, INVOKE.format("large"), b'{"do": "large"}', TAIL)[0], 200)
         until(lambda: of("behind", "frozen") and of("memory", "memory"), 20)
         time.sleep(2)
         for name, limit, words in (

@@ -14,10 +14,13 @@ from tests.library.cases import Case
 from tests.tools.test_plugin import fault_of
 
 
-def send(service, name, body=b"{}"):
-    """The status of an Event."""
-    request = urllib.request.Request(f"{service.endpoint_url}/2015-03-31/functions/{name}/invocations", body,
-                                     {"X-Amz-Invocation-Type": "Event"}, method="POST")
+EVENT, TAIL = {"X-Amz-Invocation-Type": "Event"}, {"X-Amz-Log-Type": "Tail"}
+
+
+def send(service, name, body=b"{}", headers=EVENT):
+    """The status of an Event, or of another invocation."""
+    request = urllib.request.Request(f"{service.endpoint_url}/2015-03-31/functions/{name}/invocations", body, headers,
+                                     method="POST")
     try:
         with urllib.request.urlopen(request, timeout=30) as answer:
             return answer.status
@@ -47,6 +50,7 @@ class PluginEvents(Case):
             self.check("it is waited for", service.settled(30))
             self.check("and tried three times", seen, 3 * [{"order": 7}])
             self.check("a plain invocation is as before", service.invoke("records", 1), None)
+            self.check("one whose caller asks for its log too", send(service, "records", b"1", TAIL), 200)
             records.clear()
             send(service, "broken", b'{"order": 8}')
             self.check("what fails each time is recorded", (service.settled(30), [

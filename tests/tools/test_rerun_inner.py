@@ -40,6 +40,16 @@ def pay(event, context):
 def mail(event, context):
     return "sent"
 '''
+# A runtime that makes no root.
+PLAIN = '''import importlib.util, sys
+path = sys.argv.pop(1)
+spec = importlib.util.spec_from_file_location("runtime", path)
+runtime = importlib.util.module_from_spec(spec)
+sys.modules["runtime"] = runtime
+spec.loader.exec_module(runtime)
+runtime.trace_of = lambda request, headers: headers["Lambda-Runtime-Trace-Id"]
+runtime.main()
+'''
 ZEROS = "Root=1-00000000-000000000000000000000000;Sampled=0"
 REQUESTS = [f"01a227f0-4e4d-8000-8001-00000000000{number}" for number in range(1, 6)]
 
@@ -83,12 +93,12 @@ class RerunInner(Case):
         roots.end(7)
         self.check("a caller that sends the same trace again", roots.begin(8, None, "Root=1-2-3;Sampled=1"), None)
         roots.end(8)
-        front = "Root=1-6a0b-77;Sampled=0;From=lambda_local"
-        self.check("a caller's whose root the front has made", roots.begin(10, REQUESTS[0], front), None)
+        once = "Root=1-6a0b-77;Sampled=0;From=lambda_local"
+        self.check("a caller's whose root lambda_local up has made", roots.begin(10, REQUESTS[0], once), None)
         roots.end(10)
         self.check("one of that, also later", roots.begin(11, None, "Root=1-6a0b-77;Parent=9"), Made(10))
         roots.end(11)
-        self.check("zeros when nothing is in flight", roots.begin(9, None, ZEROS), None)
+        self.check("zeros when nothing is in flight, as of an event", roots.begin(9, None, ZEROS), Made(None))
 
     def test_invokes_are_matched_by_their_makers(self):
         """Those of the same maker first, in their order; then those of which no maker is known; none of another's."""
@@ -109,18 +119,19 @@ class RerunInner(Case):
                    ("failed now", ["its event: the whole: 1 -> 2", "timeout"]))
         self.check("a new one", of_new(other)[1:3], ("changed", ["new, a function makes it now: output 1"]))
 
-    def test_for_other_commands_the_front_makes_the_root(self):
-        """For runtimes that make no root, the front does."""
+    def test_what_other_runtimes_invoke_is_known_by_the_services_zeros(self):
+        """Those that make no root pass on what the service gives them."""
         with tempfile.TemporaryDirectory() as folder:
-            with open(os.path.join(folder, "app.py"), "w") as file:
-                file.write(APP)
-            write_up(folder, [sys.executable, os.path.join(ROOT, "examples", "runtime.py")])
+            for name, text in (("app.py", APP), ("plain.py", PLAIN)):
+                with open(os.path.join(folder, name), "w") as file:
+                    file.write(text)
+            write_up(folder, [sys.executable, "plain.py", os.path.join(ROOT, "examples", "runtime.py")])
             status, _, said = run(folder, "up", "--history", "h", "up.json", "--", LAUNCHER, "invoke", "orders",
                                   '{"n": 1}')
             with open(os.path.join(folder, "h")) as file:
-                roots = re.findall(r"^\d+ invoke \w+ - =Root=1-([0-9a-f]{8}-[0-9a-f]{24});Sampled=0;From=lambda_local ",
-                                   file.read(), re.M)
-            self.check("its invocations have one root", (status, len(roots), len(set(roots))), (0, 3, 1), shown=said)
+                traces = re.findall(r"^\d+ invoke \w+ - (\S+) ", file.read(), re.M)
+            self.check("two of its invocations have them", (status, sorted(traces)), (0, ["-", *[f"={ZEROS}"] * 2]),
+                       shown=said)
             status, output, said = run(folder, "rerun", "h", "up.json")
             self.check("unchanged functions are equal", (status, output, said), (0, ["3 invocations: 3 equal"], ""))
 

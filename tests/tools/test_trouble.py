@@ -169,7 +169,7 @@ class Trouble(Case):
                        "lambda_local"))
             server.cut = 3
             self.check("one that is cut short", fault_of("cold", server)[1].partition(": start")[0],
-                       f"http://127.0.0.1:{server.server_port}: IncompleteRead(17 bytes read, 3 more expected)")
+                       f"http://127.0.0.1:{server.server_port}: the connection ends within a message")
             server.cut = 0
             server.answer = 202, b"["
             self.check("crash", fault_of("crash", server)[0], 3)

@@ -13,7 +13,7 @@ import unittest
 from tests.library import clock_kit
 from tests.library.cases import Case
 from tests.library.clock_kit import EVENT, INVOKE, advance, pause, posted, resume, rests
-from tests.library.events_kit import READY, READY_SECONDS, behind
+from tests.library.events_kit import READY, READY_SECONDS
 from tests.library.sqs_server import Server
 from tests.library.threads import together
 from tests.library.traces import entries_in
@@ -138,9 +138,8 @@ class UpClock(Case):
         self.check("and its process is killed", until(lambda: not lives(pid), 20))
         self.check("the event is tried again", up.until("attempt 3 of 3: it is dropped", 20))
         self.check("the schedule is not due", up.has("schedule rate(1 minute)"), False)
-        address = behind(up)
-        advance(address, 60)
-        self.check("it is by an advance that did not come through lambda_local up",
+        posted(up.endpoint, f"{clock_kit.CLOCK}/advance?ms=60000")
+        self.check("it is by an advance of which lambda_local up is not asked",
                    up.until("schedule rate(1 minute): event", 20))
         self.check("it ends", up.end(), (0, []))
 
@@ -233,7 +232,7 @@ class UpClock(Case):
             while not over.wait(0.02):
                 with contextlib.suppress(OSError):
                     posted(address, f"{clock_kit.CLOCK}/pause")
-        address = behind(up)
+        address = up.endpoint
         threading.Thread(target=pauses, daemon=True).start()
         self.check("it is paused", until(lambda: not json.loads(up.get(clock_kit.CLOCK))["running"], 20))
         begun = time.monotonic()

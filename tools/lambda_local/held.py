@@ -3,7 +3,6 @@
 Under pytest its own debugger says when it stands. Without, `breakpoint()` opens one here that says so. A clock that was
 paused before stays as it was; and a service that ends lets its clock go on in any case."""
 import contextlib
-import http.client
 import os
 import pdb
 import sys
@@ -14,7 +13,7 @@ from typing import TYPE_CHECKING, Any, Callable, List, Optional
 if TYPE_CHECKING:
     from .clock.own import OwnClock
 
-ENDED = (OSError, http.client.HTTPException, RuntimeError)  # of a service that is not there (any more)
+ENDED = (OSError, RuntimeError)  # of a service that is not there (any more)
 
 
 class Held:

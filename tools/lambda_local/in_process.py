@@ -15,10 +15,10 @@ import os
 import sys
 import threading
 import time
-import urllib.error
-import urllib.request
 from typing import TYPE_CHECKING, Any, Callable, Dict, List, Mapping, Optional, Tuple, Union
+from urllib.parse import quote, urlsplit
 
+from .clock.asked import SETTLED
 from .clock.own import OwnClock
 from .configuration import OF_FUNCTION, Kind, Members, is_whole, mistakes_of
 from .held import HELD
@@ -42,7 +42,6 @@ OWN = {"variables": VARIABLES,
 MEMBERS = {**{name: kind for name, kind in OF_FUNCTION.items() if name != "name"}, **OWN,
            "ports": Kind(lambda value: isinstance(value, list) and all(is_whole(port, 1 << 16) for port in value),
                          "a list of ports, 0 for a free one")}
-OPENER = urllib.request.build_opener(urllib.request.ProxyHandler({}))  # (the service is on this machine)
 LONGEST_SECONDS = 86_400  # for an answer: a debugger may stand in a handler
 DRAIN_SECONDS = 5  # for events at the end
 FAULTS_KEPT = 100  # the newest of those that no invoke has asked for
@@ -155,7 +154,7 @@ class Runtime(threading.Thread):
         """What the clock reads by which invocations time out: the machine's, if the service does not say it."""
         try:
             return self.owner.clock.now()
-        except (OSError, http.client.HTTPException, RuntimeError):
+        except (OSError, RuntimeError):
             return int(1000 * time.time())
 
     def context_of(self, headers: Mapping[str, str]) -> Any:
@@ -235,7 +234,7 @@ class LambdaLocal(Troubled):
                  asynchronous: Union[None, bool, Members] = None, **handlers: Handler) -> None:
         super().__init__()
         self.program, self.patches = program, patches
-        self.clock = OwnClock(lambda: str(self.started().endpoint_url))
+        self.clock = OwnClock(lambda: str(self.started().endpoint_url), self._settle)
         self.runtimes: List[Runtime] = []
         self.faults: Dict[str, BaseException] = {}
         if functions or handlers:
@@ -313,28 +312,26 @@ class LambdaLocal(Troubled):
         is busy: for `patience` seconds a throttle by it is tried again."""
         if self.endpoint_url is None or self.stopped:
             self.started()
+        path = f"/2015-03-31/functions/{quote(name, safe=':$')}/invocations"
         end = time.monotonic() + patience
         while True:
-            request = urllib.request.Request(f"{self.endpoint_url}/2015-03-31/functions/{name}/invocations",
-                                             json.dumps(event).encode(), method="POST")
             try:
-                with OPENER.open(request, timeout=LONGEST_SECONDS) as answer:
-                    body = json.loads(answer.read() or b"null")
-                    if answer.headers.get("X-Amz-Function-Error"):
-                        raise FunctionError(body) from self.faults.pop(answer.headers.get("x-amzn-RequestId"), None)
-                    return body
-            except urllib.error.HTTPError as fault:
-                text = fault.read()
-                fault.close()
-                if fault.code != 429 or time.monotonic() > end or "throttle" in self.troubles.get(name, ()) or (
-                        self.maker and RESERVED in text):
-                    raise FunctionError({"errorType": fault.headers.get("x-amzn-ErrorType"),
-                                         "errorMessage": text.decode(errors="replace")}) from None
-                time.sleep(0.005)
-            except urllib.error.URLError:
+                status, headers, text = ask(urlsplit(str(self.endpoint_url)).port or 80, "POST", path,
+                                            json.dumps(event), timeout=LONGEST_SECONDS)
+            except OSError:
                 if self.service:
                     self.started()
                 raise
+            if status == 200:
+                body = json.loads(text or b"null")
+                if "x-amz-function-error" in headers:
+                    raise FunctionError(body) from self.faults.pop(headers.get("x-amzn-requestid", ""), None)
+                return body
+            if status != 429 or time.monotonic() > end or "throttle" in self.troubles.get(name, ()) or (
+                    self.maker and RESERVED in text):
+                raise FunctionError({"errorType": headers.get("x-amzn-errortype"),
+                                     "errorMessage": text.decode(errors="replace")})
+            time.sleep(0.005)
 
     def client(self, **words: object) -> Any:
         """A boto3 client of this service."""
@@ -365,6 +362,11 @@ class LambdaLocal(Troubled):
             time.sleep(0.005)
         return True
 
+    def _settle(self) -> None:
+        """Waits until the front has taken what came before this, and begun what is due."""
+        if self.front and self.service:
+            ask(self.service.port, *SETTLED)
+
     def _events(self) -> int:
         """Those that are left and are not waiting for a clock that is paused."""
         if not self.front or not self.front.queue:
@@ -376,7 +378,7 @@ class LambdaLocal(Troubled):
         if self.service is None or self.stopped:
             return
         HELD.end(self.clock)
-        with contextlib.suppress(OSError, http.client.HTTPException, RuntimeError):
+        with contextlib.suppress(OSError, RuntimeError):
             self.clock.resume()  # (in a pause an environment that shuts down would be waited for)
         if self.front:
             self.front.drain(self.has_ended)
@@ -385,7 +387,7 @@ class LambdaLocal(Troubled):
                 tell_of_events("up", self.front.gate.tally.summary(), "warning")
         try:
             self.log, stats = self.service.history(), self.service.stats()
-        except (OSError, http.client.HTTPException):
+        except OSError:
             self.stopped = True
             self.service.kill()
             self.leave_sandbox()

@@ -20,7 +20,6 @@ import datetime
 import json
 import os
 import sys
-from email.message import Message
 from typing import Dict
 from urllib.parse import quote
 
@@ -124,13 +123,13 @@ def print_body(body: bytes) -> None:
     sys.stdout.flush()
 
 
-def show_log(headers: Message) -> None:
+def show_log(headers: Dict[str, str]) -> None:
     """What the invocation printed, as far as the answer has it."""
-    if headers.get("X-Amz-Log-Result") is None:
+    if headers.get("x-amz-log-result") is None:
         say("the answer has no log: `lambda_local up` keeps what functions print")
         return
     try:
-        text = base64.b64decode(headers["X-Amz-Log-Result"], validate=True).decode(errors="replace")
+        text = base64.b64decode(headers["x-amz-log-result"], validate=True).decode(errors="replace")
     except binascii.Error:
         say("the log in the answer is not Base64")
         return
@@ -141,7 +140,7 @@ def say(text: object) -> None:
     outgoing.tell(f"invoke: {text}")
 
 
-def refusal(name: str, status: int, headers: Message, body: bytes) -> str:
+def refusal(name: str, status: int, headers: Dict[str, str], body: bytes) -> str:
     """A line on an answer that is no result of the function."""
     try:
         members = json.loads(body)
@@ -149,7 +148,7 @@ def refusal(name: str, status: int, headers: Message, body: bytes) -> str:
         reason = members.get("Reason") or ""
     except (ValueError, RecursionError, AttributeError):
         told, reason = body[:300].decode(errors="replace"), ""
-    kind = (headers.get("x-amzn-ErrorType") or "").partition(":")[0]
+    kind = (headers.get("x-amzn-errortype") or "").partition(":")[0]
     said = ": ".join(filter(None, (f"{status} {kind}".strip(), str(told), str(reason))))
     return f"{name}: {' '.join(said.split())}"
 
@@ -160,13 +159,13 @@ def tell(options: argparse.Namespace, answer: Answer) -> int:
     if options.tail and status == 200:
         show_log(headers)
     if options.event and status == 202:
-        say(f"{options.name}: event accepted: {headers.get('x-amzn-RequestId', 'it has no identifier')}")
+        say(f"{options.name}: event accepted: {headers.get('x-amzn-requestid', 'it has no identifier')}")
         return 0
     if status != 200:
         say(refusal(options.name, status, headers, body))
         return 3
     print_body(body)
-    if headers.get("X-Amz-Function-Error"):
+    if headers.get("x-amz-function-error"):
         say(f"{options.name}: the function has failed")
         return 1
     return 0

@@ -12,7 +12,6 @@ raised by `invoke` as FunctionError, from what the handler raised. The end stops
 that its history replays to itself. The report of a failed test has the history and its timeline, and names the files
 where both stand whole. The program is LAMBDA_LOCAL_PROGRAM, else the one that comes with the tools.
 `in_process.LambdaLocal` does without pytest."""
-import http.client
 import pathlib
 import subprocess
 from typing import Any, Generator, Iterator, Optional, Tuple
@@ -116,5 +115,5 @@ if pytest:
             if service.service:
                 try:
                     report.sections += sections(service.history(), folders.mktemp("lambda_local"))
-                except (OSError, http.client.HTTPException) as fault:
+                except OSError as fault:
                     report.sections.append((TITLE, f"not to be had: {fault}"))

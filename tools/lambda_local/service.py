@@ -5,7 +5,6 @@ that the repository's ./lambda_local finds: none is proved or built for a tool. 
 LAMBDA_LOCAL_PORTS=FIRST-LAST is set, of that range."""
 import codecs
 import contextlib
-import http.client
 import json
 import os
 import random
@@ -17,9 +16,10 @@ import subprocess
 import tempfile
 import threading
 import time
-from typing import AnyStr, Callable, Collection, Dict, Iterator, List, Mapping, Optional, TextIO, Tuple, Union
+from typing import AnyStr, Callable, Collection, Dict, Iterator, List, Mapping, Optional, TextIO, Tuple
 
 from .configuration import Members, explained, says
+from .exchange import Unanswered, ask as ask, asked
 from .guard import GUARD
 from .history.comparison import compared
 from .history.script import Script
@@ -30,23 +30,11 @@ from .program import Fault as Fault, place_of_fault, program_path as program_pat
 RUNTIME = "/2018-06-01/runtime/"
 AGAIN = "Lambda-Local-Again"  # a header: this has been sent before, so a storm spares it
 EXTENSION = "/2020-01-01/extension/"
-PIECE = 1 << 20  # bytes of a history that is saved, which are in memory at once
+PIECE = 1 << 20  # bytes of what it says that are taken at once
 TAKEN_SECONDS = 5.0  # for the status of a process that has ended
 NO_NETWORK = "network: failed"  # the program's line if it cannot listen on a port
 # Before the program's words: what a service begins with.
 BEGUN = ("/bin/sh", "-c", '. "$0" && begin "$@"', LIMITS)
-
-
-def ask(port: int, method: str, path: str, body: Union[None, str, bytes] = None, headers: Mapping[str, str] = {},
-        timeout: float = 30) -> Tuple[int, Dict[str, str], bytes]:
-    """Status, headers (names in lower case) and body of one request on a connection of its own."""
-    connection = http.client.HTTPConnection("127.0.0.1", port, timeout=timeout)
-    try:
-        connection.request(method, path, body, headers)
-        answer = connection.getresponse()
-        return answer.status, {name.lower(): value for name, value in answer.getheaders()}, answer.read()
-    finally:
-        connection.close()
 
 
 @contextlib.contextmanager
@@ -278,20 +266,15 @@ class Service:
         return ask(self.port, "GET", "/_local/history", timeout=300)[2].decode()
 
     def save_history(self, file: TextIO) -> None:
-        """Writes the history as it comes, a piece at a time. OSError or HTTPException if it does not come whole."""
-        connection = http.client.HTTPConnection("127.0.0.1", self.port, timeout=300)
-        try:
-            connection.request("GET", "/_local/history")
-            answer, decoder = connection.getresponse(), codecs.getincrementaldecoder("utf-8")(ESCAPED)
+        """Writes the history as it comes, a piece at a time. Unanswered if it does not come whole, another OSError if
+        it cannot be written."""
+        decoder = codecs.getincrementaldecoder("utf-8")(ESCAPED)
+        with asked(self.port, "GET", "/_local/history", timeout=300) as answer:
             if answer.status != 200:
-                raise http.client.HTTPException(f"the service answers {answer.status}")
-            while piece := answer.read(PIECE):
+                raise Unanswered(f"the service answers {answer.status}")
+            for piece in answer.pieces():
                 file.write(decoder.decode(piece))
-            if answer.length:  # (http.client itself sees this of chunks alone)
-                raise http.client.IncompleteRead(b"", answer.length)
             file.write(decoder.decode(b"", True))
-        finally:
-            connection.close()
 
     def stop(self, seconds: float = 20) -> Tuple[int, str]:
         """Stops it in order, or kills it after this many seconds. Returns its status, and the line with its counts."""
@@ -301,7 +284,7 @@ class Service:
                 if ask(self.port, "POST", "/_local/stop", timeout=seconds)[0] == 202:
                     break
                 time.sleep(0.1)  # (no memory for it just now)
-            except (OSError, http.client.HTTPException):
+            except OSError:
                 time.sleep(0.05)
             if time.monotonic() > end:
                 break

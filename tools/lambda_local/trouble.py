@@ -181,7 +181,7 @@ class Trouble:
             report = read_json(body)
         except NotJson:
             report = None
-        has_come = headers.get("X-Amz-Function-Error") and isinstance(report, dict) and (
+        has_come = headers.get("x-amz-function-error") and isinstance(report, dict) and (
             report.get("errorType") == REPORTS[kind])
         return 0 if has_come else 1
 

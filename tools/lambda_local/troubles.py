@@ -4,7 +4,6 @@ function is throttled, starts anew, takes too long or ends. No handler is change
     with service.trouble("f", "throttle"):       # also "timeout" and "crash": each invocation in it
     service.times_out("f", {"order": 7})          # one invocation, and what its caller gets"""
 import contextlib
-import http.client
 import json
 import threading
 import time
@@ -150,7 +149,7 @@ class Troubled:
     def crash(self, name: str, number: int) -> None:
         """Before the report of a crash: its environment starts anew once it has asked for the next invocation."""
         def end() -> None:
-            with contextlib.suppress(RuntimeError, OSError, http.client.HTTPException):  # (it has ended otherwise)
+            with contextlib.suppress(RuntimeError, OSError):  # (it has ended otherwise)
                 self._end(name, number)
         ending = threading.Thread(target=end, name=f"end of {name}", daemon=True)
         self.endings.append(ending)

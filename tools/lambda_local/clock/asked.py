@@ -5,7 +5,7 @@ from typing import Dict, List, NamedTuple, Optional, Tuple
 
 SHOW = ("GET", "/_local/clock")
 PAUSE, RESUME = ("POST", "/_local/clock/pause"), ("POST", "/_local/clock/resume")
-PATHS = "/_local/clock"  # all begin with it
+SETTLED = ("GET", "/_local/clock/settled")  # answered by `lambda_local up`, and nobody else
 
 
 def advance(milliseconds: int) -> Tuple[str, str]:

@@ -20,7 +20,7 @@ from ..endpoint import add_option, asked
 from ..outgoing import printable, tell
 from ..program import Fault
 from ..usage import parser_of
-from .asked import PAUSE, RESUME, SHOW, NotClock, Reading, advance, reading_of, time_of
+from .asked import PAUSE, RESUME, SETTLED, SHOW, NotClock, Reading, advance, reading_of, time_of
 from .durations import EXPECTED, NotDuration, milliseconds_in
 
 USAGE = "[OPTION..] [show | pause | resume | advance TIME]"
@@ -57,10 +57,17 @@ def line_of(reading: Reading) -> str:
 
 
 def ask(options: argparse.Namespace) -> Reading:
-    method, target = request_of(options)
-    status, _, body = asked(options.endpoint, method, target, seconds=SECONDS)
+    """What the clock reads. If it is set, and `lambda_local up` runs the service, that has taken what came before, and
+    begun what is due after it."""
+    request = request_of(options)
+    if request != SHOW:
+        asked(options.endpoint, *SETTLED, seconds=SECONDS)
+    status, _, body = asked(options.endpoint, *request, seconds=SECONDS)
     try:
-        return reading_of(status, body)
+        reading = reading_of(status, body)
+        if request != SHOW:
+            asked(options.endpoint, *SETTLED, seconds=SECONDS)
+        return reading
     except NotClock as fault:
         if status == 400:
             raise Fault(2, f"{options.form} {options.time}: {fault.said}") from None

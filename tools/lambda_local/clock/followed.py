@@ -12,14 +12,14 @@ How it is known: each entry of a trace that is followed has a moment, which is a
 known at once. What runs between two readings is counted by the machine's clock, and never runs ahead of a clock that
 is running. A pause makes no entry: so the service is asked before anything is taken to be due (`reached`), and, while
 it is known to be paused and something waits, now and then (BETWEEN_ASKS). Nothing is asked while nothing waits. Who
-sets the clock through this process says so (`ask`). A service that has no clock to ask runs with the machine's."""
+has set it may wait until what is due has begun (`ask`, then `settle`). A service that has no clock to ask runs with the
+machine's."""
 import contextlib
 import heapq
-import http.client
 import itertools
 import threading
 import time
-from typing import Awaitable, Callable, Iterator, List, Optional, Tuple
+from typing import Awaitable, Callable, List, Optional, Tuple
 
 from ..outgoing import renew
 from ..service import ask
@@ -75,7 +75,6 @@ class Clock:
         self._base, self._since = int(1000 * time.time()), time.monotonic()  # what is counted on from
         self._is_running = self._has_clock = True
         self._asked = 0.0  # when the service was asked last
-        self._setting = 0  # requests by which it is being set
         self._timers: List[Timer] = []
         self._numbers = itertools.count()
         self._calling: Optional[Timer] = None
@@ -143,7 +142,7 @@ class Clock:
             if self._has_clock:
                 status, _, body = ask(self.port, *SHOW, timeout=ASK_SECONDS)
                 return self._answered(status, body)
-        except (OSError, http.client.HTTPException):
+        except OSError:
             pass
         return self._unanswered()
 
@@ -170,21 +169,7 @@ class Clock:
         """Whether the service is to be asked for that."""
         with self._changed:
             rested = time.monotonic() - self._asked
-            return self._known < moment and not self._setting and (
-                self._now() >= moment if self._is_running else rested >= BETWEEN_ASKS)
-
-    @contextlib.contextmanager
-    def being_set(self) -> Iterator[None]:
-        """While this lasts a request sets it, and nothing is taken to be due by what it is asked meanwhile: the entry
-        of that request comes first, so equal requests make equal histories."""
-        with self._changed:
-            self._setting += 1
-        try:
-            yield
-        finally:
-            with self._changed:
-                self._setting -= 1
-                self._notify()
+            return self._known < moment and (self._now() >= moment if self._is_running else rested >= BETWEEN_ASKS)
 
     def resume(self) -> None:
         """Lets it go on."""
@@ -210,7 +195,7 @@ class Clock:
         self._set(PAUSE)
 
     def _set(self, request: Tuple[str, str]) -> None:
-        with contextlib.suppress(OSError, http.client.HTTPException):  # (it has ended)
+        with contextlib.suppress(OSError):  # (it has ended)
             ask(self.port, *request, timeout=ASK_SECONDS)
         self.ask()
 
@@ -292,11 +277,11 @@ class Clock:
             self.ask()
 
     def _is_to_ask(self) -> bool:
-        return bool(self._timers) and not self._setting and self._rest() == 0
+        return bool(self._timers) and self._rest() == 0
 
     def _rest(self) -> Optional[float]:
-        """Seconds until the service is to be asked; none if nothing waits, or it is just being set."""
-        if not self._timers or self._setting:
+        """Seconds until the service is to be asked; none if nothing waits."""
+        if not self._timers:
             return None
         rested = time.monotonic() - self._asked
         if not self._is_running:

@@ -11,10 +11,11 @@ ASK_SECONDS = 60.0  # for an answer
 
 
 class OwnClock:
-    """`lambda_local.clock` of a test; `endpoint` gives the address of its service."""
+    """`lambda_local.clock` of a test; `endpoint` gives the address of its service. Before and after it is set, `settle`
+    waits until what is due by it has begun."""
 
-    def __init__(self, endpoint: Callable[[], str]) -> None:
-        self.endpoint = endpoint
+    def __init__(self, endpoint: Callable[[], str], settle: Callable[[], None]) -> None:
+        self.endpoint, self.settle = endpoint, settle
 
     def _ask(self, request: Tuple[str, str]) -> Reading:
         status, _, body = ask(urlsplit(self.endpoint()).port or 80, *request, timeout=ASK_SECONDS)
@@ -24,6 +25,12 @@ class OwnClock:
             if status == 404:
                 raise RuntimeError("the service has no clock that can be set: its program is an older one") from None
             raise (ValueError if status == 400 else RuntimeError)(f"the clock: {fault}") from None
+
+    def _set(self, request: Tuple[str, str]) -> int:
+        self.settle()
+        reading = self._ask(request)
+        self.settle()
+        return reading.now
 
     def now(self) -> int:
         """What it reads: milliseconds since 1970."""
@@ -45,15 +52,15 @@ class OwnClock:
         if not 0 < total <= LONGEST:
             raise ValueError(f"advance: it is {total} milliseconds in all: give from 1 to {LONGEST}, such as "
                              "advance(seconds=3)")
-        return self._ask(advance(total)).now
+        return self._set(advance(total))
 
     def pause(self) -> int:
         """Stops it, if it runs; nothing becomes due until it goes on or is moved. Returns what it reads."""
-        return self._ask(PAUSE).now
+        return self._set(PAUSE)
 
     def resume(self) -> int:
         """Lets it go on from where it stood. Returns what it reads."""
-        return self._ask(RESUME).now
+        return self._set(RESUME)
 
     @contextlib.contextmanager
     def paused(self) -> Iterator["OwnClock"]:

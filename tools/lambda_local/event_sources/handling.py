@@ -1,5 +1,4 @@
 """What is done with the batches of a stream's shards: the function is invoked, and what follows is told and sent."""
-import http.client
 import json
 import threading
 import uuid
@@ -55,7 +54,7 @@ class Handling:
         what = f"a batch of {len(batch.records)} of {shard.identifier}"
         try:
             status, headers, body = self.invoke(batch)
-        except (OSError, http.client.HTTPException) as fault:
+        except OSError as fault:
             return self.wait_for_service(shard, f"{what} has no outcome: {one_line(fault)}", FIRST_REST, LONGEST_REST)
         if status == 429:
             return self.wait_for_service(shard, "", FIRST_RETRY, LONGEST_RETRY)

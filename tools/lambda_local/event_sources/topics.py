@@ -4,7 +4,6 @@ Between the topic and the function is a queue of the same server, which is made 
 topic: so nothing has to reach this machine from there, what comes while the function is busy waits, and the server's
 own filter policies hold. At the end the subscription and the queue are removed."""
 import contextlib
-import http.client
 import json
 import sys
 import threading
@@ -199,7 +198,7 @@ class Subscriber(Asking):
                 status, headers, body = ask(int(self.service.endpoint_url.rpartition(":")[2]), "POST",
                                             f"/2015-03-31/functions/{self.topic.function}/invocations", payload,
                                             {"X-Amz-Invocation-Type": "Event"})
-            except (OSError, http.client.HTTPException) as fault:
+            except OSError as fault:
                 if not self.stopping.is_set():
                     self.say(f"notification {notification.message} has no outcome: {one_line(fault)}", "error")
                 return self.stopping.is_set()

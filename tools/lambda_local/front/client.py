@@ -4,7 +4,7 @@ caller's own head is never passed on."""
 import asyncio
 import contextlib
 import time
-from typing import AsyncIterator, Callable, List, Optional, Sequence, Tuple
+from typing import AsyncIterator, Callable, List, Sequence, Tuple
 
 from ..history.running import NO_DESCRIPTOR
 from ..http1 import CLOSED, Event, Headers, Malformed, Response, ResponseReader, request_head
@@ -75,36 +75,22 @@ class Client:
 
     @contextlib.asynccontextmanager
     async def exchange(self, method: str, target: str, headers: Sequence[Tuple[str, str]] = (), length: int = 0,
-                       pieces: Optional[AsyncIterator[bytes]] = None, body: bytes = b"",
-                       is_again: bool = False) -> AsyncIterator[Answer]:
-        """The answer to a request, while it is read. Its body of this length is there, or comes in pieces; if neither,
-        the service refuses it by its length. A request is never sent twice: it could be an invocation. `is_again` is
-        for a storm: it has been sent before."""
+                       body: bytes = b"", is_again: bool = False) -> AsyncIterator[Answer]:
+        """The answer to a request, while it is read. A body of more bytes than are there the service refuses by its
+        length. A request is never sent twice: it could be an invocation. `is_again` is for a storm: it has been sent
+        before."""
         head = request_head(method, target, [("Host", f"127.0.0.1:{self.port}"), *headers,
                                              ("Content-Length", str(length))])
         wire = await self.connection()
-        sending = answer = None
+        answer = None
         try:
             wire.transport.write(head + body)
-            if pieces is not None:
-                sending = asyncio.get_running_loop().create_task(self.send(wire, pieces))
             answer = await self.answer(wire, method)
             if answer.status == 200:
                 self.answered(target, answer.body.length or 0)
             yield answer
-        except Gone:
-            fault = sending.exception() if sending is not None and sending.done() else None
-            if isinstance(fault, Malformed):
-                raise fault from None
-            raise
         finally:
-            is_sent = len(body) == length
-            if sending is not None:
-                is_sent = sending.done() and not sending.cancelled() and sending.exception() is None
-                sending.cancel()
-                with contextlib.suppress(asyncio.CancelledError, Exception):
-                    await sending
-            if is_sent and answer is not None and answer.keeps and answer.body.is_read:
+            if len(body) == length and answer is not None and answer.keeps and answer.body.is_read:
                 self.give_back(wire)
             else:
                 wire.abort()
@@ -116,17 +102,8 @@ class Client:
             pass
         return Answer(event.status, event.reason, event.headers, Body(wire, event.length), event.keeps_alive)
 
-    @staticmethod
-    async def send(wire: Wire, pieces: AsyncIterator[bytes]) -> None:
-        try:
-            async for piece in pieces:
-                await wire.write(piece)
-        except BaseException:
-            wire.abort()  # (half a request must not be taken for a whole one)
-            raise
-
     async def ask(self, method: str, target: str, headers: Sequence[Tuple[str, str]] = (), body: bytes = b"",
                   is_again: bool = False) -> Tuple[int, Headers, bytes]:
         """The status, headers and whole body of an answer."""
-        async with self.exchange(method, target, headers, len(body), None, body, is_again) as answer:
+        async with self.exchange(method, target, headers, len(body), body, is_again) as answer:
             return answer.status, answer.headers, await answer.body.whole(1 << 30)

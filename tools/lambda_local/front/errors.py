@@ -29,6 +29,12 @@ def throttle_reply(reason: str, identifier: str) -> Reply:
                    identifier)
 
 
+# What the service answers itself while there is no handler (docs/formats.md, "Requests").
+NO_ROUTE = Reply(404, [("content-type", "application/json")],
+                 of_json({"errorMessage": "No such resource", "errorType": "NotFound"}))
+NOT_FOUND = refusal(404, "ResourceNotFoundException", {"Message": "Function not found", "Type": "User"})
+MALFORMED_NAME = of_user(400, "InvalidParameterValueException", "Function name or qualifier is malformed")
+WRONG_TYPE = of_user(400, "InvalidParameterValueException", "Invocation type is not RequestResponse")
 STOPPED = {"Message": "Service is stopped", "Type": "Service"}
 
 

@@ -8,12 +8,13 @@ from urllib.parse import unquote
 from ..clock.asked import time_of
 from ..configuration import Members
 from ..history.entries import request_identifier
-from ..http1 import Headers
+from ..http1 import Headers, first
 from ..json_reader import NotJson, read_json
 
 NAMED = re.compile(r"(?:.*:)?function:([^:]+)(?::[^:]+)?|([^:]+)(?::[^:]+)?")
 PATH = re.compile(r"/2015-03-31/functions/([^/?]+)/invocations(?:\?.*)?")
 
+TYPE, TRACE = "X-Amz-Invocation-Type", "X-Amzn-Trace-Id"
 HALF = re.compile(rb"\\u[dD][89a-fA-F]")  # what may be one
 
 
@@ -26,6 +27,11 @@ def function_of(target: str) -> Optional[str]:
     path = PATH.fullmatch(target)
     named = NAMED.fullmatch(unquote(path[1])) if path else None
     return (named[1] or named[2]) if named else None
+
+
+def trace_of(headers: Headers) -> Headers:
+    """What is passed on of the head of a request that is an invocation. If it is there twice, the first counts."""
+    return [(TRACE, value) for value in [first(headers, TRACE.lower())] if value is not None]
 
 
 class Identifiers:

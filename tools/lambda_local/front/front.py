@@ -15,11 +15,13 @@ from ..storm import Maker, Storm
 from ..streaming.streams import Streams
 from .client import Client
 from .events import Identifiers
+from .handler import BEGIN_SECONDS, Handler
 from .invoke import InvokePort
 from .management import Management
 from .outbox import NO_CLIENT, Outbox, has_client
 from .places import Places, places_for
 from .queue import Queue
+from .relay import StormPort
 from .server import Server
 from .settings import Settings
 from .storm import Gate, StormyClient
@@ -80,26 +82,23 @@ class Other(Component, Protocol):
 
 
 class Front(threading.Thread):
-    """Its ports are open from the start; requests are answered once it has the service and is started."""
+    """Its ports are open from the start; requests are answered once it has the service and is started. What comes to
+    the service's own port and is not the service's to answer, that hands over."""
 
     def __init__(self, settings: Settings, path: str, drain_seconds: float, log: Log,
                  outbox: Optional[Outbox] = None, loop: Optional[asyncio.AbstractEventLoop] = None) -> None:
         """Without an outbox nothing is sent to queues and topics. Its thread runs this loop, or one of its own."""
         super().__init__(name="front", daemon=True)
         self.settings, self.drain_seconds, self.log, self.outbox = settings, drain_seconds, log, outbox
+        self.path = path
         self.queue: Optional[Queue] = None
         self.gate: Optional[Gate] = None  # of a storm
-        self.invoke_listener = listener_at(settings.invoke_port, "invokePort", path)
         self.urls = {function: listener_at(address.port, f"url of function {function}", path)
                      for function, address in settings.urls.items()}
         self.api_listeners = {name: listener_at(api.address.port, f"apis {name}" if name else "api", path)
                               for name, api in settings.apis.items()}
         self.loop = loop or asyncio.new_event_loop()
         self.last_told: Dict[str, float] = {}
-
-    @property
-    def invoke_port(self) -> int:
-        return int(self.invoke_listener.getsockname()[1])
 
     def addresses(self) -> Iterator[Tuple[Optional[str], str, str]]:
         """Each address, whose it is and in which words."""
@@ -134,19 +133,27 @@ class Front(threading.Thread):
             self.client = StormyClient(service.port, answered, self.gate)
         self.places = Places(places_for(sum(len(one["ports"]) for one in configuration["functions"]),
                                         sum(other.descriptors for other in others)))
-        port = InvokePort(self.client, self.settings, configuration, self.drain_seconds, self.log, self.places,
-                          self.clock, tails, self.outbox)
+        port = InvokePort(self.client, self.settings, configuration, self.log, self.clock, tails, self.outbox)
         self.port, self.queue, identifiers = port, port.queue, port.identifiers
         urls = {function: url_of(listener) for function, listener in self.urls.items()}
         streams = streams or Streams()
         management = Management(port, self.client, self.settings, configuration, urls, streams)
-        self.servers: List[Component] = [Server(self.invoke_listener, management, self.places, self.log)]
-        service.endpoint_url = url_of(self.invoke_listener)
+        handler = Handler(service.port, {service.port: management.handle}, self.log)
+        self.servers: List[Component] = [handler]
+        if self.gate:
+            self.serve_storm(self.gate, management)
         if self.urls or self.api_listeners:
             self.serve_gateways(identifiers, streams)
         self.servers += others
         self.tell_of_client()
         self.start()
+        handler.is_known.wait(BEGIN_SECONDS)
+
+    def serve_storm(self, gate: Gate, management: Management) -> None:
+        """A storm is to see each invocation: so it has a port of its own, which is that of callers."""
+        listener = listener_at(self.settings.invoke_port, "invokePort", self.path)
+        self.service.endpoint_url, self.service.through = url_of(listener), int(listener.getsockname()[1])
+        self.servers.append(Server(listener, StormPort(self.client, gate, management.aliases), self.places, self.log))
 
     def tell_of_client(self) -> None:
         """Says so at the start if what has ended cannot be sent on."""

@@ -11,7 +11,7 @@ from .alb import OfBalancer
 from .authorize import Asked, Authorizers, Refused
 from .budget import Budget, Full, Held
 from .client import Client
-from .events import Identifiers, target_of
+from .events import Identifiers, target_of, trace_of
 from .formats import OfHttpApi, OfUrl, format_of, message
 from .http import NO_STAGE, PHRASES, Headers, Malformed, Reply, Request, TooLong, first
 from .origins import Refusal, further_hosts, refusal_of
@@ -36,11 +36,6 @@ class Backend(NamedTuple):
 def made_of(integration: Integration, region: str) -> OfHttpApi:
     """The format of a route."""
     return OfBalancer(integration, region) if integration.version == BALANCER else format_of(integration)
-
-
-def trace_of(request: Request) -> Headers:
-    """What is passed on of a request's head."""
-    return [(name, value) for name, value in request.headers if name.lower() == "x-amzn-trace-id"]
 
 
 class Gateway:
@@ -89,7 +84,7 @@ class Gateway:
 
     async def invoke(self, request: Request, backend: Backend) -> Reply:
         try:
-            with self.budget.hold(request.body.wire.abort) as held:
+            with self.budget.hold(request.body.give_way) as held:
                 return await self.invoke_by(request, backend, held)
         except Full:
             self.say(backend, request, f"503, requests with {self.budget.most} bytes are being answered")
@@ -119,7 +114,7 @@ class Gateway:
         if len(event) > MOST_BODY:
             return self.too_large(backend, request, "the event made of it", MOST_BODY)
         try:
-            return await self.answer(request, backend, trace_of(request), event, tell)
+            return await self.answer(request, backend, trace_of(request.headers), event, tell)
         except (Gone, Malformed):
             self.say(backend, request, "502, the service broke its connection off")
             return backend.format.failure_reply()
@@ -236,5 +231,6 @@ class Api(Gateway):
         form = self.formats[str(context["routeKey"])]
         if form.integration.authorizer is None:
             return {}
-        asked = Asked(request, context, backend.parameters, form.integration, form, self.region, trace_of(request))
+        asked = Asked(request, context, backend.parameters, form.integration, form, self.region,
+                      trace_of(request.headers))
         return {"authorizer": await self.authorizers.members(form.integration.authorizer, asked)}

@@ -35,6 +35,10 @@ class Body:
         """Whether all of it has come already."""
         return self.is_read or self.length is not None and 0 <= self.length <= len(self.wire.reader.buffer)
 
+    def give_way(self) -> None:
+        """It is not waited for any more."""
+        self.wire.abort()
+
     def _finish(self, _end: object) -> None:
         self.is_read = True
         if self.on_whole:
@@ -71,9 +75,31 @@ class Body:
 NO_STAGE = "$default"  # the stage of an HTTP API that is in no path
 
 
+class Content(Protocol):
+    """The body of a request, which comes or is here."""
+
+    @property
+    def length(self) -> Optional[int]:
+        ...
+
+    @property
+    def is_read(self) -> bool:
+        ...
+
+    @property
+    def is_here(self) -> bool:
+        ...
+
+    async def whole(self, most: int, grow: Callable[[int], None] = lambda _: None) -> bytes:
+        ...
+
+    def give_way(self) -> None:
+        ...
+
+
 class Request(NamedTuple):
     head: Head
-    body: Body
+    body: Content
     below: Optional[str] = None  # its path below the stage that it begins with
 
     @property

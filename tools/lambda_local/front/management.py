@@ -1,7 +1,6 @@
 """What the invoke port answers of the Lambda API beside Invoke and reserved concurrency: the functions of UP.json as
 GetFunction, GetFunctionConfiguration, ListFunctions and GetFunctionUrlConfig show them, which SDKs' waiters ask for;
 and an error with a sentence for each operation that is not there."""
-import contextlib
 import json
 import os
 import sys
@@ -14,63 +13,34 @@ from ..streaming.streams import Streams
 from ..variables import text_of
 from . import response_stream
 from .aliases import Aliases
-from .budget import Full as NoRoom
 from .client import Client
-from .errors import of_service, of_user, refusal
-from .events import function_of, target_of
-from .http import Malformed, Reply, Request, TooLong, first
-from .invoke import TYPE, InvokePort
+from .errors import WRONG_TYPE, of_service, of_user, refusal
+from .events import TYPE, function_of, target_of, trace_of
+from .http import Malformed, Reply, Request, first
+from .invoke import LONGEST, SYNCHRONOUS, InvokePort
 from .operations import HERE, OF_API, OperationCall, operation_of, sentence
-from .origins import further_hosts, refusal_of
-from .relay import LONGEST, headers_to_send, unknown
 from .settings import Address, Settings
 from .wire import Gone
 
 MOST_ITEMS, DEFAULT_ITEMS = 10_000, 50  # of a page of ListFunctions
-OUT_OF_RANGE = b"Reservation is out of range"
-BY_SERVICE = ("Invoke", "GetFunctionConcurrency", "PutFunctionConcurrency", "DeleteFunctionConcurrency")
 
 
 class Management:
-    """Answers these operations; `port` is the invoke port, which has all other requests."""
+    """Answers these operations; `port` has all other requests that are handed over."""
 
     def __init__(self, port: InvokePort, client: Client, settings: Settings, configuration: Dict[str, Any],
                  urls: Dict[str, str], streams: Streams):
-        self.streams = streams
+        self.port, self.streams, self.since = port, streams, datetime.now(timezone.utc)
         self.client, self.settings, self.configuration, self.urls = client, settings, configuration, urls
-        self.port, self.malformed_reply, self.refusal = port, port.malformed_reply, port.refusal
-        self.hosts, self.since = further_hosts(), datetime.now(timezone.utc)
         self.members = {member["name"]: member for member in settings.functions}
         self.aliases = Aliases(settings.aliases)
 
-    async def handle(self, request: Request) -> Reply:
-        request = self.aliases.without(request)
+    async def handle(self, given: Request) -> Reply:
+        request = self.aliases.without(given)
         operation = operation_of(request.method, request.path)
-        is_other = operation.name in BY_SERVICE if operation else not self.is_of_api(request)
-        # (a request that may not be taken is refused there, by the service's own rule)
-        if is_other or refusal_of(request.head, self.hosts):
-            reply = await self.port.handle(request)
-            return self.with_range(reply, operation.parameters[0]) if (
-                operation and operation.name == "PutFunctionConcurrency") else reply
+        if operation.name == "Invoke" if operation else not OF_API.fullmatch(request.path):
+            return await self.port.handle(request, request is not given)
         return await self.answer(request, operation)
-
-    def with_range(self, reply: Reply, name: str) -> Reply:
-        """The refusal of a reservation says how many there may be."""
-        function = function_of(target_of(name))
-        count = next((len(one["ports"]) for one in self.configuration["functions"] if one["name"] == function), None)
-        if reply.status != 400 or OUT_OF_RANGE not in reply.body or count is None:
-            return reply
-        more = (f'{OUT_OF_RANGE.decode()}: {function} has "environments": {count} in UP.json, and may reserve 0 to '
-                f"{count}")
-        headers = [(each, value) for each, value in reply.headers if each.lower() != "content-length"]
-        return reply._replace(headers=headers, body=json.dumps({"Type": "User", "message": more}).encode())
-
-    @staticmethod
-    def is_of_api(request: Request) -> bool:
-        """Whether a request that is no known operation is still one of the Lambda API: another method of a path that
-        the service has is refused there."""
-        return OF_API.fullmatch(request.path) is not None and not request.path.rstrip("/").endswith(
-            ("/invocations", "/concurrency"))
 
     async def answer(self, request: Request, operation: Optional[OperationCall]) -> Reply:
         identifier = str(uuid.uuid4())
@@ -81,14 +51,13 @@ class Management:
         if operation.name == "ListFunctions":
             return self.list_functions(query, identifier)
         name = operation.parameters[0]
+        target = self.target(name, query)
         try:
-            if operation.name == "InvokeWithResponseStream" and first(request.headers, TYPE) != "DryRun":
-                return await self.stream(request, self.target(name, query), identifier)
-            reply = await unknown(self.client, self.target(name, query))
+            reply = await self.port.unknown(target)
             if reply:
                 return reply
             if operation.name == "InvokeWithResponseStream":
-                return Reply(204, [("x-amzn-requestid", identifier)])
+                return await self.stream(request, target, identifier)
             return await self.of_function(operation.name, str(function_of(target_of(name))), identifier)
         except (Gone, Malformed):
             return of_service(500, "The service breaks its connection off")
@@ -109,24 +78,14 @@ class Management:
         return target_of(name) + (f"?Qualifier={quote(qualifier, safe='')}" if qualifier is not None else "")
 
     async def stream(self, request: Request, target: str, identifier: str) -> Reply:
-        """Its payload counts among those that are held until the service has answered."""
-        held = contextlib.ExitStack()
-        try:
-            body = held.enter_context(self.port.budget.hold(request.body.wire.abort))
-            payload = await request.body.whole(LONGEST, body.grow)
-            body.is_whole()
-        except NoRoom:
-            held.close()
-            return self.refusal(503, "Too many bodies are held")
-        except TooLong:
-            held.close()
-            return of_user(413, "RequestTooLargeException", f"Payload exceeds {LONGEST} bytes", identifier)
-        except BaseException:
-            held.close()
-            raise
-        headers = headers_to_send(request.headers)
-        return await response_stream.invoke_with_response_stream(self.client, self.streams, target, headers,
-                                                                 payload, held.close)
+        kind = first(request.headers, TYPE.lower())
+        if kind == "DryRun":
+            return Reply(204, [("x-amzn-requestid", identifier)])
+        if kind not in SYNCHRONOUS:
+            return WRONG_TYPE
+        payload = await request.body.whole(LONGEST)
+        return await response_stream.invoke_with_response_stream(self.client, self.streams, target,
+                                                                 trace_of(request.headers), payload)
 
     async def of_function(self, operation: str, name: str, identifier: str) -> Reply:
         configuration = self.of_member(name)

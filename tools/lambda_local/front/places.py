@@ -8,7 +8,6 @@ from .budget import Unread
 
 MOST = 1024  # connections at once, at all ports together
 LEAST = 16
-RESERVE = 16  # further ones, in which only the requests of the service itself are served: its counts, its stop
 A_REQUEST = 2  # descriptors: its own connection, and one to the service
 # Of the process itself, and of each environment: its output, the watch over it
 OTHER_DESCRIPTORS, AN_ENVIRONMENT = 128, 6
@@ -18,7 +17,6 @@ A_PROXY, WITH_TELEMETRY = 8, 32
 
 class Holder(Protocol):
     """What has a place."""
-    is_in_reserve: bool
 
     def give_way(self) -> None:
         """Ends it."""
@@ -29,28 +27,25 @@ def places_for(environments: int, of_proxies: int = 0) -> int:
     asks for no more than that, since what it starts has the same limit."""
     others = OTHER_DESCRIPTORS + AN_ENVIRONMENT * environments + of_proxies
     soft, hard = resource.getrlimit(resource.RLIMIT_NOFILE)
-    wanted = others + A_REQUEST * (MOST + RESERVE)
+    wanted = others + A_REQUEST * MOST
     if soft != resource.RLIM_INFINITY and soft < wanted:
         soft = wanted if hard == resource.RLIM_INFINITY else min(wanted, hard)
         resource.setrlimit(resource.RLIMIT_NOFILE, (soft, hard))
     left = wanted if soft == resource.RLIM_INFINITY else soft
-    return max(LEAST, min(MOST, (left - others) // A_REQUEST - RESERVE))
+    return max(LEAST, min(MOST, (left - others) // A_REQUEST))
 
 
 class Places:
-    def __init__(self, most: int = MOST, reserve: int = RESERVE) -> None:
-        self.most, self.reserve = most, reserve
+    def __init__(self, most: int = MOST) -> None:
+        self.most = most
         self.taken: Set[Holder] = set()
         self.waiting: Dict[Holder, bool] = {}  # those that wait for a whole request, the longest first
         self.unread = Unread()  # of their answers
 
     def take(self, connection: Holder) -> bool:
-        """Whether there is a place for a newcomer; then it is in the reserve if no other place could be had."""
-        if len(self.taken) >= self.most:
-            self.make_room()
-        if len(self.taken) >= self.most + self.reserve:
+        """Whether there is a place for a newcomer."""
+        if len(self.taken) >= self.most and not self.make_room():
             return False
-        connection.is_in_reserve = len(self.taken) >= self.most
         self.taken.add(connection)
         self.waits(connection)
         return True

@@ -10,7 +10,7 @@ from ..streaming.streams import Fault, Stream, Streams
 from .client import Client
 from .http import Headers, Malformed, Reply, Request, first
 from .payload import Unmappable, cookies_in, headers_in, status_in
-from .relay import refusal_by_service
+from .names import refusal_by_service
 from .wire import Gone
 
 Whole = Tuple[int, Headers, bytes]
@@ -174,10 +174,9 @@ def stream_headers(identifier: str) -> List[Tuple[str, str]]:
             ("x-amzn-RequestId", identifier)]
 
 
-async def invoke_with_response_stream(client: Client, streams: Streams, target: str, headers: Headers, payload: bytes,
-                                      when_answered: Callable[[], None]) -> Reply:
+async def invoke_with_response_stream(client: Client, streams: Streams, target: str, headers: Headers,
+                                      payload: bytes) -> Reply:
     invocation = Invocation(client, streams, target, headers, payload)
-    invocation.answer.add_done_callback(lambda _: when_answered())
     start = await invocation.first()
     if isinstance(start, Start):
         return Reply(200, stream_headers(start.identifier), pieces=BodyOfStream(invocation, event_stream(start.stream)))

@@ -8,7 +8,6 @@ from typing import Optional, Protocol, Set
 from ..http1 import CLOSED, NEED_DATA, CutShort, Event, Malformed, Request as Head, RequestReader
 from ..outgoing import Log, several
 from .client import NoDescriptor
-from .followers import is_short
 from .http import Body, Reply, Request, words_of
 from .newcomers import Newcomers
 from .patience import LINGER_BYTES, Patience, Phase
@@ -38,7 +37,7 @@ class Connection:
     """One caller."""
 
     def __init__(self, server: "Server") -> None:
-        self.server, self.is_in_reserve = server, False
+        self.server = server
         self.wire = Wire(RequestReader(), self.lost)
         self.patience = Patience(self.wire)
         self.task: "Optional[asyncio.Task[None]]" = None
@@ -97,7 +96,7 @@ class Connection:
     async def answer(self, request: Request) -> Reply:
         """What is answered to a request. A fault of the front's own is answered too, and reported."""
         try:
-            reply = await self.server.reply_to(request, self.is_in_reserve)
+            reply = await self.server.port.handle(request)
             if request.body.is_here and not request.body.is_read:
                 # (a refusal that needs no body: the connection can be kept)
                 await request.body.whole(request.body.length or 0)
@@ -202,12 +201,6 @@ class Server:
                                "of answers wait, and their readers take nothing", level="error", kind="http")
 
     # ---- what is answered --------------------------------------------------------------------------------------------
-
-    async def reply_to(self, request: Request, is_in_reserve: bool) -> Reply:
-        if is_in_reserve and not is_short(request.path):
-            reply = self.refusal(503, "All places for connections are taken")
-            return reply._replace(headers=[*reply.headers, ("connection", "close")])
-        return await self.port.handle(request)
 
     def malformed_reply(self, fault: Malformed, request: Optional[Request]) -> Reply:
         """The answer to what is not HTTP/1.1, which is reported."""

@@ -11,9 +11,8 @@ from typing import AsyncIterator, Callable, Dict, Iterator, Optional, Sequence, 
 from ..outgoing import Log
 from ..storm import THROTTLE, WORDS, Course, Maker, NotMade, Order, Outcome, Storm, Tally
 from .client import Client
-from .events import function_of, target_of
+from .events import TRACE, TYPE, function_of, target_of
 from .http import Answer, first
-from .relay import TRACE, TYPE
 
 MAKE_SECONDS = 10.0  # as long others of a function wait for one that is to meet trouble
 LOOK_SECONDS = 0.005  # between two looks
@@ -256,11 +255,10 @@ class StormyClient(Client):
         self.gate = gate
 
     @contextlib.asynccontextmanager
-    async def exchange(self, method: str, target: str, headers: Fields = (), length: int = 0,
-                       pieces: Optional[AsyncIterator[bytes]] = None, body: bytes = b"",
+    async def exchange(self, method: str, target: str, headers: Fields = (), length: int = 0, body: bytes = b"",
                        is_again: bool = False) -> AsyncIterator[Answer]:
         async with self.gate.passing(method, target, headers, is_again) as trouble:
-            async with super().exchange(method, target, headers, length, pieces, body) as answer:
+            async with super().exchange(method, target, headers, length, body) as answer:
                 if trouble is not None:
                     await self.gate.answered(trouble, answer)
                 yield answer

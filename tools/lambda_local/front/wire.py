@@ -34,8 +34,6 @@ class Wire(asyncio.Protocol):
         self.waiting: "Optional[asyncio.Future[None]]" = None
         self.draining: "Optional[asyncio.Future[None]]" = None
         self.full_since = time.monotonic()  # while it drains: since when its peer takes too little
-        self.on_end: Optional[Callable[[], None]] = None
-        self.most_ahead = MOST_UNREAD
         self.touched, self.received = time.monotonic(), 0  # the last byte in one of the directions; bytes that came
 
     # ---- what asyncio tells ------------------------------------------------------------------------------------------
@@ -52,12 +50,10 @@ class Wire(asyncio.Protocol):
             self.is_paused = True
             self.transport.pause_reading()
         self._wake()
-        self._look_at_end()
 
     def eof_received(self) -> bool:
         self.reader.receive(b"")
         self._wake()
-        self._look_at_end()
         return True  # (the other direction stays open: a caller may end its side and wait for the answer)
 
     def connection_lost(self, fault: Optional[Exception]) -> None:
@@ -83,16 +79,6 @@ class Wire(asyncio.Protocol):
     def _wake(self) -> None:
         if self.waiting and not self.waiting.done():
             self.waiting.set_result(None)
-
-    def when_ended(self, call: Callable[[], None], most: int) -> None:
-        """Has this called, once, when the peer has ended its side, or more than so many bytes wait before its end."""
-        self.on_end, self.most_ahead = call, most
-        self._look_at_end()
-
-    def _look_at_end(self) -> None:
-        if self.on_end and (self.reader.ended or len(self.reader.buffer) > self.most_ahead):
-            call, self.on_end = self.on_end, None
-            call()
 
     # ---- reading -----------------------------------------------------------------------------------------------------
 

@@ -13,14 +13,14 @@ import socket
 import threading
 from typing import Generator, Iterable, Iterator, List, Set
 
-from ..http1 import CLOSED, NEED_DATA, Data, EndOfMessage, Malformed, Response, ResponseReader, request_head
+from ..exchange import Answer
+from ..http1 import request_head
 from .entries import Entry
 from .reader import LONGEST_LINE, Reader
 from .shapes import NotTrace
 from .words import FAILURES, Word
 
 SILENCE = 30.0  # seconds without a byte
-AT_ONCE = 1 << 16  # bytes
 MOST_SAID = 200  # bytes of an answer that is none
 MOST_TRIES = 3  # to get a report; then its entry is taken without
 NO_DESCRIPTOR = (errno.EMFILE, errno.ENFILE)
@@ -93,7 +93,7 @@ class Running:
                 return
             except socket.timeout:
                 pass  # (it was silent: it is asked again)
-            except (Lost, Malformed, OSError) as fault:
+            except (Lost, OSError) as fault:
                 if not self._is_closed:
                     raise lost(fault) from None
 
@@ -130,28 +130,16 @@ class Running:
     def _answer(self, connection: socket.socket, target: str) -> Iterator[bytes]:
         """The pieces of the body, as they come."""
         connection.sendall(request_head("GET", target, [("Host", f"127.0.0.1:{self.port}")]))
-        reader, status, said = ResponseReader(), 0, b""
-        while not isinstance(event := reader.next_event(), EndOfMessage):
-            if event is NEED_DATA:
-                reader.receive(self._received(connection, is_begun=status == 200))
-            elif event is CLOSED:
-                raise Lost("it has closed the connection")
-            elif isinstance(event, Response):
-                status = event.status
-            elif isinstance(event, Data) and status == 200:
-                yield event.data
-            elif isinstance(event, Data) and len(said) < MOST_SAID:
-                said += event.data
-        if status != 200:
-            raise Lost(f"GET {target}: {status} {said[:MOST_SAID].decode(errors='replace')}")
-
-    def _received(self, connection: socket.socket, is_begun: bool) -> bytes:
         try:
-            return connection.recv(AT_ONCE)
+            answer = Answer(connection, "GET")
         except socket.timeout:
-            if is_begun:
-                raise
             raise Lost(f"no answer within {self.silence:g} s") from None
+        if answer.status != 200:
+            said = b""
+            for piece in answer.pieces():
+                said = (said + piece)[:MOST_SAID]
+            raise Lost(f"GET {target}: {answer.status} {said.decode(errors='replace')}")
+        yield from answer.pieces()
 
 
 def has_report(entry: Entry) -> bool:

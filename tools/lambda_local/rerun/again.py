@@ -1,6 +1,5 @@
 """A recording, run again against a service."""
 import contextlib
-import http.client
 import time
 from collections import deque
 from typing import Callable, Deque, Dict, List, Optional, Sequence, Set, Tuple
@@ -33,7 +32,7 @@ def rerun(service: Service, recording: Recording, pointers: Sequence[Pointer] = 
         if of_functions:
             settle(service, before["admitted"] + len(served))
         history = service.history()
-    except (OSError, ValueError, http.client.HTTPException) as fault:
+    except (OSError, ValueError) as fault:
         raise Fault(2, f"the service ended before its history could be read: {fault}") from None
     now = parsed(history, "the new history", service.program).invocations
     identified = Identified(now)

@@ -5,7 +5,7 @@ import re
 from typing import Dict, List, NamedTuple, Optional
 
 ROOT = re.compile(r"(?:^|;)[ \t]*Root=([^;]*)")
-OF_FRONT = re.compile(r"(?:^|;)From=lambda_local(?:;|$)")
+OF_UP = re.compile(r"(?:^|;)From=lambda_local(?:;|$)")
 NO_ROOT = "1-00000000-000000000000000000000000"  # what the service gives a runtime for a caller that gave none
 
 
@@ -29,7 +29,7 @@ class Roots:
     """Follows the Invokes of a history."""
 
     def __init__(self) -> None:
-        self.own: Dict[str, int] = {}  # tickets, by the roots that runtimes and the front make
+        self.own: Dict[str, int] = {}  # tickets, by the roots that runtimes make, and that `up` made
         self.given: Dict[str, List[int]] = {}  # those in flight, by the roots that callers gave
         self.open: Dict[int, Optional[str]] = {}  # the roots of all in flight
 
@@ -41,7 +41,7 @@ class Roots:
         self.open[ticket] = root
         if request is not None:
             self.own.setdefault(own_root(request), ticket)
-        if root is not None and made is None and OF_FRONT.search(trace or ""):
+        if root is not None and made is None and OF_UP.search(trace or ""):
             self.own[root] = ticket
         if root is not None and made is None:
             self.given.setdefault(root, []).append(ticket)
@@ -51,7 +51,7 @@ class Roots:
         if root is None:
             return None
         if root == NO_ROOT:
-            return Made(None) if self.open else None
+            return Made(None)
         if root in self.own:
             return Made(self.own[root])
         return Made(self.given[root][0]) if root in self.given else None

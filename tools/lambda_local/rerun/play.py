@@ -1,11 +1,11 @@
 """Sends recorded invocations to a service, as many at once as were in flight when they were recorded."""
-import http.client
 import threading
 import time
 from typing import Callable, List, Mapping, NamedTuple, Optional, Sequence, Tuple
 from urllib.parse import quote
 
-from ..service import Fault
+from ..exchange import Answer, sent
+from ..program import Fault
 from .record import Invocation
 
 LATE = 30  # seconds beyond a function's timeout, after which the service does not answer
@@ -49,14 +49,10 @@ class Attempt(threading.Thread):
         if self.invocation.qualifier:
             path += "?Qualifier=$LATEST"
         headers = {} if self.invocation.trace is None else {"X-Amzn-Trace-Id": self.invocation.trace}
-        connection = http.client.HTTPConnection("127.0.0.1", self.port, timeout=self.timeout)
-        try:
-            connection.request("POST", path, self.invocation.payload, headers)
+        with sent(self.port, "POST", path, self.invocation.payload, headers, self.timeout) as connection:
             self.is_sent.set()
-            answer = connection.getresponse()
-            return answer.status, answer.getheader("x-amzn-RequestId"), answer.read()
-        finally:
-            connection.close()
+            answer = Answer(connection, "POST")
+            return answer.status, answer.headers.get("x-amzn-requestid"), answer.whole()
 
 
 def play(port: int, invocations: Sequence[Invocation], timeouts: Mapping[str, int], one_by_one: bool = False,

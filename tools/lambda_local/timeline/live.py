@@ -1,14 +1,16 @@
 """Follows a service that runs, and shows it on a page that updates itself (`served`)."""
-import http.client
+import contextlib
 import signal
 import threading
 from datetime import datetime, timezone
 from typing import Callable, Optional, Tuple
 from urllib.parse import urlsplit
 
+from ..exchange import asked
 from ..history.opening import Configuration, read_configuration
-from ..history.running import Lost, Running
+from ..history.running import Lost, Running, lines_in
 from ..history.script import FORM_2
+from ..history.shapes import NotTrace
 from ..outgoing import tell
 from ..program import Fault
 from .live_page import fragment
@@ -33,17 +35,12 @@ def port_of(url: str) -> int:
 
 def configuration_of(port: int) -> Configuration:
     """The configuration of a service, which is the second line of its history."""
-    connection = http.client.HTTPConnection("127.0.0.1", port, timeout=SILENCE)
-    try:
-        connection.request("GET", "/_local/history")
-        answer = connection.getresponse()
-        opening = answer.readline(len(FORM_2) + 2) if answer.status == 200 else b""
-        if opening != FORM_2 + b"\n":
-            raise Fault(
-                2, f"GET /_local/history returns no history (status {answer.status}): this is not lambda_local")
-        return read_configuration(answer.readline().rstrip(b"\n"), True)
-    finally:
-        connection.close()
+    with asked(port, "GET", "/_local/history", timeout=SILENCE) as answer:
+        lines = lines_in(answer.pieces() if answer.status == 200 else ())
+        with contextlib.suppress(NotTrace):
+            if next(lines, b"") == FORM_2:
+                return read_configuration(next(lines, b""), True)
+        raise Fault(2, f"GET /_local/history returns no history (status {answer.status}): this is not lambda_local")
 
 
 class Live:
@@ -59,7 +56,7 @@ class Live:
             self.begin()
         except Fault as fault:
             raise Fault(2, f"--live {url}: {fault}") from None
-        except (OSError, http.client.HTTPException) as fault:
+        except OSError as fault:
             raise Fault(2, f"--live {url}: no service answers there: {words_of(fault)}") from None
         self.thread = threading.Thread(target=self.follow, daemon=True)
         self.when_broken: Callable[[], object] = self.ended.set
@@ -78,7 +75,7 @@ class Live:
             while not self.ended.is_set():
                 try:
                     self.take()
-                except (OSError, http.client.HTTPException) as fault:
+                except OSError as fault:
                     self.lose(words_of(fault))
                 except (Fault, Lost, ValueError) as fault:  # what answers there is none, or not any more
                     self.lose(str(fault))

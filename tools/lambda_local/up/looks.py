@@ -1,6 +1,5 @@
 """What lambda_local up looks at after the account has changed, and otherwise now and then: what environments need, and
 how much room and memory are left."""
-import http.client
 import time
 from typing import Awaitable, Callable, List, NamedTuple, Optional
 
@@ -40,7 +39,7 @@ class Looks:
         try:
             if (work := hook.run()) is not None:
                 await work
-        except (OSError, http.client.HTTPException):
+        except OSError:
             pass  # (a service that has just ended answers no one)
         except Exception as fault:
             self.watch.log("up", f"could not {hook.task}: {told(fault)}", level="error", kind="fault")

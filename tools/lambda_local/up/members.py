@@ -295,7 +295,6 @@ def load(path: str, debug: Optional[str] = None, salt: Optional[int] = None, onl
     configuration: Members = {"account": "123456789012", "region": "us-east-1", **own,
                               "functions": [function.part for function in functions]}
     front = settings.settings_of(whole, os.path.dirname(os.path.abspath(path)))
-    configuration.pop("invokePort", None)  # (the front has it)
     if salt is not None:
         configuration["salt"] = salt
     return configuration, functions, front

@@ -75,6 +75,8 @@ class Parts:
         configuration, self.functions, self.settings = load(
             options.up, options.debug, options.salt, options.only, options.allow_unready, self.project.whole,
             options.patient)
+        if options.storm:
+            configuration.pop("invokePort", None)  # (it is the port of the storm)
         for note in self.functions[0].notes_of_all:
             self.say(note)
         self.queues = queues_of(self.settings.functions)
@@ -158,7 +160,6 @@ class Parts:
         troubles = self.troubles
         troubles.look_after(self.environments)
         if gate := self.front.gate:
-            self.service.through = self.front.invoke_port
             troubles.still, troubles.sent = functools.partial(gate.still, self.loop), gate.unanswered
         self.front.port.trouble = troubles.order
         self.watch.followers.append(troubles.take)

@@ -2,7 +2,6 @@
 batches, and are deleted if it succeeds; what it reports in `batchItemFailures` stays. The queue is another server of
 SQS's API, which boto3 asks; how long messages are invisible, and where they go in the end, is its own business."""
 import base64
-import http.client
 import json
 import sys
 import threading
@@ -209,7 +208,7 @@ class Poller(Asking):
                 path = f"/2015-03-31/functions/{self.function}/invocations"
                 status, headers, body = ask(self.service.through, "POST", path, event,
                                             {AGAIN: "1"} if is_again else {}, timeout=INVOKE_SECONDS)
-            except (OSError, http.client.HTTPException) as fault:
+            except OSError as fault:
                 return Invoked(None, f"has no outcome: {one_line(fault)}")
             if status != 429:
                 break

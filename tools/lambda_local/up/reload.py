@@ -1,6 +1,5 @@
 """Begins a function's environments anew when its files change."""
 import fnmatch
-import http.client
 import os
 import re
 import threading
@@ -185,7 +184,7 @@ class Reload(threading.Thread):
             seen, own = now, own_now
             try:
                 self.spin_down()
-            except (OSError, http.client.HTTPException):
+            except OSError:
                 return  # (the service has ended)
 
     def look(self, files: Dict[str, Files]) -> Dict[str, Times]:

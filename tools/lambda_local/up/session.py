@@ -2,12 +2,12 @@
 order."""
 import asyncio
 import contextlib
-import http.client
 import os
 import signal
 import time
 from typing import Callable, List, Optional, Sequence, Tuple, TypeVar
 
+from ..exchange import Unanswered
 from ..guard_process import end_all_below
 from ..outgoing import written
 from ..reports import Report
@@ -165,11 +165,11 @@ class Session(Parts):
         try:
             with written(path) as file:
                 self.service.save_history(file)
+        except Unanswered as fault:
+            self.say(f"the history could not be saved: {fault}", level="error")
+            return False
         except OSError as fault:
             self.say(f"the history could not be saved: {path}: {fault.strerror or fault}", level="error")
-            return False
-        except http.client.HTTPException as fault:
-            self.say(f"the history could not be saved: {fault}", level="error")
             return False
         self.say(f"the history is in {path}")
         return True

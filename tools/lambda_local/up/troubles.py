@@ -4,7 +4,6 @@ runtimes are stopped by a signal before the invocation comes, so that none answe
 the next generation is held until the invocation is bound to it."""
 import asyncio
 import contextlib
-import http.client
 import os
 import signal
 import threading
@@ -165,7 +164,7 @@ class Troubles:
                     raise NotMade("its environments do not end")
                 time.sleep(REST)
                 self.watch.refresh()
-        except (OSError, http.client.HTTPException, NotMade) as fault:
+        except (OSError, NotMade) as fault:
             self.withdraw(order)
             raise NotMade(told(fault) if not isinstance(fault, NotMade) else str(fault)) from None
 
@@ -245,7 +244,7 @@ class Troubles:
         try:
             status, _, body = ask(self.watch.service.port, *advance(milliseconds))
             why = "" if status == 200 else f"{status} {body[:200].decode(errors='replace')}"
-        except (OSError, http.client.HTTPException) as fault:
+        except OSError as fault:
             why = told(fault)
         if why:
             self.log("up", f"trouble: {name} does not time out: {why}", level="error", kind="trouble")

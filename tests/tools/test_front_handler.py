@@ -1,0 +1,347 @@
+"""Checks the handler of what the service hands over: how it reads a request, and what is none; what it posts; that it
+goes on after each fault of the service, tells it, and holds a bounded number of connections; and that what it answers
+in the service's words is what the service says without it. The program is LAMBDA_LOCAL_PROGRAM, else ./lambda_local."""
+import asyncio
+import contextlib
+import json
+import socket
+import threading
+import time
+from typing import Any, AsyncIterator, Dict, Iterator, List, Tuple
+
+from lambda_local.front import handler as handlers
+from lambda_local.front.handed import NotHanded, handed_of
+from lambda_local.front.handler import Handler
+from lambda_local.front.http import Reply, Request
+from lambda_local.service import Service, ask
+from tests.library.cases import Case
+from tests.library.events_kit import READY, Caller, caller_of, invoke_path
+from tests.library.failing_service import answer, head_in
+from tests.library.up_kit import Up, until
+
+PATIENCE = 60  # seconds, on a machine that does much else
+HEAD = {"id": 7, "port": 9100, "method": "POST", "target": "/a/b?c=d", "headers": [["host", "a"], ["x", "\xe9"]]}
+CONFIGURATION = {"account": "123456789012", "region": "us-east-1", "functions": [{"name": "f", "ports": [0]}]}
+NO_LOG: Any = lambda *_, **__: None
+
+
+def line_of(**members: object) -> bytes:
+    return json.dumps({**HEAD, **members}).encode() + b"\n"
+
+
+BAD_IDS: Tuple[Any, ...] = (-1, 2 ** 64, "7", 7.0, True, None)
+BAD_HEADERS: Tuple[Any, ...] = (None, {}, "a", [None], [["a"]], [["a", "b", "c"]], [["a", 1]], [["a b", "c"]],
+                                [["", "c"]], [["a", "b\r\nc: d"]], [["a", "\u20ac"]])
+# What is none, and a word of why.
+WRONG: Tuple[Tuple[bytes, str], ...] = (
+    (b"", "no end"), (line_of()[:-1], "no end"), (b"\n", "its line"), (b"{}\n", "other members"), (b"[]\n", "members"),
+    (b"\xff\n", "its line"), (b"[" * 9000 + b"\n", "its line"), (line_of(more=1), "members"),
+    *((line_of(id=one), "id") for one in BAD_IDS),
+    *((line_of(port=one), "port") for one in (-1, 65536, "9100", None)),
+    *((line_of(method=one), "method") for one in ("", "a b", "a\r\nb", 7, None)),
+    *((line_of(target=one), "target") for one in ("a b", "/a b", "/\r\nX: y", "/\0", "//a/\ud800", 7, None, "/a<b")),
+    *((line_of(headers=one), "headers") for one in BAD_HEADERS))
+
+
+class Hostile(threading.Thread):
+    """A service that does these deeds, one on each connection: it sends this to a `next`, this to the post, and closes
+    the connection. What it was sent is kept."""
+
+    def __init__(self, *deeds: Tuple[bytes, bytes]) -> None:
+        super().__init__(daemon=True)
+        self.deeds, self.posts, self.connections, self.open = list(deeds), [b""] * 0, 0, 0
+        self.listener = socket.create_server(("127.0.0.1", 0))
+        self.port = self.listener.getsockname()[1]
+        self.start()
+
+    def run(self) -> None:
+        with contextlib.suppress(OSError):
+            while True:
+                peer, _ = self.listener.accept()
+                self.connections += 1
+                threading.Thread(target=self.serve, args=(peer, ), daemon=True).start()
+
+    def serve(self, peer: socket.socket) -> None:
+        with peer, peer.makefile("rb") as stream, contextlib.suppress(OSError):
+            if handlers.HERE.encode() in head_in(stream):
+                return peer.sendall(answer(204, b""))
+            given, said = self.deeds.pop(0) if self.deeds else (b"", b"")
+            if not given:
+                peer.recv(1)  # (it waits)
+                return
+            peer.sendall(given)
+            self.posts.append(head_in(stream))
+            peer.sendall(said)
+            if said:
+                self.posts.append(stream.read1(1 << 16))
+
+    def close(self) -> None:
+        self.listener.shutdown(socket.SHUT_RDWR)
+        self.listener.close()
+
+
+class Running:
+    """A handler of a service, in a loop of its own."""
+
+    def __init__(self, port: int, reply: Any) -> None:
+        self.told: List[str] = []
+        self.loop, self.ready = asyncio.new_event_loop(), threading.Event()
+        log: Any = lambda _who, text, **_: self.told.append(text)
+        self.handler = Handler(port, {port: reply, 9100: reply}, log)
+        self.thread = threading.Thread(target=self.run, daemon=True)
+        self.thread.start()
+        self.handler.is_known.wait(PATIENCE)
+
+    def run(self) -> None:
+        self.loop.run_until_complete(self.handler.start())
+        self.loop.run_forever()
+        self.loop.run_until_complete(self.handler.stop())
+        self.loop.close()
+
+    def __enter__(self) -> "Running":
+        return self
+
+    def __exit__(self, *_: object) -> None:
+        self.loop.call_soon_threadsafe(self.loop.stop)
+        self.thread.join(PATIENCE)
+
+
+async def ok(_request: Request) -> Reply:
+    return Reply(200, [("x-one", "1"), ("Connection", "close"), ("content-length", "9")], b"ok")
+
+
+class Slow:
+    """A body of pieces, which counts how often it is closed."""
+
+    def __init__(self, pieces: List[bytes], seconds: float, fault: Any = None) -> None:
+        self.pieces, self.seconds, self.fault, self.closed = pieces, seconds, fault, 0
+
+    async def __aiter__(self) -> AsyncIterator[bytes]:
+        for piece in self.pieces:
+            yield piece
+            await asyncio.sleep(self.seconds)
+        if self.fault:
+            raise self.fault
+
+    async def aclose(self) -> None:
+        self.closed += 1
+
+
+@contextlib.contextmanager
+def real() -> Iterator[Service]:
+    service = Service(CONFIGURATION)
+    try:
+        yield service
+    finally:
+        service.kill()
+
+
+def plain(given: Tuple[int, Dict[str, str], bytes]) -> Tuple[int, Dict[str, str], bytes]:
+    return given[0], {name: value for name, value in given[1].items() if name != "date"}, given[2]
+
+
+class FrontHandler(Case):
+    def test_a_request_is_read_as_it_was_sent(self) -> None:
+        handed = handed_of(line_of() + b"\n\0body")
+        request = handed.request
+        self.check("its number and its port", (handed.number, handed.port), (7, 9100))
+        self.check("its head", (request.method, request.target, request.path, request.query, request.headers),
+                   ("POST", "/a/b?c=d", "/a/b", "c=d", [("host", "a"), ("x", "\xe9")]))
+        self.check("its body, byte for byte", asyncio.run(request.body.whole(6)), b"\n\0body")
+        self.check("a target beyond ASCII", handed_of(line_of(target="/\xe9")).request.path, "/\xc3\xa9")
+        self.check("that of a tunnel", handed_of(line_of(target="", method="CONNECT")).request.path, "")
+        self.check("any", handed_of(line_of(target="*", method="OPTIONS")).request.path, "*")
+
+    def test_what_is_none_is_refused_with_its_reason(self) -> None:
+        for given, word in WRONG:
+            try:
+                seen = str(handed_of(given))
+            except NotHanded as fault:
+                seen = f"refused: {fault}"
+            self.check(f"{given[:70]!r} is refused", (seen.startswith("refused: "), word in seen), (True, True),
+                       shown=seen)
+
+    def test_it_goes_on_after_each_fault_of_the_service_and_tells_it(self) -> None:
+        self.addCleanup(setattr, handlers, "BODY_SECONDS", handlers.BODY_SECONDS)
+        request, taken = answer(200, line_of() + b"body"), answer(202, b"")
+        over = answer(409, b'{"errorMessage":"It is over","errorType":"RequestIsOver"}')
+        wrong = answer(400, b'{"errorMessage":"A field is none","errorType":"InvalidResponse"}')
+        for name, given, said, wanted in (
+                ("is well", request, taken, None), ("whose requester has gone", request, over, None),
+                ("that refuses the answer", request, wrong, "A field is none"),
+                ("that refuses it without words", request, answer(413, b""), "413"),
+                ("that closes before the answer", request, b"", "has closed the connection"),
+                ("that answers no HTTP", request, b"hello\r\n\r\n", "has closed the connection"),
+                ("that gives no request", answer(200, b"{}\n"), b"", "what is no request"),
+                ("that gives no HTTP", b"hello\r\n\r\n", b"", None),
+                ("that refuses to give one", answer(404, b"gone"), b"", "it answers 404 gone"),
+                ("that breaks off", request[:-2], b"", None)):
+            service = Hostile((given, said), (request, taken))
+            handlers.BODY_SECONDS = 1.0
+            with Running(service.port, ok) as running:
+                self.check(f"a service {name}: the next request is answered", until(
+                    lambda: sum(b"/7/response" in post for post in service.posts) >= 1 + (given == request), 30), True)
+                until(lambda: running.told or not wanted, 10)
+                self.check("what is told", [wanted in line for line in running.told] if wanted else running.told,
+                           [True] if wanted else [])
+            service.close()
+
+    def test_the_end_of_the_service_is_the_end(self) -> None:
+        service = Hostile((answer(503, b'{"errorMessage":"The service has ended","errorType":"ServiceEnded"}'), b""))
+        with Running(service.port, ok) as running:
+            self.check("it asks no more", until(lambda: not running.handler.tasks, 10))
+            self.check("nothing is told", running.told, [])
+        service.close()
+
+    def test_an_answer_is_posted_with_the_fields_that_are_its_own(self) -> None:
+        service = Hostile((answer(200, line_of()), answer(202, b"")))
+        with Running(service.port, ok):
+            self.check("it is posted", until(lambda: service.posts, 10))
+            self.check("its fields", sorted(service.posts[0].split(b"\r\n")[2:-1]), [
+                b"Content-Length: 2", b"Lambda-Local-Header: x-one: 1", b"Lambda-Local-Status: 200"])
+        service.close()
+
+    def test_a_fault_of_an_answer_is_a_500_or_a_502_and_told(self) -> None:
+        async def reply(request: Request) -> Reply:
+            if request.path == "/raises":
+                raise KeyError("missing")
+            if request.path == "/breaks":
+                return Reply(200, pieces=Slow([b"one"], 0, KeyError("missing")))
+            return Reply(200, [("x", "a\r\nb")])
+        with real() as service, Running(service.port, reply) as running:
+            said = ask(service.port, "GET", "/raises", timeout=PATIENCE)
+            self.check("one that raises", (said[0], said[1]["x-amzn-errortype"]), (500, "ServiceException"))
+            self.check("one that cannot be written", ask(service.port, "GET", "/unwritable", timeout=PATIENCE)[0], 502)
+            with contextlib.suppress(Exception):
+                seen = ask(service.port, "GET", "/breaks", timeout=PATIENCE)
+                self.check("one that breaks off is not taken for whole", seen[0], 502)
+            self.check("each is told", [any(word in line for line in running.told) for word in
+                                        ("GET /raises cannot be answered: KeyError", "GET /unwritable gets 502",
+                                         "an answer breaks off: KeyError")], [True] * 3, shown=running.told)
+            self.check("and all goes on", ask(service.port, "GET", "/raises", timeout=PATIENCE)[0], 500)
+
+    def test_what_takes_long_holds_nothing_up_and_few_connections_stay(self) -> None:
+        gate: "List[asyncio.Event]" = []
+
+        async def reply(request: Request) -> Reply:
+            if request.path == "/long":
+                gate.append(asyncio.Event())
+                await gate[-1].wait()
+            return Reply(200)
+        with real() as service, Running(service.port, reply) as running:
+            long = [threading.Thread(target=ask, args=(service.port, "GET", "/long"), kwargs={"timeout": PATIENCE})
+                    for _ in range(40)]
+            for thread in long:
+                thread.start()
+            self.check("40 are at work", until(lambda: len(gate) == 40, 30))
+            self.check("another is answered", ask(service.port, "GET", "/short", timeout=PATIENCE)[0], 200)
+            most, handlers.MOST = handlers.MOST, 40
+            for one in gate:
+                running.loop.call_soon_threadsafe(one.set)
+            for thread in long:
+                thread.join(PATIENCE)
+            handlers.MOST = most
+            self.check("then few connections stay", until(lambda: len(running.handler.tasks) <= handlers.SPARE, 10),
+                       shown=len(running.handler.tasks))
+            self.check("which answer", ask(service.port, "GET", "/short", timeout=PATIENCE)[0], 200)
+
+    def test_no_more_than_the_most_are_at_work(self) -> None:
+        held = threading.Semaphore(0)
+        now, highest = [0], [0]
+
+        async def reply(request: Request) -> Reply:
+            now[0] += 1
+            highest[0] = max(now[0], highest[0])
+            await asyncio.get_running_loop().run_in_executor(None, held.acquire)
+            now[0] -= 1
+            return Reply(200)
+        most, handlers.MOST = handlers.MOST, 3
+        try:
+            with real() as service, Running(service.port, reply):
+                seen: List[int] = []
+                asking = [threading.Thread(target=lambda: seen.append(ask(service.port, "GET", "/x",
+                                                                          timeout=PATIENCE)[0])) for _ in range(9)]
+                for thread in asking:
+                    thread.start()
+                until(lambda: now[0] == 3, 10)
+                time.sleep(0.5)
+                self.check("three are at work, and six wait in the service", (now[0], highest[0], seen), (3, 3, []))
+                for _ in range(9):
+                    held.release()
+                for thread in asking:
+                    thread.join(PATIENCE)
+                self.check("each is answered", (seen, highest[0] <= 3), ([200] * 9, True))
+        finally:
+            handlers.MOST = most
+
+    def test_bodies_that_are_held_are_bounded(self) -> None:
+        held, sizes = threading.Semaphore(0), []
+
+        async def reply(request: Request) -> Reply:
+            sizes.append(request.body.length)
+            await asyncio.get_running_loop().run_in_executor(None, held.acquire)
+            return Reply(200)
+        most, handlers.MOST_HELD = handlers.MOST_HELD, 1000
+        try:
+            with real() as service, Running(service.port, reply) as running:
+                asking = [threading.Thread(target=ask, args=(service.port, "POST", "/x", b"x" * 900),
+                                           kwargs={"timeout": PATIENCE}) for _ in range(20)]
+                for thread in asking:
+                    thread.start()
+                time.sleep(1)
+                self.check("what is held is bounded", len(sizes) <= 2 + handlers.SPARE, True, shown=len(sizes))
+                for _ in range(20):
+                    held.release()
+                for thread in asking:
+                    thread.join(PATIENCE)
+                self.check("each is answered", len(sizes), 20)
+                self.check("and nothing is held", until(lambda: running.handler.held == 0, 10))
+        finally:
+            handlers.MOST_HELD = most
+
+    def test_a_body_that_comes_is_passed_on_and_closed(self) -> None:
+        body = Slow([b"one ", b"", b"two"], 0.05)
+
+        async def reply(request: Request) -> Reply:
+            return Reply(201, [("x", "y")], pieces=body)
+        with real() as service, Running(service.port, reply) as running:
+            status, headers, content = ask(service.port, "GET", "/pieces", timeout=PATIENCE)
+            self.check("it is whole", (status, headers["x"], content), (201, "y", b"one two"))
+            self.check("and closed", until(lambda: body.closed == 1, 10), shown=body.closed)
+            status, _, content = ask(service.port, "HEAD", "/pieces", timeout=PATIENCE)
+            self.check("HEAD has none of it", (status, content), (201, b""))
+            self.check("nothing is told", running.told, [])
+
+    def test_a_requester_that_goes_ends_its_answer(self) -> None:
+        body = Slow([b"x"] * 10_000, 0.02)
+
+        async def reply(request: Request) -> Reply:
+            return Reply(200, pieces=body)
+        with real() as service, Running(service.port, reply) as running:
+            peer = socket.create_connection(("127.0.0.1", service.port), timeout=PATIENCE)
+            peer.sendall(b"GET /endless HTTP/1.1\r\nHost: a\r\n\r\n")
+            time.sleep(0.5)
+            peer.close()
+            self.check("nothing is told", running.told, [])
+            self.check("another is answered", ask(service.port, "HEAD", handlers.HERE, timeout=PATIENCE)[0], 204)
+
+    def test_what_it_answers_in_the_services_words_is_what_the_service_says(self) -> None:
+        """Of unknown paths, functions, qualifiers and types, to the byte."""
+        asked = [("GET", "/nothing", {}), ("POST", "/a/b?c", {}), ("GET", "/_local/requests", {}),
+                 *(("POST", path, {"X-Amz-Invocation-Type": kind} if kind else {})
+                   for kind in (None, "RequestResponse", "Nonsense", "event")
+                   for path in [*(invoke_path(name) for name in (
+                       "g", "f:live", "f:7", "f:$LATEST", "arn:aws:lambda:us-east-1:123456789012:function:g",
+                       "arn:aws:lambda:us-east-1:123456789012:function:f:live", "999999999999:function:f", "f%2F",
+                       "arn:aws:lambda:eu-west-1:123456789012:function:f", "123456789012:function:f:%24LATEST")),
+                       invoke_path("f") + "?Qualifier=7", invoke_path("g") + "?Qualifier=$LATEST",
+                       invoke_path("f") + "/"]
+                   if kind not in (None, "RequestResponse") or "LATEST" not in path or "g" in path)]
+        with real() as bare:
+            up = Up(*READY, functions=[{"name": "f", "runtime": "python", "handler": "app.run"}],
+                    app="def run(event, context): return 7\n")
+            with caller_of(self, up) as caller, Caller(bare.endpoint_url) as direct:
+                for method, path, headers in asked:
+                    body = b"{}" if method == "POST" else None
+                    self.check(f"{method} {path} {headers}", plain(caller.ask(method, path, body, headers)),
+                               plain(direct.ask(method, path, body, headers)))

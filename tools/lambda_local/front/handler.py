@@ -1,0 +1,278 @@
+"""What the service hands over, and what is answered: connections that stay open, each of which asks for a request,
+answers it, and asks again (docs/formats.md, "Handlers of requests").
+
+As long as fewer than MOST are at work there is one that asks, so what is long holds nothing else up. What comes beyond
+that waits in the service, within its bounds; so it does while the bodies that are held here have MOST_HELD bytes."""
+import asyncio
+import contextlib
+import threading
+import time
+from typing import Awaitable, Callable, Dict, List, Optional, Set, Tuple
+
+from ..history.running import NO_DESCRIPTOR
+from ..http1 import Malformed, Unwritable, chunk, last_chunk, request_head
+from ..json_reader import NotJson, read_json
+from ..outgoing import Log
+from .client import Client, NoDescriptor, ServiceWire
+from .errors import of_service
+from .handed import LONGEST_LINE, Handed, NotHanded, handed_of
+from .http import OF_CONNECTION, Answer, Pieces, Reply, Request, TooLong
+from .tasks import begin_task
+from .wire import Gone
+
+REQUESTS = "/_local/requests/"
+HERE = "/_local/handler"  # no route of the service: it has one while a handler is here, which answers it
+MOST, SPARE = 256, 4  # connections; of which so many ask while nothing is to be done
+MOST_HELD = 64 << 20  # bytes of bodies; each connection that asks may get one more
+LONGEST = LONGEST_LINE + (6 << 20)  # bytes of a request, with its line
+PIECE = 128 << 10  # bytes of a body that are given to the system at once
+PAUSE = 0.1  # seconds, until a connection that has broken is made again
+BETWEEN_TELLS = 60.0  # seconds, of the same shortage
+BEGIN_SECONDS = 20.0  # until the service knows the handler
+BODY_SECONDS = 20.0  # for the body of an answer of the service, once its head is here
+LONGEST_SAID = 1 << 20  # bytes of an answer to a post
+OVER, ENDED = 409, 503  # the requester has gone; the service ends
+OWN_FIELDS = OF_CONNECTION | {"content-length"}  # which the service sets
+Port = Callable[[Request], Awaitable[Reply]]
+
+
+class Refused(Exception):
+    """The service does not take an answer: why."""
+
+
+class Unanswered(Exception):
+    """The connection has ended before the answer to this request."""
+
+
+class Handler:
+    """`ports` have what answers the requests to each port. It runs in the loop in which it is started."""
+
+    def __init__(self, service: int, ports: Dict[int, Port], log: Log) -> None:
+        self.service, self.ports, self.log = service, ports, log
+        self.tasks: "Set[asyncio.Task[None]]" = set()
+        self.asking = self.held = 0  # connections that ask; bytes of the bodies of requests that are answered
+        self.rooms: "List[asyncio.Future[None]]" = []  # those that wait until there is room for a body
+        self.last_told = -BETWEEN_TELLS
+        self.is_known = threading.Event()  # the service hands over, or has ended
+
+    async def start(self) -> None:
+        self.begin()
+        self.keep(begin_task(self.see(), "what sees whether the service hands over", self.tell))
+
+    async def stop(self) -> None:
+        ending = list(self.tasks)
+        for task in ending:
+            task.cancel()
+        await asyncio.gather(*ending, return_exceptions=True)
+
+    def begin(self) -> None:
+        """Makes one more connection."""
+        self.asking += 1
+        self.keep(begin_task(self.attend(), "what answers requests that the service hands over", self.tell))
+
+    def keep(self, task: "asyncio.Task[None]") -> None:
+        self.tasks.add(task)
+        task.add_done_callback(self.tasks.discard)
+
+    def tell(self, text: str) -> None:
+        self.log("up", text, level="error", kind="http")
+
+    async def see(self) -> None:
+        """Waits until a request is handed over, which is its own."""
+        client = Client(self.service)
+        try:
+            while (await client.ask("GET", HERE))[0] == 404:
+                await asyncio.sleep(0.001)
+        except Gone:
+            pass  # (it has ended: nothing is waited for)
+        finally:
+            client.close()
+            self.is_known.set()
+
+    # ---- a connection ------------------------------------------------------------------------------------------------
+
+    async def attend(self) -> None:
+        """One connection, made again when it breaks, until it is not needed or the service ends. While it does not
+        answer a request it is counted as one that asks."""
+        unanswered = ""
+        while True:
+            wire: Optional[ServiceWire] = None
+            try:
+                _, wire = await asyncio.get_running_loop().create_connection(ServiceWire, "127.0.0.1", self.service)
+                if unanswered:
+                    self.tell(f"{unanswered} gets 502: the service has closed the connection of its handler")
+                    unanswered = ""
+                while await self.exchange(wire):
+                    pass
+                return
+            except Unanswered as fault:
+                unanswered = str(fault)  # (told if the service does not end)
+            except (Gone, Malformed):
+                pass  # (the service ends, or closes what is idle)
+            except NotHanded as fault:
+                self.tell(f"the service hands over what is no request: {fault}")
+            except OSError as fault:
+                if fault.errno in NO_DESCRIPTOR:
+                    self.tell_shortage()
+            except Exception as fault:
+                self.tell(f"an answer breaks off: {fault!r}"[:300])
+            finally:
+                if wire:
+                    wire.abort()
+            await asyncio.sleep(PAUSE)
+
+    async def exchange(self, wire: ServiceWire) -> bool:
+        """Asks for a request and answers it. Whether the connection is needed further."""
+        while self.held > MOST_HELD:
+            room = asyncio.get_running_loop().create_future()
+            self.rooms.append(room)
+            await room
+        handed = await self.next(wire)
+        if handed is None:
+            self.asking -= 1
+            return False
+        size = handed.request.body.length or 0
+        self.asking, self.held = self.asking - 1, self.held + size
+        if not self.asking and len(self.tasks) < MOST:
+            self.begin()
+        try:
+            await self.answer(wire, handed)
+        finally:
+            self.held -= size
+            self.asking += 1
+            while self.rooms:
+                room = self.rooms.pop()
+                if not room.done():
+                    room.set_result(None)
+        if self.asking > SPARE:
+            self.asking -= 1
+            return False
+        return True
+
+    async def next(self, wire: ServiceWire) -> Optional[Handed]:
+        """None if the service has ended."""
+        wire.transport.write(request_head("GET", f"{REQUESTS}next", self.host()))
+        status, body = await self.said(wire, "GET", LONGEST)
+        if status == ENDED:
+            return None
+        if status != 200:
+            raise NotHanded(f"it answers {status} {body[:200].decode(errors='replace')}")
+        return handed_of(body)
+
+    def host(self) -> List[Tuple[str, str]]:
+        return [("Host", f"127.0.0.1:{self.service}")]
+
+    @staticmethod
+    async def said(wire: ServiceWire, method: str, most: int = LONGEST_SAID) -> Tuple[int, bytes]:
+        """The status and body of the answer to what was sent last. Gone if a body that has begun does not come."""
+        answer: Answer = await Client.answer(wire, method)
+        try:
+            body = await (answer.body.whole(most) if answer.body.is_here else
+                          asyncio.wait_for(answer.body.whole(most), BODY_SECONDS))
+        except (asyncio.TimeoutError, TooLong):
+            raise Gone from None
+        if answer.keeps:
+            wire.reader.next_message()
+        else:
+            wire.abort()  # (what is sent or read next is Gone)
+        return answer.status, body
+
+    # ---- an answer ---------------------------------------------------------------------------------------------------
+
+    async def answer(self, wire: ServiceWire, handed: Handed) -> None:
+        request = handed.request
+        what = f"{request.method} {request.path[:200]}"
+        reply, is_told = await self.reply_to(handed, what), False
+        try:
+            if reply is not None:
+                try:
+                    return await self.post(wire, handed.number, reply)
+                except (Refused, Unwritable) as fault:
+                    is_told = True
+                    self.tell(f"{what} gets 502: {fault}")
+            wire.transport.write(self.posted(handed.number, "error", [("Content-Length", "0")]))
+            await self.said(wire, "POST")
+        except (Gone, Malformed):
+            is_broken = wire.is_lost or wire.reader.ended or wire.reader.fault is not None
+            if is_told or not is_broken:
+                raise  # (what is passed on breaks off, and its own line says why)
+            raise Unanswered(what) from None
+        finally:
+            if reply is not None and reply.pieces is not None:
+                await reply.pieces.aclose()
+
+    async def reply_to(self, handed: Handed, what: str) -> Optional[Reply]:
+        """None if there is none, for which its requester gets 502. A fault of our own is answered too, and reported."""
+        if handed.request.path == HERE:
+            return Reply(204)
+        try:
+            return await self.ports[handed.port](handed.request)
+        except NoDescriptor:
+            self.tell_shortage()
+            return of_service(503, "There are too many connections (ulimit -n)")
+        except (Gone, Malformed):
+            return None  # (the service has broken a connection off)
+        except Exception as fault:
+            self.tell(f"{what} cannot be answered: {fault!r}")
+            return of_service(500, "Internal Server Error")
+
+    def posted(self, number: int, how: str, fields: List[Tuple[str, str]]) -> bytes:
+        """The head of a post."""
+        return request_head("POST", f"{REQUESTS}{number}/{how}", [*self.host(), *fields])
+
+    async def post(self, wire: ServiceWire, number: int, reply: Reply) -> None:
+        """Refused if the service does not take it, Gone if the connection is broken, or has to be."""
+        fields = [("Lambda-Local-Status", str(reply.status)),
+                  *(("Lambda-Local-Header", f"{name}: {value}") for name, value in reply.headers
+                    if name.lower() not in OWN_FIELDS)]
+        if reply.pieces is None:
+            head = self.posted(number, "response", [*fields, ("Content-Length", str(len(reply.body)))])
+            await wire.write(head + reply.body[:PIECE])
+            for begin in range(PIECE, len(reply.body), PIECE):
+                await wire.write(reply.body[begin:begin + PIECE])
+            status, said = await self.said(wire, "POST")
+        else:
+            await wire.write(self.posted(number, "response", [*fields, ("Transfer-Encoding", "chunked")]))
+            status, said = await self.said_of_pieces(wire, reply.pieces)
+        if status not in (202, OVER):
+            raise Refused(f"the service answers {status}, {message_in(said)}")
+
+    async def said_of_pieces(self, wire: ServiceWire, pieces: Pieces) -> Tuple[int, bytes]:
+        """Sends a body as it comes. If the service answers before its end, it takes no more of it. What breaks off
+        breaks the connection off, and so the requester's response."""
+        loop = asyncio.get_running_loop()
+        said, sent = loop.create_task(self.said(wire, "POST")), loop.create_task(self.send(wire, pieces))
+        try:
+            await asyncio.wait({said, sent}, return_when=asyncio.FIRST_COMPLETED)
+            if sent.done():
+                await sent
+            else:
+                await asyncio.wait({said})
+                wire.abort()
+            return await said
+        finally:
+            for task in (said, sent):
+                task.cancel()
+            await asyncio.gather(said, sent, return_exceptions=True)
+
+    @staticmethod
+    async def send(wire: ServiceWire, pieces: Pieces) -> None:
+        async for piece in pieces:
+            if piece:
+                await wire.write(chunk(piece))
+        await wire.write(last_chunk())
+
+    def tell_shortage(self) -> None:
+        now = time.monotonic()
+        if now - self.last_told > BETWEEN_TELLS:
+            self.last_told = now
+            self.tell("no file descriptor is left for another connection (ulimit -n): callers wait")
+
+
+def message_in(said: bytes) -> str:
+    """What is wrong, as the service says it."""
+    with contextlib.suppress(NotJson):
+        value = read_json(said)
+        if isinstance(value, dict) and isinstance(value.get("errorMessage"), str):
+            return str(value["errorMessage"])
+    return said[:200].decode(errors="replace")
