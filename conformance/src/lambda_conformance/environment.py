@@ -1,9 +1,10 @@
 """An environment of a stage: its port in the service, the proxy before it, and the process that is tested."""
+import json
 import tempfile
 import time
 from typing import TYPE_CHECKING, Any, Callable, List, Optional
 
-from lambda_local.service import RUNTIME, ask
+from lambda_local.service import EXTENSION, RUNTIME, ask
 
 from .exchanges import Exchange
 from .kit import Missing
@@ -15,6 +16,14 @@ if TYPE_CHECKING:
     from .stage import Stage
 
 LOOK = 0.05  # seconds between two looks at what a process does
+IDENTIFIED = "Lambda-Extension-Identifier"
+FAILURE_TYPE = "Lambda-Extension-Function-Error-Type"
+
+
+def report_failure(port: int, identifier: str, message: str) -> None:
+    """Says for an extension that it exits, with which its environment is at its end."""
+    ask(port, "POST", EXTENSION + "exit/error", json.dumps({"errorMessage": message, "errorType": "Extension.Crash"}),
+        {IDENTIFIED: identifier, FAILURE_TYPE: "Extension.Crash"})
 
 
 class Environment:
@@ -58,6 +67,7 @@ class Environment:
         asked = len(self.proxy.of("next"))
         self.kill()
         self._end_open_invocation()
+        self.end_extensions()
         self.start()
         if not self.asked(asked + 1):
             raise Missing(self.stage.lacks("the new process did not ask for an invocation"))
@@ -69,6 +79,13 @@ class Environment:
                                  for one in self.proxy.of("response", "error")):
             ask(self.service_port, "POST", f"{RUNTIME}invocation/{delivered[-1]}/error",
                 b'{"errorType":"Runtime.ExitError","errorMessage":"the process has ended"}')
+
+    def end_extensions(self) -> None:
+        """Says that what its process has registered has ended with it, so that the service begins a generation in which
+        the next process can register. (It refuses what is said of an extension of an earlier one.)"""
+        for one in self.proxy.of("register"):
+            if one.status == 200 and not one.by_rule:
+                report_failure(self.service_port, one.told[IDENTIFIED.lower()], "its process has ended")
 
     def asked(self, count: int = 1, seconds: Optional[float] = None, kind: str = "next", real_seconds: float = 0,
               in_vain: Callable[[], Any] = lambda: False) -> bool:

@@ -2,11 +2,12 @@
 from typing import List
 
 from .. import pages
+from ..environment import FAILURE_TYPE
 from ..kit import Missing, Scenario, deed, scenarios_of
 from ..exchanges import Rule
 from ..stage import shown
 from ..watch import OwnTime
-from .stage import FAILURE_TYPE, ExtensionStage
+from .stage import ExtensionStage
 
 SCENARIOS: List[Scenario] = []
 scenario = scenarios_of(SCENARIOS)

@@ -1,7 +1,6 @@
 """The stage of an extension: the kit plays the runtime, and the extension is the command behind the proxy."""
 import contextlib
 import http.client
-import json
 import socket
 import threading
 import time
@@ -10,6 +9,7 @@ from typing import Any, Dict, List, Optional, Tuple
 from lambda_local.service import EXTENSION, RUNTIME, ask
 
 from ..clock import CLOCK
+from ..environment import IDENTIFIED, report_failure
 from ..kit import Jury, Missing, Scenario
 from ..exchanges import Exchange, Rule
 from ..parked import parked
@@ -18,8 +18,7 @@ from ..watch import OwnTime
 from .delivery import NothingListens, end_of, subscribed
 from .telemetry import Telemetry
 
-NAMED, IDENTIFIED = "Lambda-Extension-Name", "Lambda-Extension-Identifier"
-FAILURE_TYPE = "Lambda-Extension-Function-Error-Type"
+NAMED = "Lambda-Extension-Name"
 SHUTDOWN_SECONDS = 2  # that Lambda's Shutdown phase has
 SETTLES = 2  # seconds in which it asks again if its Next is refused
 SPARE = 0.15  # seconds in which an end is noticed
@@ -80,11 +79,6 @@ class Companion:
         self._poll.close()
 
 
-def report_failure(port: int, identifier: str, message: str) -> None:
-    ask(port, "POST", EXTENSION + "exit/error", json.dumps({"errorMessage": message, "errorType": "Extension.Crash"}),
-        {IDENTIFIED: identifier, FAILURE_TYPE: "Extension.Crash"})
-
-
 class ExtensionStage(Stage):
     """A stage whose environment has the extension; `begin` starts a generation of it."""
     poll_kind, first_kind = "event", "register"
@@ -143,10 +137,7 @@ class ExtensionStage(Stage):
         """Ends the process and its generation, so that another one can begin."""
         self.environment.kill()
         self._end_runtime()
-        registered = [one for one in self.environment.proxy.of("register") if one.status == 200]
-        if registered:
-            report_failure(self.environment.service_port, registered[-1].told["lambda-extension-identifier"],
-                           "the kit has ended it")
+        self.environment.end_extensions()
 
     def begin(self) -> None:
         """A generation: the extension registers and asks for its first event, then come the kit's companion and
