@@ -14,6 +14,7 @@ import time
 from typing import Set, Union
 
 from lambda_local.service import RUNTIME, Fault, Service, ask, wait_for
+from lambda_local.up.signal_event import SignalEvent
 from tests.library.cases import Case
 from tests.library.trees import write
 
@@ -97,6 +98,13 @@ class Stopping(Case):
         status, counts = service.stop()
         self.check("a service that is stopped in order", (status, counts.startswith("admitted")), (0, True))
         print(f"      (it took {1000 * (time.monotonic() - begun):.0f} ms)")
+
+    def test_a_signal_is_heard_at_each_point_of_a_wait(self):
+        """Its handler runs in the thread that waits, also while that has the lock of the event."""
+        event = SignalEvent()
+        with event.condition:
+            event.set()
+        self.check("it is set", event.wait(0), True)
 
     def test_a_program_that_never_starts_is_ended(self):
         """A program that closes its standard error and goes on is no service: it is ended."""

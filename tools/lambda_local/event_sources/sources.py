@@ -2,7 +2,7 @@
 import os
 import threading
 import time
-from typing import Any, Dict, List, Optional, Sequence
+from typing import Any, Callable, Dict, List, Optional, Sequence
 
 from ..clock.followed import Clock
 from ..other_server import host_of, is_refused
@@ -46,11 +46,11 @@ class Sources:
                             for topic in topics_of(list(functions))]
         self.threads += self.subscribers
 
-    def wait_until_begun(self, happened: threading.Event) -> None:
+    def wait_until_begun(self, is_over: Callable[[], bool]) -> None:
         """Until each has asked its server once, so that nothing is missed which a command does: a while at most."""
         end = time.monotonic() + BEGIN_SECONDS
         for event in [*(reader.begun for reader in self.readers), *(one.begun for one in self.subscribers)]:
-            while not event.wait(0.05) and not happened.is_set() and time.monotonic() < end:
+            while not event.wait(0.05) and not is_over() and time.monotonic() < end:
                 pass
 
     def end(self) -> None:

@@ -40,6 +40,7 @@ from .restarts import Restarts
 from .run import Run
 from .scaling import BETWEEN_LOOKS, Scaling
 from .schedules import Schedules
+from .signal_event import SignalEvent
 from .sources import queues_of, refuse_aws
 from .supervised import Supervisor
 from .tasks import Tasks
@@ -60,7 +61,7 @@ class Parts:
         self.options, self.log = options, log
         self.command: Optional[Run] = None
         self.is_served = False
-        self.happened, self.stopping = threading.Event(), threading.Event()  # something to look at; all is to end
+        self.happened, self.stopping = SignalEvent(), threading.Event()  # something to look at; all is to end
         self.ending = threading.Event()  # no further event is to be made
         self.signals, self.signal_number, self.kills_at = 0, 0, 2
         self.supervisor = Supervisor(log, self.happened.set)

@@ -76,7 +76,7 @@ class Session(Parts):
                 for thread in (self.clients, *self.sources):
                     thread.start()
                 self.schedules.begin()
-                self.event_sources.wait_until_begun(self.happened)
+                self.event_sources.wait_until_begun(self.happened.is_set)
                 if self.options.command:
                     status = self.run_command()
                 else:
