@@ -199,6 +199,13 @@ def plain(answer: Tuple[int, Dict[str, str], bytes]) -> Tuple[int, Dict[str, str
     return answer[0], {name: value for name, value in answer[1].items() if name != "date"}, answer[2]
 
 
+def status_of(port: int, request: bytes) -> int:
+    """That of the answer to these bytes."""
+    with socket.create_connection(("127.0.0.1", port), PATIENCE) as connection:
+        connection.sendall(request)
+        return int(connection.makefile("rb").readline().split()[1])
+
+
 def fault_of(answer: Tuple[int, Dict[str, str], bytes]) -> Tuple[int, str, str]:
     """The status of an answer in the form of the Lambda API, its type and its message."""
     said = json.loads(answer[2])
@@ -542,14 +549,18 @@ class Streams(WithService):
         handler.close()
 
     def test_some_answers_have_no_body(self) -> None:
-        handler = self.handler()
+        """A body that comes behind the head of its post then comes when the request is over."""
         for method, status in (("HEAD", 200), ("GET", 204), ("GET", 304)):
-            connection = http.client.HTTPConnection("127.0.0.1", self.service.port, timeout=PATIENCE)
+            handler, connection = self.handler(), http.client.HTTPConnection("127.0.0.1", self.service.port,
+                                                                             timeout=PATIENCE)
             connection.request(method, "/a")
             body = b"body" if status != 204 else b""
-            handler.answer(handler.next()[0], body, (("Lambda-Local-Status", str(status)),))
+            said = handler.answer(handler.next()[0], body, (("Lambda-Local-Status", str(status)),))
+            self.check(f"{method} {status}: its post is over", said in ((202, ""), (409, "RequestIsOver")))
             answer = connection.getresponse()
-            self.check(f"{method} {status}", (answer.status, answer.read()), (status, b""))
+            self.check("it has no body", (answer.status, answer.read()), (status, b""))
+            handler.close()
+            handler = self.handler()
             connection.request("GET", "/b")
             head, _ = handler.next()
             handler.begin(head)
@@ -557,7 +568,7 @@ class Streams(WithService):
             self.check("the connection goes on", handler.end(), (202, ""))
             self.check("with the next answer", connection.getresponse().read(), b"b")
             connection.close()
-        handler.close()
+            handler.close()
 
     def test_a_refused_stream_leaves_the_request(self) -> None:
         handler = self.handler()
@@ -647,8 +658,8 @@ class HandledPorts(WithService):
         page = ask(self.service.port, "GET", "/a", None, {"Origin": "http://a.example"}, PATIENCE)
         self.check("a page at the invoke port as well", fault_of(page),
                    (403, "AccessDeniedException", "Web pages may not call this service"))
-        coded = ask(port, "POST", "/a", b"x", {"Transfer-Encoding": "gzip, chunked"}, PATIENCE)
-        self.check("and a foreign coding", coded[0], 501)
+        coded = b"POST /a HTTP/1.1\r\nHost: localhost\r\nTransfer-Encoding: gzip, chunked\r\n\r\n0\r\n\r\n"
+        self.check("and a foreign coding", status_of(port, coded), 501)
         longer = ask(port, "POST", "/a", bytes(LONGEST + 1), timeout=PATIENCE)
         self.check("a body is within the limit", fault_of(longer),
                    (413, "RequestTooLargeException", f"Payload exceeds {LONGEST} bytes"))
