@@ -5,7 +5,9 @@ use crate::lines::{malformed, number_of, split_word};
 use bytes::Bytes;
 use case_tables::{Case, CaseFault, Given};
 use futures::channel::oneshot::Canceled;
-use handler_desk::{Asked, Desk, Given as Answer, NotPut, Posted, Put, Request, Taken, read_asked};
+use handler_desk::{
+    Asked, Desk, Given as Answer, NotPut, Posted, Put, Request, Taken, open_pipe, read_asked,
+};
 use http::Method;
 use http::request::Parts;
 use http_header::{HeaderName, HeaderValue};
@@ -82,13 +84,16 @@ impl<R: Runner> Scene<R> {
         let (path, status) = split_word(rest);
         let post = post_of(self.alloc, line, path, status)?;
         match read_asked(&post) {
-            Asked::Response(id) => match Posted::read(self.alloc, post, id, Bytes::new()) {
-                Ok(posted) => match self.desk.answer(&self.rt, handler, posted) {
-                    Ok(()) => given.push("taken"),
+            Asked::Response(id) => {
+                let (_sender, body) = open_pipe(self.alloc, Some(0))?;
+                match Posted::read(self.alloc, post, id, body) {
+                    Ok(posted) => match self.desk.answer(&self.rt, handler, posted) {
+                        Ok(()) => given.push("taken"),
+                        Err(fault) => given.print(&fault),
+                    },
                     Err(fault) => given.print(&fault),
-                },
-                Err(fault) => given.print(&fault),
-            },
+                }
+            }
             Asked::Failure(id) => match self.desk.fail(&self.rt, handler, id) {
                 Ok(()) => given.push("taken"),
                 Err(fault) => given.print(&fault),

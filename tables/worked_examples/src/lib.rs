@@ -33,7 +33,7 @@ enum Table {
 
 /// The files. Those whose shortest case is long come last: a test that lets each allocation fail in
 /// turn reaches them least often.
-const TABLES: [(&str, Table); 46] = [
+const TABLES: [(&str, Table); 47] = [
     ("parts/names.txt", Table::Parts(parts::Table::Names)),
     (
         "parts/identifiers.txt",
