@@ -3,16 +3,19 @@ to start so many interpreters takes longer than all else that they do. A forked 
 own with its own variables, as one that the kit starts afresh, and the kit sees no difference but in `/proc`.
 
     kits = Kits(PROGRAMS)                          # before there are threads; names of files, and what runs each
+    kits = Kits(PROGRAMS, prepare)                 # so, and what is done once, before the first run, for all of them
     kits.run(words, folder, variables)             # of `lambda_local conformance WORDS`: status, output and errors"""
 import atexit
 import contextlib
 import gc
 import json
+import mmap
 import os
 import queue
 import select
 import signal
 import socket
+import struct
 import sys
 import tempfile
 import threading
@@ -22,12 +25,14 @@ from typing import Any, Set
 
 from lambda_conformance import command, extension, process, runtime, service  # noqa: F401 (before the forks)
 from lambda_conformance import watch
+from lambda_conformance.clock import CLOCK, FIRST_PAUSE, PAUSE, WORK
 from lambda_local.guard import GUARD
 from lambda_local.timeline import command as timeline  # noqa: F401 (so)
 
 MOST = 1_000_000  # bytes of a message
 ANSWERED_SECONDS = 60  # in which a process has been forked
 STDLIB = list(sys.path)
+SECONDS = struct.Struct("d")
 
 
 def exit_code(end):
@@ -94,14 +99,14 @@ def pair():
 class Kits:
     """The process of which each run of the kit is a fork."""
 
-    def __init__(self, programs):
+    def __init__(self, programs, prepare=lambda: None):
         self._channel, its = pair()
         sys.stdout.flush()
         gc.collect()
         gc.freeze()
         if os.fork() == 0:
             self._channel.close()
-            fork_kits(its, programs)
+            fork_kits(its, programs, prepare)
         its.close()
         gc.unfreeze()
 
@@ -132,11 +137,15 @@ def until_it_ends(descriptor, seconds):
                 return said.split()
 
 
-def fork_kits(channel, programs):
+def fork_kits(channel, programs, prepare):
     """Forks a run for each message, until there are no more."""
-    signal.signal(signal.SIGCHLD, signal.SIG_IGN)  # (nobody asks for their statuses here)
     running = []
     with contextlib.suppress(KeyboardInterrupt):
+        if channel.recv(1, socket.MSG_PEEK):  # (there is one)
+            prepare()
+            gc.freeze()
+            CLOCK.took = Timekeeper().took  # type: ignore[assignment]
+            signal.signal(signal.SIGCHLD, signal.SIG_IGN)  # (nobody asks for their statuses here)
         while True:
             message, handles = received(channel)
             if message is None:
@@ -153,6 +162,27 @@ def fork_kits(channel, programs):
             if watch.parent_of(number) == os.getpid():
                 os.killpg(number, signal.SIGTERM)
     os._exit(0)
+
+
+class Timekeeper:
+    """A process that looks how busy this machine is, for all runs: each of them would take a fiftieth of a processor
+    for that, and with as many as there are all together one or two."""
+
+    def __init__(self):
+        self._shared = mmap.mmap(-1, SECONDS.size)
+        self._shared[:] = SECONDS.pack(CLOCK.took(FIRST_PAUSE))
+        parent = os.getpid()
+        if os.fork() == 0:
+            with contextlib.suppress(KeyboardInterrupt):
+                while os.getppid() == parent:
+                    self._shared[:] = SECONDS.pack(CLOCK.took(PAUSE))
+            os._exit(0)
+
+    def took(self, pause):
+        """As a clock finds by itself: what it took there, but for how late this thread is woken."""
+        begun = time.monotonic()
+        time.sleep(pause)
+        return max(time.monotonic() - begun - pause + WORK, *SECONDS.unpack(self._shared))
 
 
 def kit(programs, words, folder, variables, output, errors, status):

@@ -5,6 +5,7 @@ The program is LAMBDA_LOCAL_PROGRAM, else ./lambda_local.
 Each wrong one is run with the scenarios of its own check, and one of thirty-two with all; so is one of three that are
 in the shapes of clients: each day others. With CONFORMANCE_WHOLE=1 all are, which takes ten minutes.
 CONFORMANCE_ONLY names mistakes that alone are tried, or `sound` or `shipped`."""
+import atexit
 import concurrent.futures
 import os
 import re
@@ -72,6 +73,9 @@ FORKED = {  # by the names of their files
     "shapes.py": runs(shapes.SHAPES), "clients.py": runs(clients.CLIENTS), "libraries.py": runs(libraries.LIBRARIES),
     "extensions.py": runs(extensions.SHAPES), "subscribers.py": runs(subscribers.SHAPES)}
 KITS = [Kits(FORKED)]  # the process of which runs are forked (before there are threads)
+# Those of the wrong programs' folders: many a second, beside one another in /tmp, are what a program would leave there.
+FOLDERS = tempfile.mkdtemp()
+atexit.register(shutil.rmtree, FOLDERS, ignore_errors=True)
 
 
 class Run:
@@ -190,7 +194,8 @@ def in_java(kind, *options):
     """A client in the shape of Java's, with one of its two libraries for HTTP, and a heap as it is by default."""
     with tempfile.TemporaryDirectory() as folder:
         subprocess.run(["javac", "-d", folder, os.path.join(SHAPES, "JavaRuntime.java")], check=True, timeout=300)
-        return Run("runtime", *options, "--", "java", "-cp", folder, "JavaRuntime", kind)
+        fast = "-XX:TieredStopAtLevel=1"  # (each process is short: it starts in half the time)
+        return Run("runtime", *options, "--", "java", fast, "-cp", folder, "JavaRuntime", kind)
 
 
 def shipped_extension():
@@ -211,7 +216,7 @@ def wrong(kind, mistake, is_whole):
     settings, beside = {**kind.settings, **getattr(mistake, "settings", {})}, getattr(mistake, "beside", ())
     options = [word for name, value in settings.items() if value is not None for word in (f"--{name}", str(value))]
     options += [word for name in (() if is_whole else (mistake.check, *beside)) for word in ("--only", name)]
-    with tempfile.TemporaryDirectory() as temporary:
+    with tempfile.TemporaryDirectory(dir=FOLDERS) as temporary:
         return Run(kind.name, *options, "--", *PYTHON, program(f"wrong_{kind.name}s.py"), mistake.__name__,
                    is_forked=True, TMPDIR=temporary, EVERYONES_FOLDER=temporary)
 

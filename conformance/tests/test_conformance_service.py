@@ -6,6 +6,7 @@ Variable: CONFORMANCE_FAULTS has the faults that alone are planted."""
 import concurrent.futures
 import functools
 import os
+import random
 import re
 import socket
 import subprocess
@@ -16,7 +17,8 @@ import unittest
 import xml.etree.ElementTree as xml
 from typing import List, Tuple
 
-from lambda_conformance.service import known, oracle, pairs, sequences, wire
+from lambda_conformance.service import BATCH, FRESH_SHARE, known, oracle, pairs, sequences, wire
+from lambda_conformance.service.random_sequences import Generator
 from lambda_local.service import Service, free_ports, program_path
 from tests import ROOT
 from tests.library.cases import Case
@@ -24,11 +26,10 @@ from conformance.tests.forked_kit import Kits
 from conformance.programs.emulator.faults import FAULTS, LIBERTIES, OF_PAIRS
 
 EMULATOR = os.path.join(ROOT, "conformance", "programs", "emulator")
-KITS = Kits({})  # (before there are threads)
 POOL = concurrent.futures.ThreadPoolExecutor(6 * len(os.sched_getaffinity(0)))  # of runs, which wait most of the time
 CHOSEN = os.environ.get("CONFORMANCE_FAULTS", "").split()
 PARTS, IN_PART = 8, 125  # of the random sequences for lambda_local, each part with a service and a seed of its own
-IN_EMULATOR = 60  # random sequences
+IN_EMULATOR, SEED = 60, 1  # random sequences, and what they come from
 MOST_CALLS = 11  # of the fewest that show a difference: eleven extensions
 SERVICE_TIMEOUT, EMULATOR_TIMEOUT = 4, 3  # of the functions, in seconds
 
@@ -128,6 +129,29 @@ WITHOUT_A_SEQUENCE = {"accepts-with-200", "needs-no-error-type", "registers-for-
                       "takes-any-length", "takes-any-type", "takes-any-version", "takes-any-function"}
 
 
+def remember_replays():
+    """Asks the definitions once about what all runs against the emulator play, which are forked of this process. (What
+    a run asks beside that is asked as ever.)"""
+    replayed, remembered = oracle.Oracle._replay, {}
+
+    def replayed_once(self, lines):
+        script = (self.program, *lines)
+        if script not in remembered:
+            remembered[script] = replayed(self, lines)
+        return remembered[script]
+
+    oracle.Oracle._replay = replayed_once  # type: ignore[assignment]
+    asked, source = oracle.Oracle(program_path(), EMULATOR_TIMEOUT), Generator(random.Random(SEED))
+    for start, share in ((oracle.FRESH, FRESH_SHARE), (oracle.WARM, 1 - FRESH_SHARE)):
+        batches = [source.sequences(start, BATCH) for _ in range(0, round(IN_EMULATOR * share), BATCH)]
+        for texts in (sequences.worked(start), sequences.timed(start), *batches):
+            sequences.plans_of(texts, asked)
+    pairs.pairs_of(oracle.Oracle(program_path(), EMULATOR_TIMEOUT, 2))
+
+
+KITS = Kits({}, remember_replays)  # (before there are threads)
+
+
 class Run:
     """A finished run of the tool."""
 
@@ -184,7 +208,7 @@ def against_lambda_local(*words, environments=1):
 
 def against(name):
     """The run against the emulator with the fault of this name, or without a fault."""
-    return against_emulator(() if name == "sound" else (name,), "--seed", "1", "--sequences", str(IN_EMULATOR),
+    return against_emulator(() if name == "sound" else (name,), "--seed", str(SEED), "--sequences", str(IN_EMULATOR),
                             "--most", "1")
 
 

@@ -61,14 +61,8 @@ class Clock:
             pause = min(LONGEST_PAUSE, max(PAUSE, SHARE * self._look(pause)))
 
     def _look(self, pause: float) -> float:
-        """Counts the time since the last look, by how long it takes after a pause to be woken and to work a little: the
-        seconds that this took."""
-        begun = time.monotonic()
-        time.sleep(pause)
-        worked = time.thread_time()
-        while time.thread_time() - worked < WORK:
-            pass
-        took = time.monotonic() - begun - pause
+        """Counts the time since the last look, by how long a little work takes after a pause: the seconds of that."""
+        took = self.took(pause)
         with self._lock:
             passed = time.monotonic() - self._at
             seen = min(passed, LONGEST) / self._slowness  # what `now` may have said
@@ -76,6 +70,16 @@ class Clock:
             self._counted += max(seen, passed / self._slowness)
             self._at += passed
         return took
+
+    @staticmethod
+    def took(pause: float) -> float:
+        """Lets a pause pass: how many seconds it takes then to be woken and to work a little."""
+        begun = time.monotonic()
+        time.sleep(pause)
+        worked = time.thread_time()
+        while time.thread_time() - worked < WORK:
+            pass
+        return time.monotonic() - begun - pause
 
 
 CLOCK = Clock()

@@ -69,7 +69,7 @@ class Oracle:
     """`environments` is how many the function has."""
 
     def __init__(self, program: str, timeout: int, environments: int = 1) -> None:
-        self.program, self.timeout, self.environments, self.replays = program, timeout, environments, 0
+        self.program, self.timeout, self.environments = program, timeout, environments
 
     def plans(self, sequences: TypingSequence[Sequence]) -> List[Plan]:
         """A plan for each of the sequences."""
@@ -123,7 +123,6 @@ class Oracle:
                                      separators=(",", ":"))]
 
     def _replay(self, lines: List[str]) -> List[Entry]:
-        self.replays += 1
         script = Script("the kit's script", ("\n".join(lines) + "\n").encode())
         try:
             return list(entries_of_script(script, self.program))
