@@ -4,6 +4,7 @@ says of a file tells which of them it has refused; what that does not tell is tr
 alone."""
 import os
 import re
+import time
 from typing import Dict, Iterable, Iterator, List, NamedTuple, Optional, Tuple
 
 from tests.library import edits, trials
@@ -66,8 +67,13 @@ def has_room(group: List[Optional[Member]], newcomer: Member) -> bool:
                                      and not newcomer.mentions(it) for it in group)
 
 
-def tried(root: str, names: List[str], built: str, seconds: float) -> Iterator[Tuple[str, Trial]]:
-    """Tries edits, or twins, of one crate, which `grouped` has put together. Each bears its part of the CPU time."""
+def tried(root: str, names: List[str], built: str, seconds: float,
+          ends: float = float("inf")) -> Iterator[Tuple[str, Trial]]:
+    """Tries edits, or twins, of one crate, which `grouped` has put together. Each bears its part of the CPU time. No
+    check begins after the moment `ends`: what is then open has no verdict."""
+    if time.monotonic() > ends:
+        yield from ((name, Trial("no check of it began in time", 0, False)) for name in names)
+        return
     if len(names) == 1:
         yield names[0], trials.trial(root, names[0], built, seconds)
         return
@@ -90,7 +96,7 @@ def tried(root: str, names: List[str], built: str, seconds: float) -> Iterator[T
     open_ones = [it for it in names if it not in good]
     halves = [open_ones] if good else [names[:len(names) // 2], names[len(names) // 2:]]
     for half in halves:
-        for name, one in tried(root, half, built, seconds) if half else ():
+        for name, one in tried(root, half, built, seconds, ends) if half else ():
             yield name, one._replace(seconds=one.seconds + share)
 
 

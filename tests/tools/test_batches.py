@@ -2,6 +2,7 @@
 small repositories, and with a function in place of the prover."""
 import os
 import tempfile
+import time
 import unittest
 from typing import Dict, List, Sequence, Tuple
 from unittest import mock
@@ -91,6 +92,12 @@ class Batches(Case):
                             ("a text that cannot be read", ["error[E0308]: mismatched types", "stopped=1"])):
             self.check(what, self.tried(["x/in_a", "x/in_b"], first, *alone), {"x/in_a": "", "x/in_b": ""})
             self.check(f"{what}: checks", len(self.checked), 3)
+
+    def test_what_is_open_when_its_time_is_over_has_no_verdict(self) -> None:
+        """So the halves of a group that needs too long do not begin."""
+        made = [*batches.tried(self.root, ["x/in_a", "x/in_b"], os.devnull, 60, time.monotonic() - 1)]
+        self.check("of each it is told", [(name, one.is_decided) for name, one in made],
+                   [("x/in_a", False), ("x/in_b", False)])
 
     def test_an_edit_that_does_not_fit_is_told_alone(self) -> None:
         write(f"{self.root}/crates/x/src/b.rt", b"fn h() {\n    three three\n}\n")
