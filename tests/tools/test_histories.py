@@ -105,6 +105,8 @@ class Histories(Case):
         self.check("an entry", entry_of(LINE), ENTRY)
         self.check("without bodies", entry_of(LINE.replace(b'"body":"{}",', b"")), ENTRY._replace(
             call=ENTRY.call._replace(body=None), answers=(ENTRY.answers[0]._replace(body=None),)))
+        self.check("with their lengths", entry_of(LINE.replace(b'"body":"{}",', b'"bodyLength":2,')), ENTRY._replace(
+            call=ENTRY.call._replace(body=None, length=2), answers=(ENTRY.answers[0]._replace(body=None, length=2),)))
         self.check("bytes", entry_of(LINE.replace(b'"body":"{}","f', b'"bodyBase64":"/w==","f')).call.body, b"\xff")
         for name, ((old, new), words) in WRONG.items():
             self.check(f"the edit fits: {name}", old in LINE)

@@ -246,7 +246,7 @@ class InvocationLog(Case):
             invocation.delivered = 2
             report = json.dumps({"errorType": "Runtime.ExitError", "errorMessage": "m" * 100_000}).encode()
             kind, body = (Word.OUTPUT, bytes(5 << 20)) if number % 2 else (Word.ERROR, report)
-            invocations.take(Ended(3, invocation, None, kind, body))
+            invocations.take(Ended(3, invocation, None, kind, body, None if body is None else len(body)))
         kept = invocations.ended
         self.check("the last 1024", (list(kept)[0], len(kept)), ("976", 1024))
         self.check("the bytes that are kept of an output", kept["1999"].body, None)

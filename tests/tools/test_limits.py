@@ -13,7 +13,6 @@ from lambda_local.up.memory import is_above, peaks_of
 from lambda_local.up.patience import of_service, times_of, with_patience
 from lambda_local.up.processes import reason_of
 from tests.library.cases import Case
-from tests.library.clock_kit import INVOKE, posted
 from tests.library.threads import together
 from tests.library.up_kit import Up, until
 
@@ -62,9 +61,6 @@ def forked(count, size):
     return found
 
 
-TAIL = {"X-Amz-Log-Type": "Tail"}
-
-
 class OfLimits(Case):
     def test_what_is_near_a_limit_is_told_once_for_each_function(self):
         members: Dict[str, Members] = {
@@ -89,8 +85,6 @@ class OfLimits(Case):
                         call("late"))
         self.check("each is answered", seen[:4] + [len(seen[4])] + seen[5:], [
             200 << 20, 200 << 20, "Runtime.ExitError", "ok", 6_000_000, "ok", "ok", "ok"])
-        for _ in range(2):  # (of what only the service has answered, no size is known)
-            self.check("with its log", posted(up.endpoint, INVOKE.format("large"), b'{"do": "large"}', TAIL)[0], 200)
         until(lambda: of("behind", "frozen") and of("memory", "memory"), 20)
         time.sleep(2)
         for name, limit, words in (
@@ -178,12 +172,9 @@ class OfLimits(Case):
         def log(*given: Any, **members: Any) -> None:
             told.append(given)
         limits: Any = Limits([], {"streams"}, nothing, {}, log)  # type: ignore[arg-type]
-        limits.functions = {"f": None, "streams": None}
-        for target, size in (("/2015-03-31/functions/f/invocations", 5_662_310), ("/_local/history", 1 << 30),
-                             ("/2015-03-31/functions/g/invocations", 1 << 30),
-                             ("/2015-03-31/functions/streams/invocations", 6_000_000)):
-            limits.answered(target, size)
-        self.check("below nine tenths, of nobody, or streamed", told, [])
-        arn = "/2015-03-31/functions/arn%3Aaws%3Alambda%3Aus-east-1%3A123456789012%3Afunction%3Af/invocations"
-        limits.answered(arn, 5_662_311)
-        self.check("nine tenths", [given[:3:2] for given in told], [("f", "warning")])
+        for function, length in (("f", 5_662_310), ("streams", 6_000_000)):
+            limits._look_at_length(function, length)
+        self.check("below nine tenths, or streamed", told, [])
+        for length in (5_662_311, 6_000_000):
+            limits._look_at_length("f", length)
+        self.check("nine tenths, once", [given[:3:2] for given in told], [("f", "warning")])

@@ -1,7 +1,7 @@
 """Checks the trace of random scripts (`./lambda_local trace`), of all kinds of calls: the script and the answers of its
 replay can be written again from the trace, so nothing is lost; what is charged is released once, later; without bodies
-all else is the same; the phases are those that `./lambda_local timeline` draws; and the tools read each entry as it is.
-TRACES=N in the environment takes N random scripts (default: 40)."""
+their lengths are there, and all else is the same; the phases are those that `./lambda_local timeline` draws; and the
+tools read each entry as it is. TRACES=N in the environment takes N random scripts (default: 40)."""
 import base64
 import json
 import os
@@ -202,6 +202,8 @@ class Traces(TimelineCase):
     def without_bodies(self, seed, script, trace):
         for entry in trace:
             for item in (entry["call"], *entry["answers"]):
-                item.pop("body", None)
-                item.pop("bodyBase64", None)
+                if "body" in item:
+                    item["bodyLength"] = len(item.pop("body").encode())
+                elif "bodyBase64" in item:
+                    item["bodyLength"] = len(base64.b64decode(item.pop("bodyBase64")))
         self.check(f"{seed}: without bodies", traced(script, "--bodies", "none"), trace)

@@ -73,6 +73,7 @@ class Ended(NamedTuple):
     environment: Optional[Environment]
     kind: Word
     body: Optional[bytes]
+    length: Optional[int]  # of the body in bytes
 
 
 class Throttled(NamedTuple):
@@ -153,7 +154,8 @@ class Life:
         if invocation is None:
             return  # (the answer to another call: a reservation after a stop)
         invocation.is_over = True
-        yield Ended(entry.moment, invocation, invocation.environment, answer.word, answer.body)
+        length = answer.length if answer.body is None else len(answer.body)
+        yield Ended(entry.moment, invocation, invocation.environment, answer.word, answer.body, length)
 
     def _closed(self, entry: Entry, turns: List[Turn], failed: Optional[Extension]) -> Iterator[Event]:
         """The generations that begin to close by this entry."""

@@ -89,7 +89,7 @@ either_list true text coded rest = refl
 either_list false text coded rest = refl
 
 body_list : (bodies : Bool) (body : List ℕ) (rest more : List Token) → after_list ((body_member bodies body ++ rest) ++ more) ≡ after_list (rest ++ more)
-unfolding body_member
+unfolding body_member after_list
 body_list false body rest more = refl
 body_list true body rest more =
     ap after_list

@@ -1,5 +1,5 @@
 -- The members of a JSON object, as tokens (RFC 8259). A text is printed from its tokens without spaces.
-use Rattle.std.specs.Prelude.{ℕ, Bool, true, false, if◌then◌else◌, List, [], ◌∷◌, ◌++◌, codes, decimal, Option, Some, None}
+use Rattle.std.specs.Prelude.{ℕ, Bool, true, false, if◌then◌else◌, List, [], ◌∷◌, ◌++◌, codes, decimal, length, Option, Some, None}
 use Rattle.std.specs.Str.{is_utf8}
 use Rattle.base64.specs.Engines.{standard}
 use Rattle.base64.specs.GeneralPurpose.{encode_of}
@@ -31,10 +31,10 @@ closed (member ∷ members) = member ++ closed members
 abbrev pub object : List (List Token) → List Token
 object members = begin_object ∷ closed members
 
--- The member with the bytes of a payload, an output or a report, if bodies are asked for: `body` if they are UTF-8,
--- otherwise `bodyBase64` (RFC 4648, section 4).
+-- The member with the bytes of a payload, an output or a report: `body` if they are UTF-8, otherwise `bodyBase64`
+-- (RFC 4648, section 4). If bodies are not asked for, `bodyLength` has their number.
 unfoldable pub body_member : Bool → List ℕ → List Token
-body_member false body = []
+body_member false body = number_member (codes "bodyLength") (length body)
 body_member true body =
     if is_utf8 body then text_member (codes "body") body
     else text_member (codes "bodyBase64") (encode_of standard body)

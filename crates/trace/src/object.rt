@@ -104,6 +104,7 @@ impl Follower {
     /// Returns the object of the entry with a ticket, the newest that this follower has followed; the members
     /// are in the order of their names' bytes. With `bodies`, payloads, outputs and reports are members:
     /// `body` if they are UTF-8, otherwise `bodyBase64`. They are shared with the history, not copied.
+    /// Without, `bodyLength` has the number of their bytes.
     ///
     /// # Errors
     /// Only if memory is refused.

@@ -14,6 +14,7 @@ class Call(NamedTuple):
     id: Optional[int] = None  # the count in the request identifier that a report names
     extension: Optional[int] = None  # the count in the extension identifier
     body: Optional[bytes] = None  # the payload, the output or the report
+    length: Optional[int] = None  # of the body in bytes, if it is left out
     name: Optional[str] = None  # of an extension that registers
     invoke: bool = False  # it registers for INVOKE
     shutdown: bool = False  # it registers for SHUTDOWN
@@ -36,6 +37,7 @@ class Answer(NamedTuple):
     reserved: Optional[int] = None
     source: Optional[int] = None  # the ticket of the call whose bytes it has, or of which an extension is notified
     body: Optional[bytes] = None
+    length: Optional[int] = None  # of the body in bytes, if it is left out
 
 
 class Phase(NamedTuple):

@@ -58,11 +58,12 @@ CHECKS: Dict[str, Check] = {**dict.fromkeys(("request", "event", "extension"), I
                             **dict.fromkeys(("function", "name", "trace"), str.isprintable)}
 CHANGES: Dict[str, Change] = {"answer": WORDS.__getitem__, "body": of_text, "bodyBase64": of_base64}
 REASONS = {"throttled": frozenset(THROTTLE_REASONS), "refused": frozenset(REFUSALS)}
-FIELDS = {"answer": "word", "phase": "name", "count": "reserved", "bodyBase64": "body"}  # if their names are others
+# If their names are others.
+FIELDS = {"answer": "word", "phase": "name", "count": "reserved", "bodyBase64": "body", "bodyLength": "length"}
 # The types of members. The `invoke` of a call is a flag, that of an answer or a phase a ticket; so is `extension` a
 # count in a call, and an identifier in an answer.
 CALL_TYPES: Dict[str, type] = {
-    **dict.fromkeys(("environment", "id", "extension", "ticket", "count"), int),
+    **dict.fromkeys(("environment", "id", "extension", "ticket", "count", "bodyLength"), int),
     **dict.fromkeys(("qualified", "invoke", "shutdown", "account"), bool),
     **dict.fromkeys(("kind", "function", "trace", "name", "body", "bodyBase64"), str)}
 KNOWN_CALLS: Known = (
@@ -72,7 +73,7 @@ KNOWN_CALLS: Known = (
     ("ext-next", "environment extension", ""), ("ext-init-failure ext-exit-failure", "environment extension", "body"),
     ("withdraw", "ticket", ""), ("reserve", "function", "count"), ("stop tick", "", ""))
 ANSWER_TYPES: Dict[str, type] = {
-    **dict.fromkeys(("ticket", "deadline", "invoke", "source", "count"), int),
+    **dict.fromkeys(("ticket", "deadline", "invoke", "source", "count", "bodyLength"), int),
     **dict.fromkeys(("answer", "request", "event", "extension", "reason", "body", "bodyBase64"), str)}
 KNOWN_ANSWERS: Known = (
     ("deliver", "ticket deadline invoke request", "body"), ("tell", "ticket deadline event invoke request", ""),
@@ -126,7 +127,7 @@ def members_of(known: Known, word: str) -> Dict[Tuple[str, ...], List[str]]:
     for words, required, optional in known:
         others = [name for name in optional.split() if name != "body"]
         some = itertools.chain.from_iterable(itertools.combinations(others, n) for n in range(len(others) + 1))
-        bodies = ("", "body", "bodyBase64") if "body" in optional.split() else ("",)
+        bodies = ("", "body", "bodyBase64", "bodyLength") if "body" in optional.split() else ("",)
         for more, body in itertools.product(some, bodies):
             names = tuple(sorted(name for name in (*required.split(), word, *more, body) if name))
             found.setdefault(names, []).extend(words.split())

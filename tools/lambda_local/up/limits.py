@@ -4,7 +4,6 @@ import time
 from typing import Dict, Mapping, NamedTuple, Optional, Sequence, Set, Tuple
 
 from ..configuration import shown
-from ..front.events import function_of
 from ..history.words import IDLE, Word
 from ..life import Ended, Environment, Event
 from .invocation_lines import Printed
@@ -63,18 +62,17 @@ class Limits:
         if not isinstance(event, Ended) or event.invocation.delivered is None or event.kind not in ANSWERED:
             return
         function, took = self.functions[event.invocation.function], event.moment - event.invocation.delivered
+        if event.kind is Word.OUTPUT:
+            self._look_at_length(function.name, event.length or 0)
         timeout = function.part.get("timeout", 3)
         if took >= NEARLY * 1000 * timeout:
             self.warn(function.name, "timeout", f"an invocation took {took / 1000:.2f} s of its {timeout} s, at which "
                       "Lambda ends it: write a longer \"timeout\"", event.environment)
 
-    def answered(self, target: str, size: int) -> None:
-        """By the front: so many bytes came as the answer to a request."""
-        if size < NEARLY * MOST_OUTPUT:
-            return
-        name = function_of(target)
-        if name in self.functions and name not in self.streaming:
-            self.warn(name, "response", f"a response has {size} bytes: Lambda refuses one of more than {MOST_OUTPUT}")
+    def _look_at_length(self, function: str, length: int) -> None:
+        if length >= NEARLY * MOST_OUTPUT and function not in self.streaming:
+            self.warn(function, "response", f"a response has {length} bytes: Lambda refuses one of more than "
+                      f"{MOST_OUTPUT}")
 
     # ---- what is looked at -------------------------------------------------------------------------------------------
 

@@ -1,6 +1,6 @@
 //! How an object is told, token by token.
 
-ghost use Rattle.std.specs.Prelude.{◌≡◌, ◌∷◌, ◌++◌, [], true, false, List, map, option_map, unwrap_or, IfOk};
+ghost use Rattle.std.specs.Prelude.{◌≡◌, ◌∷◌, ◌++◌, [], true, false, List, length, map, option_map, unwrap_or, IfOk};
 ghost use Rattle.json.specs.Token.{Token, string};
 ghost use Rattle.trace.specs.Members.{body_member, number_if, text_member};
 ghost use Rattle.trace.specs.Telling.{IsBegun, Tells, inset_tokens, part_token, tokens_of};
@@ -32,6 +32,16 @@ pub(crate) fn widened(number: Option<u32>) -> Option<u64>
     match number {
         None => None,
         Some(number) => Some(u64::from(number)),
+    }
+}
+
+/// Returns how many bytes a body has: 0 if there is none.
+fn length_of(body: Option<&Bytes>) -> u64
+    ensures { result ≡ length (unwrap_or (option_map (λ bytes. bytes.now) body.entry) []) }
+{
+    match body {
+        None => 0,
+        Some(body) => body.len() as u64,
     }
 }
 
@@ -118,7 +128,7 @@ impl Teller {
         }
     }
 
-    /// Tells a body, if bodies are asked for: one without bytes if there is none.
+    /// Tells a body, or how many bytes it has if bodies are not asked for: one without bytes if there is none.
     #[tactic(auto, unfolding(crate::specs::Members::body_member))]
     pub(crate) fn say_body(&mut self, bodies: bool, body: Option<&Bytes>)
         ensures { Tells (body_member bodies (unwrap_or (option_map (λ bytes. bytes.now) body.entry) [])) self.old self.new }
@@ -128,6 +138,8 @@ impl Teller {
                 None => self.say_inset(Inset::Body(Bytes::new())),
                 Some(body) => self.say_shared(body),
             }
+        } else {
+            self.say_number_if("bodyLength", Some(length_of(body)));
         }
     }
 
