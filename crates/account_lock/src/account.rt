@@ -29,7 +29,7 @@ ghost use Rattle.account_lock.specs.Shown.{IsTextOf, Sees};
 ghost use Rattle.account_lock.specs.Submits.{IsNotTaken, IsTurnedAway, Took};
 ghost use Rattle.account_lock.specs.declared.settle.fault.SettleFault.TheVariants.{TallyMissing};
 
-use crate::{Bell, Desk, Look, NotTaken, Refused, Settled, Step, Unsettled};
+use crate::{Bell, Desk, Look, NotTaken, Refused, Ringer, Settled, Step, Unsettled};
 use account_book::{Book, Life, OpenFault};
 use arn_ids::{Checked, FnNo};
 use call_model::{Call, Stats, Ticket};
@@ -76,12 +76,14 @@ pub struct Account<S: Identity, B> {
     pub(crate) spine: Spine<S>,
 }
 
-/// Rings the bells of a step after the lock is released, and returns the call's ticket.
-fn ring_out<B: Bell>(step: Step<B>) -> Ticket
+/// Hands out the bells of a step after the lock is released, and returns the call's ticket.
+fn ring_out<B: Bell>(rt: &impl Wait, step: Step<B>, ringer: &impl Ringer<B>) -> Ticket
     ensures { result ≡ step.ticket }
 {
     let Step { ticket, rings } = step;
-    rings.ring();
+    if !rings.is_empty() {
+        ringer.take(rt, rings);
+    }
     ticket
 }
 
@@ -135,7 +137,8 @@ impl<S: Identity, B: Bell> Account<S, B> {
         }
     }
 
-    /// Submits a call: one step of the desk under the lock, whose bells ring after the lock is released.
+    /// Submits a call: one step of the desk under the lock. After the lock is released, the ringer gets the bells of
+    /// the step.
     /// The tally counts the call, and notes its head at the ticket that is returned. Both the caller's
     /// token and the one that comes with the ticket have then seen the history up to this call.
     ///
@@ -150,6 +153,7 @@ impl<S: Identity, B: Bell> Account<S, B> {
         now: u64,
         call: Call,
         bell: Option<B>,
+        ringer: &impl Ringer<B>,
     ) -> Result<(Ticket, Token<S>), Refused<B>>
         requires moment { now < 2 ^ 53 }
         requires within { IsWithin S.config call }
@@ -164,7 +168,7 @@ impl<S: Identity, B: Bell> Account<S, B> {
             .lock(rt)
             .apply(&self.spine, tally, token, now, call, bell);
         match step {
-            Ok((step, token)) => Ok((ring_out(step), token)),
+            Ok((step, token)) => Ok((ring_out(rt, step, ringer), token)),
             Err(refused) => Err(refused),
         }
     }
@@ -183,6 +187,7 @@ impl<S: Identity, B: Bell> Account<S, B> {
         now: u64,
         call: Call,
         bell: Option<B>,
+        ringer: &impl Ringer<B>,
     ) -> Result<(Ticket, Token<S>), NotTaken<B>>
         requires moment { now < 2 ^ 53 }
         requires within { IsWithin S.config call }
@@ -198,7 +203,7 @@ impl<S: Identity, B: Bell> Account<S, B> {
             .lock(rt)
             .submit_unless_premature(&self.spine, tally, token, now, call, bell);
         match step {
-            Ok((step, token)) => Ok((ring_out(step), token)),
+            Ok((step, token)) => Ok((ring_out(rt, step, ringer), token)),
             Err(not_taken) => Err(not_taken),
         }
     }
@@ -215,6 +220,7 @@ impl<S: Identity, B: Bell> Account<S, B> {
         tally: &mut Tally<K, S>,
         token: &mut Token<S>,
         now: u64,
+        ringer: &impl Ringer<B>,
     ) -> Result<Option<Ticket>, Refused<B>>
         requires moment { now < 2 ^ 53 }
         ensures taken { IfOk result (λ made. IfSome made (λ ticket. (took : Took S.config S.most K.notes K.makes
@@ -231,7 +237,7 @@ impl<S: Identity, B: Bell> Account<S, B> {
             .lock(rt)
             .tick_at_rest(&self.spine, tally, token, now);
         match made {
-            Ok(Some(step)) => Ok(Some(ring_out(step))),
+            Ok(Some(step)) => Ok(Some(ring_out(rt, step, ringer))),
             Ok(None) => Ok(None),
             Err(refused) => Err(refused),
         }

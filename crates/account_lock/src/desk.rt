@@ -2,6 +2,7 @@
 
 mod bells;
 mod resting;
+mod ringer;
 mod rings;
 mod rises;
 mod room;
@@ -20,6 +21,7 @@ use account_book::{Book, Refusal};
 pub use bells::Bell;
 use bells::store;
 use call_model::{Answer, Call, Ticket};
+pub use ringer::{AtOnce, Ringer};
 pub use rings::Rings;
 use room::{make_room, most_given};
 use serving::serve_step;

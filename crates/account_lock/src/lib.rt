@@ -21,6 +21,6 @@ mod settle;
 pub mod laws;
 
 pub use account::{Account, Identity};
-pub use desk::{Bell, Desk, Look, NotTaken, Refused, Rings, Step};
+pub use desk::{AtOnce, Bell, Desk, Look, NotTaken, Refused, Ringer, Rings, Step};
 pub use settle::{SettleFault, Settled, Unsettled};
 pub use tracing::Trail;

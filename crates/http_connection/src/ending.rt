@@ -201,7 +201,9 @@ impl<C: Turns, O: Park> Watched<C, O> {
             return Poll::Ready(None);
         }
         self.peer.begin_turn();
-        match ending.conn.turn(cx) {
+        let turned = ending.conn.turn(cx);
+        self.open.end_turn();
+        match turned {
             Poll::Pending => {
                 let is_parked = self.open.is_parked();
                 self.peer.end_turn(&self.pulse, is_parked);

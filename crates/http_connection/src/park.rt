@@ -6,4 +6,7 @@
 pub trait Park: Drop {
     /// Returns whether a request is parked, or the rest of its response.
     fn is_parked(&self) -> bool;
+
+    /// Does what was left for the end of a turn of the connection, in which all that its peer takes was written.
+    fn end_turn(&self);
 }

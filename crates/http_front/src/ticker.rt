@@ -7,7 +7,7 @@ ghost use Rattle.http_front.specs.Readings.{IsRead, IsReadAhead};
 use crate::common::Common;
 use crate::{Alarm, Notices};
 use account_book::{Life, Refusal};
-use account_lock::{Account, Identity};
+use account_lock::{Account, AtOnce, Identity};
 use arn_ids::GREATEST_MOMENT;
 use call_model::Call;
 use http_connection::Machine;
@@ -54,7 +54,7 @@ fn catch_up<S: Identity, N: Clock, K: Keep>(
         return;
     }
     let now = clock.now().saturating_add(lag).min(GREATEST_MOMENT);
-    if let Ok(Some(_taken)) = account.tick_at_rest(rt, tally, token, now) {
+    if let Ok(Some(_taken)) = account.tick_at_rest(rt, tally, token, now, &AtOnce) {
         clock.set_forward(lag);
     }
 }
@@ -76,7 +76,7 @@ fn tick<S: Identity, N: Clock, K: Keep>(
     if !account.due(rt, token, now) {
         return None;
     }
-    let Err(refused) = account.submit(rt, tally, token, now, Call::Tick, None) else {
+    let Err(refused) = account.submit(rt, tally, token, now, Call::Tick, None, &AtOnce) else {
         return None;
     };
     Some(refused.refusal)

@@ -19,7 +19,7 @@ use crate::common::Common;
 use crate::ports::ServedPort;
 use crate::{AtDesk, Front, Port, SentBody, Side};
 use account_book::Refusal;
-use account_lock::{Account, Identity, Trail};
+use account_lock::{Account, AtOnce, Identity, Trail};
 use arn_ids::FnNo;
 use bytes::Bytes;
 use call_model::{Call, Ticket};
@@ -32,7 +32,8 @@ use http_body_util::Either;
 use http_connection::{Ended, Ends, EventLoop, Machine, Park, Wire};
 use hyper::body::Incoming;
 use long_poll::{
-    Cause, Clock, Connection, Kind, OneShotBell, OpenPoll, Service, StreamedBody, laws, moment,
+    Cause, Clock, Connection, Kind, LateBells, OneShotBell, OpenPoll, Service, StreamedBody, laws,
+    moment,
 };
 use socket_loop::{Accepted, Unused};
 use std::alloc::{AllocError, AllocGlobal};
@@ -44,15 +45,21 @@ use usage_ledger::{Keep, Ledgers, Tally, Token};
 pub(crate) const STACK_BYTES: usize = 512 * 1024;
 
 /// The note of a connection's open Next, or that the trace that it sends waits for an entry, by which its
-/// socket's end is watched.
+/// socket's end is watched. After each turn the bells of the connection's steps ring.
 #[derive(Drop)]
-struct OpenNext {
+struct OpenNext<R> {
+    rt: R,
     open: Arc<OpenPoll>,
+    bells: Arc<LateBells>,
 }
 
-impl Park for OpenNext {
+impl<R: Wait + Drop> Park for OpenNext<R> {
     fn is_parked(&self) -> bool {
         self.open.waits()
+    }
+
+    fn end_turn(&self) {
+        self.bells.ring(&self.rt);
     }
 }
 
@@ -264,11 +271,15 @@ impl<R: Machine, S: Identity + Drop, N: Clock + Drop, K: Keep> Worker<R, S, N, K
             pulse,
         } = pending;
         let port = served.port();
-        let Ok(parked) = self.parked(open) else {
+        let Ok(bells) = Arc::new(self.rt.alloc(), LateBells::new()) else {
+            return Err(socket.close(AllocError.into()));
+        };
+        let Ok(parked) = self.parked(open, &bells) else {
             return Err(socket.close(AllocError.into()));
         };
         let token = self.common.shared.service.again(&mut tools.token);
-        let front = match self.front(&mut tools.deciders, token, served, at_desk, open) {
+        let deciders = &mut tools.deciders;
+        let front = match self.front(deciders, token, served, at_desk, open, &bells) {
             Ok(front) => front,
             Err(refused) => return Err(socket.close(refused.into())),
         };
@@ -305,6 +316,7 @@ impl<
         served: ServedPort<S>,
         at_desk: u64,
         open: &Arc<OpenPoll>,
+        bells: &Arc<LateBells>,
     ) -> Result<Front<R, Account<S, OneShotBell>, Side, N, K>, AllocError>
         ensures guarded { IfOk result (λ front. (front.port ≡ served.port)
             × (arc_value front.hosts ≡ arc_value self.now.common.hosts)) }
@@ -326,7 +338,7 @@ impl<
             Ok(at_desk) => at_desk,
             Err(refused) => return Err(refused),
         };
-        match self.connection(decider, token, number, function, open) {
+        match self.connection(decider, token, number, function, open, bells) {
             Ok(connection) => Ok(Front::new(alloc, port, hosts, connection, at_desk)),
             Err(refused) => Err(refused),
         }
@@ -359,10 +371,16 @@ impl<
         Arc::new(self.rt.alloc(), at_desk).map_err(AllocError::from)
     }
 
-    /// Returns the note of a connection's open Next.
-    fn parked(&self, open: &Arc<OpenPoll>) -> Result<OpenNext, AllocError> {
+    /// Returns the note of a connection's open Next, with the bells that ring after its turns.
+    fn parked(
+        &self,
+        open: &Arc<OpenPoll>,
+        bells: &Arc<LateBells>,
+    ) -> Result<OpenNext<R>, AllocError> {
         Ok(OpenNext {
+            rt: self.rt,
             open: Arc::try_clone(open)?,
+            bells: Arc::try_clone(bells)?,
         })
     }
 
@@ -375,6 +393,7 @@ impl<
         number: u16,
         function: Option<FnNo>,
         open: &Arc<OpenPoll>,
+        bells: &Arc<LateBells>,
     ) -> Result<Arc<Connection<R, Account<S, OneShotBell>, Side, N, K>>, AllocError>
         requires { (arc_value decider).config ≡ S.config }
         ensures shared { IfOk result (λ connection.
@@ -383,9 +402,12 @@ impl<
     {
         let shared = Arc::try_clone(&self.common.shared)?;
         let tally = Arc::try_clone(&self.post.tally)?;
-        let open = Arc::try_clone(open)?;
+        let (open, bells) = (Arc::try_clone(open)?, Arc::try_clone(bells)?);
         let connection = Connection::new(self.rt, shared, decider, tally, token, open)?;
-        let connection = connection.of_function(function).at_port(number);
+        let connection = connection
+            .of_function(function)
+            .at_port(number)
+            .ringing_late(bells);
         Arc::new(self.rt.alloc(), connection).map_err(AllocError::from)
     }
 
@@ -403,7 +425,7 @@ impl<
         let mut tally = self.post.tally.lock(&self.rt);
         let withdraw = Call::Withdraw { ticket };
         let account = &*self.common.shared.service;
-        match account.submit(&self.rt, &mut tally, token, now, withdraw, None) {
+        match account.submit(&self.rt, &mut tally, token, now, withdraw, None, &AtOnce) {
             Ok(_) => Ok(()),
             Err(refused) => Err(refused.refusal),
         }

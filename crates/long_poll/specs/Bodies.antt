@@ -1,9 +1,10 @@
 -- The first bytes of a request's body.
 use Rattle.std.specs.Prelude.{◌≡◌, ℕ, ◌⊎◌, List, [], ◌∷◌, ◌++◌, length, take, map}
-use Rattle.std.specs.Prelude.{Some, None, MatchOption, Result, Ok, Err}
-use Rattle.futures.specs.Runs.{Runs, Begins}
+use Rattle.std.specs.Prelude.{Option, Some, None, MatchOption, Result, Ok, Err}
+use Rattle.futures.specs.Runs.{Runs, After, Begins}
 use Rattle.http_body.specs.declared.frame.Frame.{Frame}
 use Rattle.http_body.specs.Frame.{data_of}
+use Rattle.long_poll.specs.declared.body_piece.PieceFault.{PieceFault}
 use Rattle.long_poll.specs.declared.exchange.fault.ExchangeFault.{ExchangeFault}
 use Rattle.long_poll.specs.declared.exchange.fault.ExchangeFault.TheVariants.{BodyFailed, OutOfMemory, BellLost}
 
@@ -15,10 +16,14 @@ most_bytes = 6291457
 abbrev pub IsDataOf : {D : Type 0} → (D → List ℕ → Type 0) → Frame D → List ℕ → Type 0
 IsDataOf reads frame bytes = MatchOption (data_of frame) (bytes ≡ []) (λ piece. reads piece bytes)
 
--- The data of a frame is added after the bytes that were held, up to the most bytes.
-abbrev pub Takes : {D : Type 0} → (D → List ℕ → Type 0) → Frame D → List ℕ → List ℕ → Type 0
-Takes reads frame before after =
-    (bytes : List ℕ) × IsDataOf reads frame bytes × (after ≡ take most_bytes (before ++ bytes))
+-- What comes next of a body, from which `source` may come before and `rest` afterwards: the data of a frame; an error, after
+-- which nothing is read; or its end.
+abbrev pub IsNextPiece : {D E : Type 0} → (D → List ℕ → Type 0) → Runs (Result (Frame D) E) → Runs (Result (Frame D) E)
+    → Option (Result (List ℕ) PieceFault) → Type 0
+IsNextPiece reads source rest None = source [] None
+IsNextPiece {D} reads source rest (Some (Ok bytes)) =
+    (frame : Frame D) × source [] (Some (Ok frame)) × IsDataOf reads frame bytes × After source (Ok frame) rest
+IsNextPiece {D} {E} reads source rest (Some (Err fault)) = (error : E) × source [] (Some (Err error))
 
 -- The bytes of all these frames, one after the other.
 abbrev pub AreDataOf : {D : Type 0} → (D → List ℕ → Type 0) → List (Frame D) → List ℕ → Type 0

@@ -9,6 +9,9 @@
 // its ticket is answered.
 mod service;
 
+// What is read of a body at a time, of a request's that is collected as of an answer's that is passed on.
+mod body_piece;
+
 // The exchange of one request: its body is collected, it is decided, its call is submitted, and its answer awaited and
 // rendered. A `Connection` is what the exchanges of one connection have, `Shared` what all connections of a service
 // share; a `Poll` waits for one ticket, without a request.
@@ -18,8 +21,9 @@ mod shared;
 
 // Who is woken by a step. The *beat* tells the ticker, which rests while nothing happens, and the followers, who wait
 // for the next entry of the history; an alarm ends the sleep of a thread. What a connection waits for without a limit
-// is noted, so that its peer's end is noticed.
+// is noted, so that its peer's end is noticed. The bells of its steps ring after its turn.
 mod beat;
+mod late_bells;
 mod open_poll;
 
 // What the log tells of the requests that are rejected before they are calls: the board has the counts of each kind.
@@ -36,11 +40,13 @@ mod streamed_body;
 pub mod laws;
 
 pub use beat::{Alarm, Beat};
+pub use body_piece::{PieceFault, poll_piece};
 pub use exchange::{
     BodyFault, Collecting, Connection, Exchange, ExchangeFault, Outcome, VERSION, clock_reply,
     declares_too_long, environments_reply, history_headers, reservation_reply, stats_reply,
     version_reply,
 };
+pub use late_bells::LateBells;
 pub use line::Line;
 pub use open_poll::OpenPoll;
 pub use poll::{BellLost, Poll};

@@ -44,6 +44,14 @@ impl Place {
     }
 }
 
+/// Wakes the thread of a caller that was called. The line is not locked, so the thread finds it free, and others need not
+/// wait while the system wakes it.
+fn wake(called: Option<Arc<Seat>>) {
+    if let Some(seat) = called {
+        seat.wake();
+    }
+}
+
 /// The queue of the callers whose Invokes are held back, which the threads of all connections share. The callers of a
 /// function are called one by one, as its environments become ready.
 #[derive(Drop)]
@@ -123,22 +131,32 @@ impl Line {
     /// Calls a caller, since an environment of this function may have become ready.
     pub(crate) fn call(&self, rt: &impl Wait, function: FnNo) {
         self.readies.fetch_add(1, SeqCst);
-        if self.length.load(SeqCst) == 0 {
-            return;
+        if self.length.load(SeqCst) > 0 {
+            wake(self.next_called(rt, function));
         }
+    }
+
+    /// Calls the next caller, and returns its seat.
+    fn next_called(&self, rt: &impl Wait, function: FnNo) -> Option<Arc<Seat>> {
         let mut queue = self.queue.lock(rt);
         self.tidy(&mut queue);
-        queue.call(function, 1);
+        queue.call(function, 1)
     }
 
     /// Leaves the line. If the caller was called more often than the once that it needed, the next one is called; also
     /// if it was not called at all, since something else has changed.
     pub(crate) fn leave(&self, rt: &impl Wait, place: Place) {
+        wake(self.called_instead(rt, place));
+    }
+
+    /// Removes a caller from the queue, and calls the next one if it has to be. Returns the seat of that one.
+    fn called_instead(&self, rt: &impl Wait, place: Place) -> Option<Arc<Seat>> {
         let mut queue = self.queue.lock(rt);
         let spare = queue.remove(place.number);
         self.tidy(&mut queue);
-        if spare > 0 {
-            queue.call(place.function, spare);
+        if spare == 0 {
+            return None;
         }
+        queue.call(place.function, spare)
     }
 }

@@ -16,7 +16,7 @@ ghost use Rattle.account_lock.specs.declared.desk.Look.{Look as Seen};
 ghost use Rattle.long_poll.specs.UnlessPremature.{CameBack, UnlessPremature};
 ghost use Rattle.long_poll.specs.declared.service.bell.OneShotBell.{OneShotBell as Rings};
 
-use account_lock::{Look, NotTaken, Refused};
+use account_lock::{Look, NotTaken, Refused, Ringer};
 use arn_ids::FnNo;
 pub use bell::{Heard, OneShotBell};
 use call_model::{Call, Stats, Ticket};
@@ -89,7 +89,7 @@ pub trait Service<K: Keep>: Drop {
     ghost reserves: { Self → List Entry → ℕ → Option ℕ → List Entry → Type 0 };
 
     /// Submits a call at a moment in milliseconds, below 2^53, with the bell of the caller that waits
-    /// for its answer. The tally counts what the step counts.
+    /// for its answer. The tally counts what the step counts. The ringer gets the bells of the step.
     ///
     /// # Errors
     /// `Refused` if the call is not taken; its bell is returned.
@@ -101,6 +101,7 @@ pub trait Service<K: Keep>: Drop {
         now: u64,
         call: Call,
         bell: Option<OneShotBell>,
+        ringer: &impl Ringer<OneShotBell>,
     ) -> Result<(Ticket, Token<Self::Ledgers>), Refused<OneShotBell>>
         requires moment { now < 2 ^ 53 }
         requires within { IsWithin (serves self.now) call }
@@ -119,6 +120,7 @@ pub trait Service<K: Keep>: Drop {
         now: u64,
         call: Call,
         bell: Option<OneShotBell>,
+        ringer: &impl Ringer<OneShotBell>,
     ) -> Result<(Ticket, Token<Self::Ledgers>), NotTaken<OneShotBell>>
         requires moment { now < 2 ^ 53 }
         requires within { IsWithin (serves self.now) call }

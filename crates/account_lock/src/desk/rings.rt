@@ -1,6 +1,6 @@
 //! The bells that a step hands out.
 
-ghost use Rattle.std.specs.Prelude.{◌≡◌, []};
+ghost use Rattle.std.specs.Prelude.{◌≡◌, ◌==◌, [], length};
 
 use crate::Bell;
 use std::marker::Model;
@@ -47,6 +47,13 @@ impl<B> Rings<B> {
             second,
             others: no_others,
         }
+    }
+
+    /// Returns whether there is no bell.
+    pub fn is_empty(&self) -> bool
+        ensures { result ≡ (length self.now == 0) }
+    {
+        self.first.is_none() && self.second.is_none() && self.others.is_empty()
     }
 }
 

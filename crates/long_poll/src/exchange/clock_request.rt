@@ -35,9 +35,15 @@ impl<
     {
         let mut token = self.token();
         let mut tally = self.tally.lock(&self.rt);
-        let came = self
-            .service()
-            .submit(&self.rt, &mut tally, &mut token, now, Call::Tick, None);
+        let came = self.service().submit(
+            &self.rt,
+            &mut tally,
+            &mut token,
+            now,
+            Call::Tick,
+            None,
+            self,
+        );
         let seen = self.put_back(token);
         match came {
             Ok((_ticket, taken)) => Ok(taken),

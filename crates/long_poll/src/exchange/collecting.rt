@@ -1,19 +1,19 @@
 //! A future for the first bytes of a request's body.
 
-ghost use Rattle.std.specs.Prelude.{◌≡◌, ◌==◌, ◌≤◌, [], length, IfOk, MatchResult, OnOk};
-ghost use Rattle.long_poll.specs.Bodies.{Collects, IsDataOf, Takes, most_bytes};
+ghost use Rattle.std.specs.Prelude.{◌≡◌, ◌==◌, ◌≤◌, ◌++◌, [], length, take, IfOk, MatchResult, OnOk};
+ghost use Rattle.long_poll.specs.Bodies.{Collects, most_bytes};
 
 use super::first_bytes::FirstBytes;
-use crate::{BodyFault, ExchangeFault};
+use crate::{BodyFault, ExchangeFault, PieceFault, poll_piece};
 use bytes::Bytes;
 use futures::future::Future;
 use futures::ready;
 use futures::task::{Context, Poll};
-use http_body::{Body, Frame};
+use http_body::Body;
 use std::alloc::{AllocError, Global};
 
-/// The most frames that one poll takes, so that a long body does not keep other futures waiting.
-const FRAMES_PER_POLL: u32 = 128;
+/// The most pieces that one poll takes, so that a long body does not keep other futures waiting.
+const PIECES_PER_POLL: u32 = 128;
 
 /// Collects the first bytes of a body: those that a body may have, and one more.
 #[derive(Drop)]
@@ -21,16 +21,6 @@ pub struct Collecting<B> {
     alloc: Global,
     body: B,
     held: FirstBytes,
-}
-
-/// Returns the bytes of a frame's data; trailers have none.
-fn data_in<D: Into<Bytes> + Drop>(frame: Frame<D>) -> Bytes
-    ensures { IsDataOf D.converts frame result }
-{
-    match frame.into_data() {
-        Ok(piece) => piece.into(),
-        Err(_) => Bytes::new(),
-    }
 }
 
 impl<B: Body> Collecting<B> {
@@ -44,20 +34,15 @@ impl<B: Body> Collecting<B> {
             held: FirstBytes::none(alloc),
         }
     }
-}
 
-impl<B: Body> Collecting<B>
-where
-    B::Data: Into<Bytes>,
-{
-    /// Takes the data of a frame. Returns whether no more is read.
-    fn take_frame(&mut self, frame: Frame<B::Data>) -> Result<bool, AllocError>
-        ensures taken { OnOk result (Takes B.Data.converts frame self.old.held self.new.held) }
+    /// Takes a piece of the body. Returns whether no more is read.
+    fn take_piece(&mut self, piece: Bytes) -> Result<bool, AllocError>
+        ensures taken { OnOk result (self.new.held ≡ take most_bytes (self.old.held ++ piece)) }
         ensures full { IfOk result (λ full. full ≡ (length self.new.held == most_bytes)) }
         ensures body { self.new.body ≡ self.old.body }
     {
         let expected = self.body.size_hint().lower();
-        self.held.add(data_in(frame), expected)?;
+        self.held.add(piece, expected)?;
         Ok(self.held.is_full())
     }
 
@@ -88,18 +73,18 @@ where
     ghost gives = { λ collecting. Collects B.Data.converts (B.yields collecting.body) collecting.held };
 
     fn poll(&mut self, cx: &mut Context<'_>) -> Poll<Result<Bytes, ExchangeFault>> {
-        for _ in 0..FRAMES_PER_POLL {
-            let frame = match ready!(self.body.poll_frame(cx)) {
+        for _ in 0..PIECES_PER_POLL {
+            let piece = match ready!(poll_piece(&mut self.body, cx)) {
                 None => return Poll::Ready(self.collected()),
-                Some(Err(fault)) => {
-                    if fault.is_out_of_memory() {
-                        return Poll::Ready(Err(ExchangeFault::OutOfMemory));
-                    }
+                Some(Err(PieceFault::OutOfMemory)) => {
+                    return Poll::Ready(Err(ExchangeFault::OutOfMemory));
+                }
+                Some(Err(PieceFault::BodyFailed)) => {
                     return Poll::Ready(Err(ExchangeFault::BodyFailed));
                 }
-                Some(Ok(frame)) => frame,
+                Some(Ok(piece)) => piece,
             };
-            match self.take_frame(frame) {
+            match self.take_piece(piece) {
                 Err(AllocError) => return Poll::Ready(Err(ExchangeFault::OutOfMemory)),
                 Ok(true) => return Poll::Ready(self.collected()),
                 Ok(false) => {}

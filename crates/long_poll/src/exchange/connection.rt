@@ -15,9 +15,10 @@ use super::views::{
 };
 use crate::beat::FollowerPlace;
 use crate::{
-    Cause, Clock, ExchangeFault, Heard, HistoryBody, Kind, MOST_LAG_MS, OpenPoll, Outcome, Service,
-    Shared, StreamedBody, TraceBody,
+    Cause, Clock, ExchangeFault, Heard, HistoryBody, Kind, LateBells, MOST_LAG_MS, OneShotBell,
+    OpenPoll, Outcome, Service, Shared, StreamedBody, TraceBody,
 };
+use account_lock::{Ringer, Rings};
 use arn_ids::FnNo;
 use call_model::{Stats, Ticket};
 use decisions::{Decide, Decision, Received, Shown, TraceQuery};
@@ -45,6 +46,8 @@ pub struct Connection<R, S: Service<K>, D: Decide, N, K: Keep> {
     pub(crate) function: Option<FnNo>,
     // The number of its port, 0 if it is not known.
     port: u16,
+    // Where the bells of its steps wait for the end of its turn; if there is no such place, they ring at once.
+    bells: Option<Arc<LateBells>>,
     // The token, which has seen the history up to the earlier requests; none while a request has it.
     seen: Cell<Option<Token<S::Ledgers>>>,
     // The scratch space in which payloads are read, one decision at a time.
@@ -73,6 +76,16 @@ pub(crate) enum Begun<L: Ledgers> {
         heard: Heard,
         token: Token<L>,
     },
+}
+
+impl<R: Drop, S: Service<K>, D: Decide + Drop, N: Drop, K: Keep> Ringer<OneShotBell>
+    for Connection<R, S, D, N, K> {
+    fn take<W: Wait>(&self, rt: &W, rings: Rings<OneShotBell>) {
+        match &self.bells {
+            Some(bells) => bells.take(rt, rings),
+            None => rings.ring(),
+        }
+    }
 }
 
 impl<
@@ -118,6 +131,7 @@ impl<
             open,
             function: None,
             port: 0,
+            bells: None,
             seen: Cell::new(Some(token)),
             scratch: Cell::new(PayloadScratch::sharing(long)),
         })
@@ -138,6 +152,22 @@ impl<
     {
         self.port = port;
         self
+    }
+
+    /// Returns the same connection, the bells of whose steps are held here, by a thread that rings them after each turn of
+    /// the connection.
+    pub fn ringing_late(mut self, bells: Arc<LateBells>) -> Connection<R, S, D, N, K>
+        ensures { (result.shared ≡ self.shared) × (result.decider ≡ self.decider) }
+    {
+        self.bells = Some(bells);
+        self
+    }
+
+    /// Rings the bells of its steps now.
+    pub(crate) fn ring_bells(&self) {
+        if let Some(bells) = &self.bells {
+            bells.ring(&self.rt);
+        }
     }
 
     /// Counts a request that is rejected, for the log. What its response says of it is kept if `why` is given.

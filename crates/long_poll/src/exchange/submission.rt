@@ -93,9 +93,15 @@ impl<
         let mut token = self.token();
         let mut tally = self.tally.lock(&self.rt);
         let now = moment(self.clock());
-        let came = self
-            .service()
-            .submit(&self.rt, &mut tally, &mut token, now, call, Some(bell));
+        let came = self.service().submit(
+            &self.rt,
+            &mut tally,
+            &mut token,
+            now,
+            call,
+            Some(bell),
+            self,
+        );
         let seen = self.put_back(token);
         match came {
             Ok((ticket, taken)) => Attempt::Taken(ticket, taken),
@@ -111,9 +117,15 @@ impl<
         let mut token = self.token();
         let mut tally = self.tally.lock(&self.rt);
         let now = moment(self.clock());
-        let came = self
-            .service()
-            .submit_unless_premature(&self.rt, &mut tally, &mut token, now, call, Some(bell));
+        let came = self.service().submit_unless_premature(
+            &self.rt,
+            &mut tally,
+            &mut token,
+            now,
+            call,
+            Some(bell),
+            self,
+        );
         let seen = self.put_back(token);
         match came {
             Ok((ticket, taken)) => Attempt::Taken(ticket, taken),
@@ -166,13 +178,14 @@ impl<
     }
 
     /// Sleeps at a place in the line until it is called, for a pause at most. Returns how many microseconds of
-    /// these are left.
+    /// these are left. The bells of earlier steps of the connection ring before.
     fn pause(&self, left_us: u64, place: &Option<Place>) -> u64
         ensures { result ≤ left_us }
     {
         match place {
             None => left_us,
             Some(place) => {
+                self.ring_bells();
                 let slept_us = place.sleep(&self.rt, left_us.min(LONGEST_PAUSE_US));
                 left_us.saturating_sub(slept_us)
             }

@@ -2,6 +2,7 @@
 
 ghost use Rattle.std.specs.Prelude.{◌≡◌, ◌↔◌, ◌++◌, ◌∷◌, [], length, not, is_some, position, remove, slice_index_or};
 ghost use Rattle.std.specs.Prelude.{IfOk, IfErr, IfSome, IsTrue, MatchOption};
+ghost use Rattle.std.specs.Arc.{arc_value};
 ghost use Rattle.long_poll.specs.Queues.{first_of, first_waiting, next_of, is_numbered, is_waiting};
 ghost use Rattle.long_poll.specs.Queues.{Changes, HasTurn, called, spare_of, trying};
 ghost use Rattle.long_poll.specs.declared.line.queue.Caller.{Caller};
@@ -34,6 +35,19 @@ impl Caller {
             called,
             tried: 0,
             seat,
+        }
+    }
+}
+
+/// Returns a called caller's seat; or wakes its thread, if the seat cannot be shared.
+fn shared(seat: &Arc<Seat>) -> Option<Arc<Seat>>
+    ensures { IfSome result (λ it. arc_value it ≡ arc_value seat.now) }
+{
+    match Arc::try_clone(seat) {
+        Ok(seat) => Some(seat),
+        Err(AllocError) => {
+            seat.wake();
+            None
         }
     }
 }
@@ -147,18 +161,19 @@ impl Queue {
         is_first || was_called
     }
 
-    /// Calls the next caller, so many times at once, and wakes its thread.
-    pub(crate) fn call(&mut self, function: FnNo, times: u64)
-        ensures { MatchOption (next_of function self.old.callers.items)
+    /// Calls the next caller, so many times at once. Returns its seat, in which its thread is to be woken once the queue
+    /// is not locked any more. (If the seat cannot be shared, its thread is woken at once.)
+    pub(crate) fn call(&mut self, function: FnNo, times: u64) -> Option<Arc<Seat>>
+        ensures list { MatchOption (next_of function self.old.callers.items)
             (self.new.callers.items ≡ self.old.callers.items)
             (λ at. Changes (called times) at self.old.callers.items self.new.callers.items) }
+        ensures seat { (d : Caller) → IfSome result (λ seat. IfSome (next_of function self.old.callers.items)
+            (λ at. arc_value seat ≡ arc_value (slice_index_or self.old.callers.items at d).seat)) }
     {
-        let Some(at) = self.next_of(function) else {
-            return;
-        };
+        let at = self.next_of(function)?;
         let caller = &mut self.callers[at];
         caller.called = caller.called.saturating_add(times);
-        caller.seat.wake();
+        shared(&caller.seat)
     }
 
     /// Removes the caller with this number. Returns how often the next one is to be called in its place: for each of

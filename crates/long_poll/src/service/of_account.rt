@@ -7,7 +7,7 @@ ghost use Rattle.long_poll.specs.Reads.{Begins, Closes, Lists, Passes, Traces};
 ghost use Rattle.long_poll.specs.Submits.{Submits};
 
 use crate::{OneShotBell, Service};
-use account_lock::{Account, Identity, Look, NotTaken, Refused, Trail};
+use account_lock::{Account, Identity, Look, NotTaken, Refused, Ringer, Trail};
 use arn_ids::FnNo;
 use call_model::{Call, Stats, Ticket};
 use lambda_wire::Reply;
@@ -59,8 +59,9 @@ impl<S: Identity + Drop, K: Keep> Service<K> for Account<S, OneShotBell> {
         now: u64,
         call: Call,
         bell: Option<OneShotBell>,
+        ringer: &impl Ringer<OneShotBell>,
     ) -> Result<(Ticket, Token<S>), Refused<OneShotBell>> {
-        Account::submit(self, rt, tally, token, now, call, bell)
+        Account::submit(self, rt, tally, token, now, call, bell, ringer)
     }
 
     fn submit_unless_premature<R: Wait>(
@@ -71,8 +72,9 @@ impl<S: Identity + Drop, K: Keep> Service<K> for Account<S, OneShotBell> {
         now: u64,
         call: Call,
         bell: Option<OneShotBell>,
+        ringer: &impl Ringer<OneShotBell>,
     ) -> Result<(Ticket, Token<S>), NotTaken<OneShotBell>> {
-        Account::submit_unless_premature(self, rt, tally, token, now, call, bell)
+        Account::submit_unless_premature(self, rt, tally, token, now, call, bell, ringer)
     }
 
     fn token<R: Wait>(&self, rt: &R) -> Token<S> {

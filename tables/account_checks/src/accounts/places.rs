@@ -6,7 +6,7 @@ ghost use Rattle.std.specs.Arc.{arc_value};
 use crate::accounts::bells::Numbered;
 use crate::opening::Opening;
 use account_book::{Book, Life, OpenFault, Refusal};
-use account_lock::{Account, Desk, Identity, Look, Refused};
+use account_lock::{Account, AtOnce, Desk, Identity, Look, Refused};
 use arn_ids::{Checked, FnNo};
 use call_model::{Stats, Ticket};
 use lambda_wire::Reply;
@@ -111,7 +111,7 @@ impl<R: Wait, S: Identity> Place<R, S> {
         let Some((now, call)) = read else {
             return Ok(Taken::NoCall);
         };
-        match self.account.submit(&self.rt, tally, token, now, call, bell) {
+        match self.account.submit(&self.rt, tally, token, now, call, bell, &AtOnce) {
             Ok((ticket, _)) => Ok(Taken::At(ticket)),
             Err(refused) => Err(refused),
         }

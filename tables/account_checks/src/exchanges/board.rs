@@ -1,7 +1,7 @@
 //! A service that is not an account, and behaves as a case says.
 
 use account_book::Refusal;
-use account_lock::{Account, Bell, Identity, Look, NotTaken, Refused};
+use account_lock::{Account, Bell, Identity, Look, NotTaken, Refused, Ringer};
 use arn_ids::FnNo;
 use call_model::{Answer, Call, Stats, Ticket};
 use case_tables::Given;
@@ -133,6 +133,7 @@ impl<S: Identity> Service<KeepNone> for Board<S> {
         now: u64,
         _call: Call,
         bell: Option<OneShotBell>,
+        _ringer: &impl Ringer<OneShotBell>,
     ) -> Result<(Ticket, Token<S>), Refused<OneShotBell>> {
         self.submitted.fetch_add(1, SeqCst);
         self.take(rt, now, bell)
@@ -146,6 +147,7 @@ impl<S: Identity> Service<KeepNone> for Board<S> {
         now: u64,
         call: Call,
         bell: Option<OneShotBell>,
+        _ringer: &impl Ringer<OneShotBell>,
     ) -> Result<(Ticket, Token<S>), NotTaken<OneShotBell>> {
         let before = self.attempts.fetch_add(1, SeqCst);
         if matches!(self.mood, Mood::Answers(count) if before < count) {

@@ -4,7 +4,7 @@ ghost use Rattle.std.specs.Prelude.{◌≡◌, true, IfOk, IfSome};
 ghost use Rattle.call_types.specs.Within.{IsEnv, IsFunction, is_body};
 ghost use Rattle.decisions.specs.Decisions.{IsAllowed};
 
-use account_lock::Identity;
+use account_lock::{AtOnce, Identity};
 use arn_ids::{GREATEST_MOMENT, LONGEST_BODY};
 use bytes::Bytes;
 use call_model::{Call, Ticket};
@@ -171,7 +171,7 @@ impl<S: Identity> Rows<S> {
         let (bell, heard) = OneShotBell::pair(alloc)?;
         let call = Call::RuntimeNext { env: 1 };
         let mut seen = service.token(rt);
-        match service.submit(rt, tally, &mut seen, 500, call, Some(bell)) {
+        match service.submit(rt, tally, &mut seen, 500, call, Some(bell), &AtOnce) {
             Ok((ticket, token)) => Ok(Parked {
                 ticket,
                 heard,
