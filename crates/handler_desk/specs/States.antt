@@ -1,11 +1,11 @@
--- What may wait for a handler, and for how long one is waited for.
+-- What may be handed over at once, and for how long a handler is waited for.
 use Rattle.std.specs.Prelude.{◌≡◌, ℕ, Bool, true, false, Option, is_some}
 use Rattle.handover.specs.declared.fault.PutFault.{PutFault}
 use Rattle.handler_desk.specs.declared.state.NotPut.{NotPut}
 use Rattle.handler_desk.specs.declared.state.NotPut.TheVariants.{NoHandler, TooMany, OutOfMemory}
 use Rattle.handover.specs.declared.counter.Limits.{Limits}
 
--- 1,024 requests, of 64 MiB together.
+-- 1,024 requests, those that wait and those at handlers; 64 MiB of those that wait.
 abbrev pub limits : Limits
 limits = record { most = 1024; most_bytes = 67108864 }
 

@@ -84,7 +84,7 @@ impl Desk {
     /// Lets a request wait, and wakes the handlers that wait for one.
     ///
     /// # Errors
-    /// If no handler is here, if too many requests wait, or if an allocation fails.
+    /// If no handler is here, if too many requests wait or are at handlers, or if an allocation fails.
     pub fn put<R: Wait + Clock>(&self, rt: &R, request: Request) -> Result<Put, NotPut> {
         let now = self.now(rt);
         let (put, bells) = self.put_at(rt, now, request);
@@ -100,6 +100,9 @@ impl Desk {
         request: Request,
     ) -> (Result<Put, NotPut>, Vec<Sender<()>>) {
         let mut state = self.state.lock(rt);
+        if state.is_full(request.bytes()) {
+            state.make_room();
+        }
         let put = state.put(now, request);
         (put, state.take_bells())
     }

@@ -1,7 +1,7 @@
 //! The requests that wait for a handler, those that handlers have taken, and whether a handler is here.
 
 ghost use Rattle.std.specs.Prelude.{◌≡◌, ◌&&◌, not, true, false, IfOk, OnOk, IfErr, OnErr, MatchResult, None, Some};
-ghost use Rattle.std.specs.Prelude.{[], option_map, IsSomeAnd};
+ghost use Rattle.std.specs.Prelude.{[], is_some, option_map, IsSomeAnd};
 ghost use Rattle.std.specs.BTreeMap.{is_at};
 ghost use Rattle.std.specs.Map.{lookup};
 ghost use Rattle.std.specs.Ordering.{nat_cmp};
@@ -20,7 +20,7 @@ use std::alloc::{AllocError, Global};
 use std::collections::BTreeMap;
 use std::mem;
 
-/// How many requests may wait for a handler, and how many bytes they may have together.
+/// How many requests may wait for a handler or be at one, and how many bytes those that wait may have together.
 const LIMITS: Limits = Limits {
     most: 1_024,
     most_bytes: 67_108_864,
@@ -41,7 +41,7 @@ pub(crate) struct Seat {
 pub enum NotPut {
     /// No handler is here, nor was one a moment ago; or the service is over.
     NoHandler,
-    /// As many requests wait as may, or their bytes and its own are more than may wait.
+    /// As many requests wait or are at handlers as may, or the bytes of those that wait and its own are more than may.
     TooMany,
     /// An allocation failed.
     OutOfMemory,
@@ -109,10 +109,17 @@ impl State {
         self.is_over
     }
 
+    /// Returns whether there is no room for a request of so many bytes.
+    pub(crate) fn is_full(&self, bytes: u64) -> bool
+        ensures { result ≡ is_some (refusal bytes self.now.requests) }
+    {
+        self.requests.refusal(bytes).is_some()
+    }
+
     /// Lets a request wait at this moment, if a handler is here.
     ///
     /// # Errors
-    /// If none is, if too many wait, or if memory is refused, in this order. What waits, and what handlers have taken, is
+    /// If none is, if there is no room, or if memory is refused, in this order. What waits, and what handlers have taken, is
     /// then as it was.
     pub(crate) fn put(&mut self, now: u64, request: Request) -> Result<Put, NotPut>
         ensures attended { OnOk result ((not self.old.is_over && is_attended now self.old.attendance) ≡ true) }
@@ -126,7 +133,7 @@ impl State {
         if !self.is_attended(now) {
             return Err(NotPut::NoHandler);
         }
-        if self.requests.refusal(request.bytes()).is_some() {
+        if self.is_full(request.bytes()) {
             return Err(NotPut::TooMany);
         }
         let (sender, given) = channel(self.alloc)?;
@@ -191,6 +198,27 @@ impl State {
     {
         let _ = self.requests.requester_ended(id);
         let _ = self.seats.remove(&id);
+    }
+
+    /// Returns the first request for whose answer no one waits.
+    fn forsaken(&self) -> Option<u64> {
+        for (id, seat) in self.seats.iter() {
+            if seat.sender.is_canceled() {
+                return Some(*id);
+            }
+        }
+        None
+    }
+
+    /// Removes the requests for whose answers no one waits, so that they take no one's room: those that wait, and those
+    /// at handlers that do not answer. It visits all, so it is for when there is no room.
+    pub(crate) fn make_room(&mut self) {
+        for _ in 0..LIMITS.most {
+            match self.forsaken() {
+                Some(id) => self.withdraw(id),
+                None => return,
+            }
+        }
     }
 
     /// Returns why a handler may not answer a request, if it may not.

@@ -1,29 +1,43 @@
--- What waits stays within the limits.
-use Rattle.std.proofs.Common.{◌≡◌, ℕ, ◌+◌, ◌<◌, ◌≤◌, Bool, true, false, cond, List, [], ◌∷◌, length, Option, Some, None, refl, ap, arith, length-append}
+-- What is handed over stays within the limits.
+use Rattle.std.proofs.Common.{◌≡◌, ℕ, ◌+◌, ◌<◌, ◌≤◌, Bool, true, false, cond, not, List, [], ◌∷◌, ◌++◌, length, Option, Some, None, refl, ap, arith, length-append}
+use Rattle.std.proofs.lemmas.List.{append-nil}
 use Rattle.std.proofs.lemmas.List.Sums.{sum_by-cons}
 use Rattle.std.proofs.lemmas.Map.Entries.{sum_by-remove_entry}
 use Rattle.std.specs.BTreeMap.{is_at}
+use Rattle.std.specs.List.{filter}
 use Rattle.std.specs.Map.{remove_entry, values_of}
 use Rattle.std.specs.Ordering.{nat_cmp}
 use Rattle.handover.specs.declared.request.Request.{Request}
 use Rattle.handover.specs.declared.counter.Limits.{Limits}
 use Rattle.handover.specs.declared.fault.PutFault.{PutFault}
 use Rattle.handover.specs.declared.fault.NotTaken.{NotTaken}
-use Rattle.handover.specs.Counters.{Counter, bytes_of, bytes_held, refusal, with_request, others_of, answered}
+use Rattle.handover.specs.Counters.{Counter, bytes_of, bytes_held, refusal, with_request, others_of, first_for, answered, is_at_handler}
 use Rattle.handover.specs.Stages.{stage, denial}
 use Rattle.handover.specs.Runs.{Event, Comes, Asks, Answers, HandlerEnds, RequesterEnds, GivesUp, after, unless, run}
 use Rattle.handover.proofs.Sound.{held_with}
 
 pub record IsWithin (limits : Limits) (c : Counter) : Type 0 where
   pub same : c.limits ≡ limits
-  pub requests : length c.waiting ≤ limits.most
+  pub requests : length c.waiting + length c.taken ≤ limits.most
   pub bytes : bytes_held c.waiting ≤ limits.most_bytes
 
-removed_length : (test : ℕ → Bool) (waiting : List (ℕ × Request)) → length (remove_entry test waiting) ≤ length waiting
+removed_length : {X : Type 0} (test : ℕ → Bool) (entries : List (ℕ × X)) → length (remove_entry test entries) ≤ length entries
 removed_length test [] = omega arith
-removed_length test (w ∷ ws) =
-    elim (test w.0) as (λ b. length (cond b ws (w ∷ remove_entry test ws)) ≤ length (w ∷ ws))
-    [ true ↦ omega arith | false ↦ omega (arith, removed_length test ws) ]
+removed_length test (e ∷ es) =
+    elim (test e.0) as (λ b. length (cond b es (e ∷ remove_entry test es)) ≤ length (e ∷ es))
+    [ true ↦ omega arith | false ↦ omega (arith, removed_length test es) ]
+
+kept_length : (test : ℕ × ℕ → Bool) (taken : List (ℕ × ℕ)) → length (filter test taken) ≤ length taken
+kept_length test [] = omega arith
+kept_length test (t ∷ ts) =
+    elim (test t) as (λ b. length (cond b (t ∷ filter test ts) (filter test ts)) ≤ length (t ∷ ts))
+    [ true ↦ omega (arith, kept_length test ts) | false ↦ omega (arith, kept_length test ts) ]
+
+-- A request that is taken waits no longer.
+asked_length : (handler : ℕ) (waiting : List (ℕ × Request)) (taken : List (ℕ × ℕ))
+    → length (others_of waiting) + length (taken ++ first_for handler waiting) ≡ length waiting + length taken
+asked_length handler [] taken = rw (append-nil taken) (omega arith)
+asked_length handler (w ∷ ws) taken = omega (arith, length-append taken ((w.0, handler) ∷ []))
 
 others_length : (waiting : List (ℕ × Request)) → length (others_of waiting) ≤ length waiting
 others_length [] = omega arith
@@ -35,7 +49,7 @@ others_bytes (w ∷ ws) = omega (arith, sum_by-cons bytes_of w.1 (values_of ws))
 
 -- What is not refused fits.
 fits : (bytes : ℕ) (c : Counter) → refusal bytes c ≡ None
-    → (length c.waiting < c.limits.most) × (bytes_held c.waiting + bytes ≤ c.limits.most_bytes)
+    → (length c.waiting + length c.taken < c.limits.most) × (bytes_held c.waiting + bytes ≤ c.limits.most_bytes)
 fits bytes c is = grind (arith, is)
 
 module _ (limits : Limits) (c : Counter) (within : IsWithin limits c) where
@@ -54,26 +68,40 @@ module _ (limits : Limits) (c : Counter) (within : IsWithin limits c) where
 
   answered_within : (id : ℕ) (reason : Option NotTaken) → IsWithin limits (unless reason c (answered id c))
   answered_within id (Some reason) = within
-  answered_within id None = record { same = within.same; requests = within.requests; bytes = within.bytes }
-
-  others_within : (taken : List (ℕ × ℕ)) → IsWithin limits (record c { waiting = others_of c.waiting; taken = taken })
-  others_within taken = record {
+  answered_within id None = record {
     same = within.same;
-    requests = omega (arith, within.requests, others_length c.waiting);
-    bytes = omega (arith, within.bytes, others_bytes c.waiting);
+    requests = omega (arith, within.requests, removed_length (is_at (nat_cmp id)) c.taken);
+    bytes = within.bytes;
   }
 
   within_after : (event : Event) → IsWithin limits (after c event)
   within_after (Comes request) = comes_within request (refusal (bytes_of request) c) refl
-  within_after (Asks handler) = others_within _
+  within_after (Asks handler) = record {
+    same = within.same;
+    requests = omega (arith, within.requests, asked_length handler c.waiting c.taken);
+    bytes = omega (arith, within.bytes, others_bytes c.waiting);
+  }
   within_after (Answers id handler) = answered_within id (denial handler (stage id c))
-  within_after (HandlerEnds handler) = record { same = within.same; requests = within.requests; bytes = within.bytes }
+  within_after (HandlerEnds handler) = record {
+    same = within.same;
+    requests = omega (arith, within.requests, kept_length (λ t. not (is_at_handler handler t)) c.taken);
+    bytes = within.bytes;
+  }
   within_after (RequesterEnds id) = record {
     same = within.same;
-    requests = omega (arith, within.requests, removed_length (is_at (nat_cmp id)) c.waiting);
+    requests = omega (
+      arith,
+      within.requests,
+      removed_length (is_at (nat_cmp id)) c.waiting,
+      removed_length (is_at (nat_cmp id)) c.taken,
+    );
     bytes = omega (arith, within.bytes, sum_by-remove_entry bytes_of (is_at (nat_cmp id)) c.waiting);
   }
-  within_after GivesUp = others_within c.taken
+  within_after GivesUp = record {
+    same = within.same;
+    requests = omega (arith, within.requests, others_length c.waiting);
+    bytes = omega (arith, within.bytes, others_bytes c.waiting);
+  }
 
 pub within_run : (limits : Limits) (c : Counter) (events : List Event) → IsWithin limits c → IsWithin limits (run c events)
 within_run limits c [] within = within

@@ -12,7 +12,7 @@ use Rattle.handover.specs.declared.fault.PutFault.TheVariants.{TooMany, TooManyB
 
 -- The requests that wait for a handler, each with its identifier, in the order in which they came; the identifiers of
 -- those that a handler has taken, each with its handler, in the order in which they were taken; the identifier of the
--- request that comes next; and what may wait.
+-- request that comes next; and what may be handed over at once.
 pub record Counter : Type 0 where
   pub waiting : List (ℕ × Request)
   pub taken : List (ℕ × ℕ)
@@ -31,11 +31,11 @@ bytes_held waiting = sum_by bytes_of (values_of waiting)
 abbrev pub opened : Limits → Counter
 opened limits = record { waiting = []; taken = []; next_id = 0; limits = limits }
 
--- Why a request of so many bytes is refused, if it is: as many wait as may; their bytes and its own are more than may
--- wait; all identifiers are given.
+-- Why a request of so many bytes is refused, if it is: as many wait or are at handlers as may; the bytes of those that
+-- wait and its own are more than may wait; all identifiers are given.
 abbrev pub refusal : ℕ → Counter → Option PutFault
 refusal bytes c =
-    if nat_le c.limits.most (length c.waiting) then Some TooMany
+    if nat_le c.limits.most (length c.waiting + length c.taken) then Some TooMany
     else if nat_lt c.limits.most_bytes (bytes_held c.waiting + bytes) then Some TooManyBytes
     else if nat_le (2 ^ 64 - 1) c.next_id then Some NoIdentifier
     else None

@@ -1,12 +1,12 @@
 //! The requests that wait for a handler, and those that handlers have taken.
 
-ghost use Rattle.std.specs.Prelude.{◌≡◌, ◌+◌, ◌-◌, ◌^◌, ◌<◌, length, IfOk, OnOk, IfErr, OnErr, MatchOption, MatchResult, None, Some};
+ghost use Rattle.std.specs.Prelude.{◌≡◌, ◌+◌, ◌-◌, ◌^◌, ◌<◌, IfOk, OnOk, IfErr, OnErr, MatchOption, MatchResult, None, Some};
 ghost use Rattle.std.specs.BTreeMap.{is_at};
 ghost use Rattle.std.specs.Map.{remove_entry};
 ghost use Rattle.std.specs.Ordering.{nat_cmp};
 ghost use Rattle.handover.specs.declared.fault.PutFault.TheVariants.{OutOfMemory};
 ghost use Rattle.handover.specs.Counters.{bytes_of, bytes_held, opened, refusal, first_of, others_of, with_request, taken_by, given_up};
-ghost use Rattle.handover.specs.Counters.{answered, withdrawn, taken_of, without_handler};
+ghost use Rattle.handover.specs.Counters.{answered, withdrawn, without_handler};
 ghost use Rattle.handover.specs.Stages.{stage, denial};
 
 use crate::fault::{NotTaken, PutFault};
@@ -16,12 +16,12 @@ use std::alloc::{AllocError, Global};
 use std::collections::BTreeMap;
 use std::marker::Model;
 
-/// What may wait for a handler.
+/// What may be handed over at once.
 #[derive(Clone, Copy)]
 pub struct Limits {
-    /// How many requests.
+    /// How many requests, those that wait and those at handlers together.
     pub most: u64,
-    /// How many bytes they may have together.
+    /// How many bytes those that wait may have together. (Nothing is held of the others.)
     pub most_bytes: u64,
 }
 
@@ -31,8 +31,7 @@ pub struct Limits {
 /// Contracts see a record of the lists of both. A request that waits holds its bytes here, within the limits; one
 /// that was taken holds its identifier alone, until it is answered, its handler ends or its requester goes away.
 ///
-/// No call visits the requests that wait; `handler_ended` and `end_handler` alone visit those
-/// that were taken.
+/// No call visits the requests that wait; `end_handler` alone visits those that were taken.
 #[derive(Drop)]
 pub struct Requests {
     waiting: BTreeMap<u64, Request>,
@@ -74,32 +73,11 @@ impl Requests {
         }
     }
 
-    /// Returns how many requests wait.
-    pub fn waiting(&self) -> u64
-        ensures { result ≡ length self.now.waiting }
-    {
-        self.waiting.len() as u64
-    }
-
-    /// Returns how many requests handlers have taken and not answered yet.
-    pub fn taken(&self) -> u64
-        ensures { result ≡ length self.now.taken }
-    {
-        self.taken.len() as u64
-    }
-
     /// Returns the identifier of the request that comes next.
     pub fn next_id(&self) -> u64
         ensures { result ≡ self.now.next_id }
     {
         self.next_id
-    }
-
-    /// Returns how many bytes the requests that wait have.
-    pub fn bytes(&self) -> u64
-        ensures { result ≡ bytes_held self.now.waiting }
-    {
-        self.bytes
     }
 
     /// Returns where the request with this identifier is.
@@ -122,7 +100,8 @@ impl Requests {
         ensures fault { IfErr result (λ e. refusal bytes self.now ≡ Some e) }
     {
         let Limits { most, most_bytes } = self.limits;
-        if self.waiting.len() as u64 >= most {
+        let taken = self.taken.len() as u64;
+        if self.waiting.len() as u64 >= most.saturating_sub(taken) {
             return Err(PutFault::TooMany);
         }
         let Some(sum) = self.bytes.checked_add(bytes) else {
@@ -221,34 +200,7 @@ impl Requests {
         Ok(())
     }
 
-    /// Returns the requests that are at a handler, in the order in which it took them.
-    fn taken_of(&self, alloc: Global, handler: u64) -> Result<Vec<u64>, AllocError>
-        ensures { IfOk result (λ ids. ids.items ≡ taken_of handler self.now) }
-    {
-        self.taken
-            .iter()
-            .filter(|taken| *taken.1 == handler)
-            .map(|taken| *taken.0)
-            .collect(alloc)
-    }
-
-    /// Ends a handler. Returns the requests that it had taken and not answered, in the order in which it took them:
-    /// they have failed, and are over.
-    ///
-    /// # Errors
-    /// If memory is refused. All is then as it was.
-    pub fn handler_ended(&mut self, alloc: Global, handler: u64) -> Result<Vec<u64>, AllocError>
-        ensures failed { IfOk result (λ ids. ids.items ≡ taken_of handler self.old) }
-        ensures state { OnOk result (self.new ≡ without_handler handler self.old) }
-        ensures same { OnErr result (self.new ≡ self.old) }
-    {
-        let failed = self.taken_of(alloc, handler)?;
-        self.end_handler(handler);
-        Ok(failed)
-    }
-
-    /// Ends a handler, as [`Requests::handler_ended`] does, without saying which requests have failed. It takes no
-    /// memory, so it never fails.
+    /// Ends a handler: the requests that it had taken and not answered have failed, and are over.
     pub fn end_handler(&mut self, handler: u64)
         ensures { self.new ≡ without_handler handler self.old }
     {

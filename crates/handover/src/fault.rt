@@ -9,7 +9,7 @@ use thiserror::Error;
 /// Why a request cannot wait for a handler: the first of these that holds, in this order.
 #[derive(Clone, Copy, Debug, PartialEq, Eq, Error)]
 pub enum PutFault {
-    /// As many requests wait as may.
+    /// As many requests wait or are at handlers as may.
     #[error("too many requests wait for a handler")]
     TooMany,
     /// The bytes of those that wait, with its own, are more than may wait.

@@ -35,10 +35,10 @@ pub fn one_handler()
         → Contains (all_hands (opened limits) events) (id, handler) }
 {}
 
-/// No more waits than may.
+/// No more is handed over at once than may be.
 pub fn bounded()
     ensures requests { (limits : Bounds) (events : List Event)
-        → length (run (opened limits) events).waiting ≤ limits.most }
+        → length (run (opened limits) events).waiting + length (run (opened limits) events).taken ≤ limits.most }
     ensures bytes { (limits : Bounds) (events : List Event)
         → bytes_held (run (opened limits) events).waiting ≤ limits.most_bytes }
 {}

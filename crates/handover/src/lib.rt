@@ -18,6 +18,6 @@ pub use attendance::Attendance;
 pub use counter::{Limits, Requests};
 pub use fault::{NotTaken, PutFault};
 pub use head::write_head;
-pub use pipe::{Ending, MOST_HELD, Pipe, Put, Taken};
+pub use pipe::{Ending, Pipe, Put, Taken};
 pub use request::Request;
 pub use stage::Stage;

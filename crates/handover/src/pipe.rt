@@ -9,7 +9,7 @@ use std::alloc::AllocError;
 use std::marker::Model;
 
 /// The most bytes that a pipe holds.
-pub const MOST_HELD: usize = 65_536;
+const MOST_HELD: usize = 65_536;
 
 /// How a body has ended at its sender.
 #[derive(Clone, Copy, Debug, PartialEq, Eq)]

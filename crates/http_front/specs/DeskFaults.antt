@@ -1,14 +1,20 @@
 -- The replies to requests that have no answer of a handler, and to handlers whose own requests are refused.
-use Rattle.std.specs.Prelude.{List, ℕ, codes}
+use Rattle.std.specs.Prelude.{List, ℕ, codes, length, nat_lt, if◌then◌else◌}
+use Rattle.arn_ids.specs.Limits.{longest_body}
+use Rattle.handler_desk.specs.declared.pipe.PipeFault.{PipeFault}
+use Rattle.handler_desk.specs.declared.pipe.PipeFault.TheVariants as pipe
 use Rattle.handler_desk.specs.declared.state.NotPut.{NotPut}
 use Rattle.handler_desk.specs.declared.state.NotPut.TheVariants as put
 use Rattle.handover.specs.declared.answer_fault.AnswerFault.{AnswerFault}
 use Rattle.handover.specs.declared.answer_fault.AnswerFault.TheVariants as head
 use Rattle.handover.specs.declared.fault.NotTaken.{NotTaken}
 use Rattle.handover.specs.declared.fault.NotTaken.TheVariants as taken
+use Rattle.http_routes.specs.Refusals.{too_long}
 use Rattle.lambda_wire.specs.Replies.{fault_reply, invoke_fault_reply}
 use Rattle.lambda_wire.specs.declared.body_writer.InvokeFault.TheVariants.{User, Service}
 use Rattle.lambda_wire.specs.declared.reply.Reply.{Reply}
+use Rattle.long_poll.specs.declared.body_piece.PieceFault.{PieceFault}
+use Rattle.long_poll.specs.declared.body_piece.PieceFault.TheVariants as piece
 use Rattle.long_poll.specs.declared.exchange.fault.ExchangeFault.{ExchangeFault}
 use Rattle.long_poll.specs.declared.exchange.fault.ExchangeFault.TheVariants as exchange
 use Rattle.http_front.specs.declared.at_desk.flowing.FlowFault.{FlowFault}
@@ -48,6 +54,20 @@ of_flow flow.Gone = own.NotTaken taken.IsOver
 of_flow flow.BodyFailed = own.BodyFailed
 of_flow flow.OutOfMemory = own.OutOfMemory
 
+-- Why a body is not passed on whose bytes its requester does not take.
+abbrev pub of_pipe : PipeFault → FlowFault
+of_pipe pipe.Gone = flow.Gone
+of_pipe pipe.OutOfMemory = flow.OutOfMemory
+
+-- Why a body is not passed on of which no further piece comes.
+abbrev pub of_piece : PieceFault → FlowFault
+of_piece piece.BodyFailed = flow.BodyFailed
+of_piece piece.OutOfMemory = flow.OutOfMemory
+
+-- Why a post is refused whose body was collected: that it is too long, or else what is said of the post.
+abbrev pub refusal_behind : List ℕ → HandlerFault → HandlerFault
+refusal_behind body said = if nat_lt longest_body (length body) then own.TooLong else said
+
 -- Why a request that does not wait has no answer.
 abbrev pub of_put : NotPut → HandedFault
 of_put put.NoHandler = handed.NoHandler
@@ -57,7 +77,7 @@ of_put put.OutOfMemory = handed.OutOfMemory
 -- The reply to a request that has no answer of a handler, in the form of the Lambda API.
 abbrev pub handed_reply : HandedFault → Reply
 handed_reply handed.TooLong = invoke_fault_reply 413 (codes "RequestTooLargeException") User
-    (codes "Payload exceeds 6291456 bytes")
+    too_long
 handed_reply handed.BodyFailed = invoke_fault_reply 400 (codes "InvalidRequestContentException") User
     (codes "Body is malformed")
 handed_reply handed.NoHandler = invoke_fault_reply 503 (codes "ServiceException") Service
@@ -90,7 +110,7 @@ unreadable head.OutOfMemory = codes "Out of memory"
 
 -- The reply to a handler's own request that is refused.
 abbrev pub handler_reply : HandlerFault → Reply
-handler_reply own.TooLong = fault_reply 413 (codes "Payload exceeds 6291456 bytes") (codes "RequestEntityTooLarge")
+handler_reply own.TooLong = fault_reply 413 too_long (codes "RequestEntityTooLarge")
 handler_reply own.BodyFailed = fault_reply 400 (codes "Body is malformed") (codes "InvalidRequestFormat")
 handler_reply (own.NotTaken fault) = not_taken_reply fault
 handler_reply (own.Unreadable fault) = fault_reply 400 (unreadable fault) (codes "InvalidResponse")

@@ -14,11 +14,6 @@ abbrev pub CanGoOn : {B : Type 0} → (B → Type 0) → HandedStage B → Type 
 CanGoOn can_poll (handed.Collecting parts body) = can_poll body.body
 CanGoOn can_poll (handed.Waiting put) = Unit {0}
 
--- What a handler gives is awaited.
-abbrev pub IsAwaiting : {B : Type 0} → HandedStage B → Type 0
-IsAwaiting (handed.Collecting parts body) = ⊥
-IsAwaiting (handed.Waiting put) = Unit {0}
-
 -- The sources that a request which is handed over waits for.
 abbrev pub WaitsFor : {B : Type 0} → (B → ℕ → Type 0) → HandedStage B → ℕ → Type 0
 WaitsFor needs (handed.Collecting parts body) source = needs body.body source

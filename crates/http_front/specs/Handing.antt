@@ -82,6 +82,12 @@ IsHandlerResponse is_last (Ok (done.Request id request)) response =
 IsHandlerResponse is_last (Ok done.Accepted) response = HasMap is_last 202 [] response × IsWhole [] (body_of response)
 IsHandlerResponse is_last (Err fault) response = IsResponseOf is_last (handler_reply fault) response
 
+-- Whether a handler has a request now, which it has not answered yet.
+abbrev pub has_a_request : Result Done HandlerFault → Bool
+has_a_request (Ok (done.Request id request)) = true
+has_a_request (Ok done.Accepted) = false
+has_a_request (Err fault) = false
+
 -- The response is one to a request that was to be handed over.
 abbrev pub IsHandedAnswer : {H : Type 0} → Bool → Response (Either SentBody H) → Type 0
 IsHandedAnswer is_last response = (outcome : Result Posted HandedFault) × IsHandedResponse is_last outcome response

@@ -1,8 +1,8 @@
 -- The body of a handler's answer while it is passed on.
 use Rattle.std.specs.Prelude.{◌≡◌, Bool, true, false, ℕ, ◌<◌, ◌≤◌, List, [], ◌∷◌, length, Option, Some, None, Result, Ok, Err}
-use Rattle.futures.specs.Runs.{Ends, Runs}
+use Rattle.futures.specs.Runs.{Ends}
 use Rattle.handover.specs.Pipes.{IsPiece}
-use Rattle.long_poll.specs.Bodies.{IsDataOf}
+use Rattle.long_poll.specs.declared.body_piece.PieceFault.{PieceFault}
 use Rattle.http_body.specs.Frame.{data_frame}
 use Rattle.http_body.specs.declared.frame.Frame.{Frame}
 use Rattle.handover.specs.declared.pipe.Taken.{Taken}
@@ -44,6 +44,7 @@ abbrev pub Passes : Bool → List (Result (Frame (List ℕ)) PassedFault) → Op
 Passes true frames last = Ends frames last
 Passes false frames last = PassesOn frames last
 
--- Bytes are the data of the frame that a body may yield next. `has` says which bytes the data of a frame has.
-abbrev pub IsNextOf : {P E : Type 0} → (P → List ℕ → Type 0) → Runs (Result (Frame P) E) → List ℕ → Type 0
-IsNextOf {P} has yields bytes = (frame : Frame P) × yields [] (Some (Ok frame)) × IsDataOf has frame bytes
+-- What has come of the body of a post: its end, or a piece of these bytes.
+abbrev pub came : Bool → List ℕ → Option (Result (List ℕ) PieceFault)
+came true bytes = None
+came false bytes = Some (Ok bytes)

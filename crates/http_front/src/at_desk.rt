@@ -7,7 +7,8 @@ mod of_handler;
 mod passed;
 mod response;
 
-ghost use Rattle.std.specs.Prelude.{◌≡◌, IfOk};
+ghost use Rattle.std.specs.Prelude.{◌≡◌, true, nat_lt, length, Err, IfOk};
+ghost use Rattle.arn_ids.specs.Limits.{longest_body};
 ghost use Rattle.std.specs.Arc.{arc_value};
 ghost use Rattle.http_header.specs.HeaderMap.{pairs};
 ghost use Rattle.json.specs.Print.{print};
@@ -131,7 +132,9 @@ impl<R: Wait + time::Clock + Drop> AtDesk<R> {
     ///
     /// # Errors
     /// If its body is too long, or as `Desk::put`.
-    pub(crate) fn hand_over(&self, parts: &Parts, body: Bytes) -> Result<Put, HandedFault> {
+    pub(crate) fn hand_over(&self, parts: &Parts, body: Bytes) -> Result<Put, HandedFault>
+        ensures { nat_lt longest_body (length body) ≡ true → result ≡ Err HandedFault.TooLong }
+    {
         if body.len() > LONGEST_BODY {
             return Err(HandedFault::TooLong);
         }

@@ -15,6 +15,10 @@ use Rattle.http_routes.specs.declared.refusals.Cause.TheVariants.{WrongEvent, Ma
 use Rattle.http_routes.specs.declared.refusals.Cause.TheVariants.{WrongInvocationType, PayloadTooLarge}
 use Rattle.http_routes.specs.declared.refusals.Cause.TheVariants.{UnreadablePayload, UnreadableReservation, NoHandler}
 
+-- The message for a body that is longer than one may be.
+abbrev pub too_long : List ℕ
+too_long = codes "Payload exceeds 6291456 bytes"
+
 -- The status, the type and the message of a refusal (Runtime API: InvalidRequestID, 413; Extensions API: 403; Lambda
 -- API: InvalidParameterValueException, ResourceNotFoundException, RequestTooLargeException,
 -- InvalidRequestContentException).
@@ -28,7 +32,7 @@ refusal_words WrongMilliseconds =
 refusal_words WrongRequest = (400, codes "InvalidRequestID", codes "Not the open invocation")
 refusal_words UnknownExtension = (403, codes "Extension.UnknownIdentifier", codes "Extension is not registered here")
 refusal_words MissingHeader = (400, codes "MissingHeader", codes "A required header is missing")
-refusal_words TooLarge = (413, codes "RequestEntityTooLarge", codes "Payload exceeds 6291456 bytes")
+refusal_words TooLarge = (413, codes "RequestEntityTooLarge", too_long)
 refusal_words UnreadableRegistration = (400, codes "InvalidRequestFormat", codes "Body is not readable")
 refusal_words WrongEvent = (400, codes "InvalidEventType", codes "Event is not INVOKE or SHUTDOWN")
 refusal_words MalformedName =
@@ -36,7 +40,7 @@ refusal_words MalformedName =
 refusal_words UnknownFunction = (404, codes "ResourceNotFoundException", codes "Function not found")
 refusal_words WrongInvocationType =
     (400, codes "InvalidParameterValueException", codes "Invocation type is not RequestResponse")
-refusal_words PayloadTooLarge = (413, codes "RequestTooLargeException", codes "Payload exceeds 6291456 bytes")
+refusal_words PayloadTooLarge = (413, codes "RequestTooLargeException", too_long)
 refusal_words UnreadablePayload = (400, codes "InvalidRequestContentException", codes "Payload is not JSON")
 refusal_words UnreadableReservation = (400, codes "InvalidRequestContentException", codes "Body is not readable")
 refusal_words NoHandler = (503, codes "ServiceException", codes "No handler is here")

@@ -25,4 +25,5 @@ mod refusals;
 pub mod laws;
 
 pub use decisions::{ClockRequest, Decision, Received, Shown, TraceQuery};
+pub use refusals::TOO_LONG;
 pub use side::Side;

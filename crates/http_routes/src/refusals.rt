@@ -13,6 +13,9 @@ use decisions::Decision;
 use lambda_wire::{InvokeFault, Reply, fault_reply, invoke_fault_reply, method_headers};
 use std::alloc::{AllocError, Global};
 
+/// The message for a body that is longer than one may be.
+pub const TOO_LONG: &str = "Payload exceeds 6291456 bytes";
+
 /// Why a request is refused before there is a call.
 #[derive(Clone, Copy, Debug, PartialEq, Eq)]
 pub(crate) enum Cause {
@@ -78,11 +81,7 @@ fn refusal_words(cause: Cause) -> (u16, &'static str, &'static str)
             "Extension is not registered here",
         ),
         Cause::MissingHeader => (400, "MissingHeader", "A required header is missing"),
-        Cause::TooLarge => (
-            413,
-            "RequestEntityTooLarge",
-            "Payload exceeds 6291456 bytes",
-        ),
+        Cause::TooLarge => (413, "RequestEntityTooLarge", TOO_LONG),
         Cause::UnreadableRegistration => (400, "InvalidRequestFormat", "Body is not readable"),
         Cause::WrongEvent => (400, "InvalidEventType", "Event is not INVOKE or SHUTDOWN"),
         Cause::MalformedName => (
@@ -96,11 +95,7 @@ fn refusal_words(cause: Cause) -> (u16, &'static str, &'static str)
             "InvalidParameterValueException",
             "Invocation type is not RequestResponse",
         ),
-        Cause::PayloadTooLarge => (
-            413,
-            "RequestTooLargeException",
-            "Payload exceeds 6291456 bytes",
-        ),
+        Cause::PayloadTooLarge => (413, "RequestTooLargeException", TOO_LONG),
         Cause::UnreadablePayload => (400, "InvalidRequestContentException", "Payload is not JSON"),
         Cause::UnreadableReservation => (
             400,

@@ -64,6 +64,17 @@ impl<R: Runner> Scene<R> {
         Ok(())
     }
 
+    /// Lets so many requests wait.
+    fn fill(&mut self, count: u64) -> Result<(), CaseFault> {
+        for _ in 0..count {
+            let request = request_of(self.alloc, "x")?;
+            if let Ok(put) = self.desk.put(&self.rt, request) {
+                self.waiting.push(put)?;
+            }
+        }
+        Ok(())
+    }
+
     /// Lets a handler ask.
     fn ask(&mut self, handler: u64, given: &mut Given) -> Result<(), CaseFault> {
         match self.desk.take(&self.rt, handler)? {
@@ -128,6 +139,10 @@ impl<R: Runner> Scene<R> {
         let (number, others) = split_word(rest);
         match word {
             "put" => self.put(rest, given)?,
+            "fill" => {
+                self.fill(number_of(line, number)?)?;
+                given.push("filled");
+            }
             "ask" => self.ask(number_of(line, number)?, given)?,
             "post" => self.answer(line, number_of(line, number)?, others, given)?,
             "look" => self.look(number_of(line, number)?, given),
@@ -151,9 +166,9 @@ impl<R: Runner> Scene<R> {
     }
 }
 
-/// Adds what each step gives at one desk: `put TEXT` lets a request wait, `ask H` lets handler H ask, `post H PATH
-/// STATUS` lets it post, `look ID` tells what was given for a request, `gone ID` lets its requester go away, `end H` ends
-/// the handler's connection, and `close` the service.
+/// Adds what each step gives at one desk: `put TEXT` lets a request wait, `fill N` so many, `ask H` lets handler H ask,
+/// `post H PATH STATUS` lets it post, `look ID` tells what was given for a request, `gone ID` lets its requester go away,
+/// `end H` ends the handler's connection, and `close` the service.
 pub fn give<R: Runner>(rt: R, case: &Case, given: &mut Given) -> Result<(), CaseFault> {
     let alloc = given.alloc();
     let mut scene = Scene {

@@ -8,6 +8,7 @@ ghost use Rattle.http_front.specs.DeskFaults as spec;
 
 use crate::at_desk::flowing::FlowFault;
 use handler_desk::{AnswerFault, NotPut, NotTaken};
+use http_routes::TOO_LONG;
 use lambda_wire::{InvokeFault, Reply, fault_reply, invoke_fault_reply};
 use long_poll::ExchangeFault;
 use std::alloc::{AllocError, Global};
@@ -21,7 +22,7 @@ pub(crate) enum HandedFault {
     BodyFailed,
     /// No handler is here any more.
     NoHandler,
-    /// Too many requests wait for a handler.
+    /// Too many requests wait for a handler or are at one.
     TooMany,
     /// Its handler has ended, or says that it has failed; or no handler came back in time.
     Failed,
@@ -129,7 +130,7 @@ pub(crate) fn handed_reply(alloc: Global, fault: HandedFault) -> Result<Reply, A
             413,
             "RequestTooLargeException",
             InvokeFault::User,
-            "Payload exceeds 6291456 bytes",
+            TOO_LONG,
         ),
         HandedFault::BodyFailed => by_lambda(
             alloc,
@@ -223,12 +224,7 @@ pub(crate) fn handler_reply(alloc: Global, fault: HandlerFault) -> Result<Reply,
     ensures { IfOk result (λ reply. reply ≡ spec.handler_reply fault) }
 {
     match fault {
-        HandlerFault::TooLong => fault_reply(
-            alloc,
-            413,
-            "Payload exceeds 6291456 bytes",
-            "RequestEntityTooLarge",
-        ),
+        HandlerFault::TooLong => fault_reply(alloc, 413, TOO_LONG, "RequestEntityTooLarge"),
         HandlerFault::BodyFailed => {
             fault_reply(alloc, 400, "Body is malformed", "InvalidRequestFormat")
         }

@@ -3,14 +3,14 @@
 ghost use Rattle.std.specs.Prelude.{◌≡◌, None, is_none, false, IfOk, OnOk};
 ghost use Rattle.futures.specs.Poll.{IfReady, OnPending};
 ghost use Rattle.futures.specs.Task.{Covers, Keeps};
-ghost use Rattle.long_poll.specs.Bodies.{IsDataOf};
+ghost use Rattle.http_front.specs.DeskFaults as spec;
 
 use bytes::Bytes;
 use futures::ready;
 use futures::task::{Context, Poll};
 use handler_desk::{PipeFault, PipeSender};
-use http_body::{Body, Frame};
-use long_poll::BodyFault;
+use http_body::Body;
+use long_poll::{BodyFault, PieceFault, poll_piece};
 
 /// Why the body of a post is not passed on to its end.
 #[derive(Clone, Copy, Debug, PartialEq, Eq)]
@@ -33,29 +33,23 @@ pub(crate) struct Flowing<B> {
 }
 
 /// Returns why bytes that have come are not passed on.
-fn of_put(fault: PipeFault) -> FlowFault {
+fn of_put(fault: PipeFault) -> FlowFault
+    ensures { result ≡ spec.of_pipe fault }
+{
     match fault {
         PipeFault::Gone => FlowFault::Gone,
         PipeFault::OutOfMemory => FlowFault::OutOfMemory,
     }
 }
 
-/// Returns the bytes of a frame's data; trailers have none.
-fn data_in<D: Into<Bytes> + Drop>(frame: Frame<D>) -> Bytes
-    ensures { IsDataOf D.converts frame result }
+/// Returns why a body is not passed on of which no further piece can be read.
+fn of_piece(fault: PieceFault) -> FlowFault
+    ensures { result ≡ spec.of_piece fault }
 {
-    match frame.into_data() {
-        Ok(piece) => piece.into(),
-        Err(_) => Bytes::new(),
+    match fault {
+        PieceFault::BodyFailed => FlowFault::BodyFailed,
+        PieceFault::OutOfMemory => FlowFault::OutOfMemory,
     }
-}
-
-/// Returns why a body is not passed on that has failed.
-fn of_body<E: BodyFault + Drop>(fault: E) -> FlowFault {
-    if fault.is_out_of_memory() {
-        return FlowFault::OutOfMemory;
-    }
-    FlowFault::BodyFailed
 }
 
 impl<B> Flowing<B> {
@@ -86,7 +80,8 @@ where
     ghost use Rattle.handler_desk.specs.Piped.{IsBehind};
     ghost use Rattle.handover.specs.Pipes.{bytes_in};
     ghost use Rattle.http_front.specs.HandedStages.{AwaitsFlow};
-    ghost use Rattle.http_front.specs.Passed.{IsNextOf};
+    ghost use Rattle.http_front.specs.Passed.{came};
+    ghost use Rattle.long_poll.specs.Bodies.{IsNextPiece};
 
     /// Passes on what has come.
     fn poll_rest(&mut self, cx: &mut Context<'_>) -> Poll<Result<(), FlowFault>>
@@ -123,13 +118,13 @@ where
         requires can_poll { B.can_poll self.old.body }
         requires none { self.old.rest ≡ None }
         ensures again { OnPending result (B.can_poll self.new.body) }
-        ensures next { IfReady result (λ more. IfOk more (λ is_over. is_over ≡ false
-            → IsNextOf B.Data.converts (B.yields self.old.body) (bytes_in self.new.rest))) }
+        ensures next { IfReady result (λ more. IfOk more (λ is_over. IsNextPiece B.Data.converts
+            (B.yields self.old.body) (B.yields self.new.body) (came is_over (bytes_in self.new.rest)))) }
         ensures goes { IfReady result (λ more. IfOk more (λ is_over. is_over ≡ false → B.can_poll self.new.body)) }
         ensures registered { OnPending result (Covers cx.new (AwaitsFlow B.needs self.new)) }
         ensures kept { Keeps cx.old cx.new }
     {
-        match self.body.poll_frame(cx) {
+        match poll_piece(&mut self.body, cx) {
             Poll::Pending => match self.sender.poll_gone(cx) {
                 Poll::Pending => Poll::Pending,
                 Poll::Ready(()) => Poll::Ready(Err(FlowFault::Gone)),
@@ -138,9 +133,9 @@ where
                 self.sender.finish();
                 Poll::Ready(Ok(true))
             }
-            Poll::Ready(Some(Err(fault))) => Poll::Ready(Err(of_body(fault))),
-            Poll::Ready(Some(Ok(frame))) => {
-                self.rest = Some(data_in(frame));
+            Poll::Ready(Some(Err(fault))) => Poll::Ready(Err(of_piece(fault))),
+            Poll::Ready(Some(Ok(piece))) => {
+                self.rest = Some(piece);
                 Poll::Ready(Ok(false))
             }
         }

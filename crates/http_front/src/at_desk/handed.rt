@@ -1,6 +1,7 @@
 //! The response to a request that is handed over, as a future.
 
 ghost use Rattle.std.specs.Prelude.{◌≡◌, IfOk};
+ghost use Rattle.futures.specs.Channel.{completed_source};
 ghost use Rattle.futures.specs.Poll.{IfReady, OnPending};
 ghost use Rattle.futures.specs.Task.{Covers, Keeps};
 ghost use Rattle.http_front.specs.HandedStages.{CanGoOn};
@@ -58,6 +59,42 @@ fn posted_for(id: u64, given: Result<Given, Canceled>) -> Result<Posted, HandedF
     }
 }
 
+/// Waits for what a handler posts for a request that waits for one.
+fn poll_given(cx: &mut Context<'_>, put: &mut Put) -> Poll<Result<Posted, HandedFault>>
+    ensures posted { IfReady result (λ given. IfOk given (λ posted. posted.id ≡ put.old.id)) }
+    ensures registered { OnPending result (Covers cx.new (λ source. source ≡ completed_source put.new.given)) }
+    ensures kept { Keeps cx.old cx.new }
+{
+    match put.given.poll(cx) {
+        Poll::Pending => Poll::Pending,
+        Poll::Ready(given) => Poll::Ready(posted_for(put.id, given)),
+    }
+}
+
+impl<R: Wait + time::Clock + Drop> AtDesk<R> {
+    /// Lets a request wait for a handler, once its body is collected.
+    fn poll_put<B: Body>(
+        &self,
+        cx: &mut Context<'_>,
+        parts: &Parts,
+        body: &mut Collecting<B>,
+    ) -> Poll<Result<Put, HandedFault>>
+    where
+        B::Data: Into<Bytes>,
+        B::Error: BodyFault,
+        requires { B.can_poll body.old.body }
+        ensures again { OnPending result (B.can_poll body.new.body) }
+        ensures registered { OnPending result (Covers cx.new (B.needs body.new.body)) }
+        ensures kept { Keeps cx.old cx.new }
+    {
+        match body.poll(cx) {
+            Poll::Pending => Poll::Pending,
+            Poll::Ready(Err(fault)) => Poll::Ready(Err(HandedFault::of_body(fault))),
+            Poll::Ready(Ok(bytes)) => Poll::Ready(self.hand_over(parts, bytes)),
+        }
+    }
+}
+
 impl<R: Wait + time::Clock + Drop, B: Body, H> Handed<R, B, H> {
     /// Returns the response to a request with this head and this body, of which the head declares that it is too long, or
     /// not. It takes no memory.
@@ -86,44 +123,20 @@ where
     B::Data: Into<Bytes>,
     B::Error: BodyFault,
 {
-    ghost use Rattle.http_front.specs.HandedStages.{IsAwaiting, WaitsFor};
+    ghost use Rattle.http_front.specs.HandedStages.{WaitsFor};
 
-    /// Lets the request wait for a handler, once its body is collected.
-    fn poll_put(&mut self, cx: &mut Context<'_>) -> Poll<Result<Put, HandedFault>>
-        requires { CanGoOn B.can_poll self.old.stage }
+    /// Begins to wait for what a handler gives.
+    fn await_given(&mut self, cx: &mut Context<'_>, put: Put) -> Poll<Result<Posted, HandedFault>>
         ensures again { OnPending result (CanGoOn B.can_poll self.new.stage) }
         ensures registered { OnPending result (Covers cx.new (WaitsFor B.needs self.new.stage)) }
         ensures kept { Keeps cx.old cx.new }
         ensures unread { self.new.is_unread ≡ self.old.is_unread }
     {
-        if self.is_unread {
-            return Poll::Ready(Err(HandedFault::TooLong));
-        }
-        match &mut self.stage {
-            HandedStage::Waiting(_) => Poll::Ready(Err(HandedFault::Failed)),
-            HandedStage::Collecting { parts, body } => match body.poll(cx) {
-                Poll::Pending => Poll::Pending,
-                Poll::Ready(Err(fault)) => Poll::Ready(Err(HandedFault::of_body(fault))),
-                Poll::Ready(Ok(bytes)) => Poll::Ready(self.at_desk.hand_over(parts, bytes)),
-            },
-        }
-    }
-
-    /// Waits for what a handler gives.
-    fn poll_given(&mut self, cx: &mut Context<'_>) -> Poll<Result<Posted, HandedFault>>
-        requires { IsAwaiting self.old.stage }
-        ensures again { OnPending result (IsAwaiting self.new.stage) }
-        ensures registered { OnPending result (Covers cx.new (WaitsFor B.needs self.new.stage)) }
-        ensures kept { Keeps cx.old cx.new }
-        ensures unread { self.new.is_unread ≡ self.old.is_unread }
-    {
-        match &mut self.stage {
-            HandedStage::Collecting { .. } => unreachable!(),
-            HandedStage::Waiting(put) => match put.given.poll(cx) {
-                Poll::Pending => Poll::Pending,
-                Poll::Ready(given) => Poll::Ready(posted_for(put.id, given)),
-            },
-        }
+        self.at_desk.open.note_awaited(true);
+        let mut put = put;
+        let given = poll_given(cx, &mut put);
+        self.stage = HandedStage::Waiting(put);
+        given
     }
 
     /// Lets the request wait, and then waits for what a handler gives.
@@ -134,16 +147,17 @@ where
         ensures kept { Keeps cx.old cx.new }
         ensures unread { self.new.is_unread ≡ self.old.is_unread }
     {
-        if let HandedStage::Waiting(_) = &self.stage {
-            return self.poll_given(cx);
+        if self.is_unread {
+            return Poll::Ready(Err(HandedFault::TooLong));
         }
-        match ready!(self.poll_put(cx)) {
-            Ok(put) => {
-                self.stage = HandedStage::Waiting(put);
-                self.at_desk.open.note_awaited(true);
-                self.poll_given(cx)
+        match &mut self.stage {
+            HandedStage::Waiting(put) => poll_given(cx, put),
+            HandedStage::Collecting { parts, body } => {
+                match ready!(self.at_desk.poll_put(cx, parts, body)) {
+                    Ok(put) => self.await_given(cx, put),
+                    Err(fault) => Poll::Ready(Err(fault)),
+                }
             }
-            Err(fault) => Poll::Ready(Err(fault)),
         }
     }
 }

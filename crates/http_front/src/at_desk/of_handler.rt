@@ -1,11 +1,14 @@
 //! The response to a handler's own request, as a future.
 
-ghost use Rattle.std.specs.Prelude.{◌≡◌, Ok, Err, MatchResult};
+ghost use Rattle.std.specs.Prelude.{◌≡◌, true, nat_lt, length, Ok, Err, MatchResult};
+ghost use Rattle.arn_ids.specs.Limits.{longest_body};
 ghost use Rattle.futures.specs.Poll.{IfReady, OnPending};
 ghost use Rattle.futures.specs.Task.{Covers, Keeps};
 ghost use Rattle.handler_desk.specs.Asked.{asked};
 ghost use Rattle.handler_desk.specs.declared.asked.Asked.TheVariants as asks_for;
+ghost use Rattle.http_front.specs.DeskFaults.{refusal_behind};
 ghost use Rattle.http_front.specs.HandedStages.{AwaitsFlow, CanServe};
+ghost use Rattle.http_front.specs.Handing.{has_a_request};
 
 use crate::at_desk::fault::HandlerFault;
 use crate::at_desk::flowing::Flowing;
@@ -101,8 +104,10 @@ fn done(given: Result<(), NotTaken>) -> Result<Done, HandlerFault>
     }
 }
 
-/// Returns what is said of a post once its body is collected, if there is nothing against that.
-fn unless_too_long(body: &Bytes, said: HandlerFault) -> HandlerFault {
+/// Returns why a post is refused whose body was collected: that it is too long, or else what is said of the post.
+fn unless_too_long(body: &Bytes, said: HandlerFault) -> HandlerFault
+    ensures { result ≡ refusal_behind body.now said }
+{
     if body.len() > LONGEST_BODY {
         return HandlerFault::TooLong;
     }
@@ -138,7 +143,9 @@ impl<R: Wait + time::Clock + Drop> AtDesk<R> {
     }
 
     /// Lets a request fail, once the body of the post is collected.
-    fn fail(&self, id: u64, body: &Bytes) -> Result<Done, HandlerFault> {
+    fn fail(&self, id: u64, body: &Bytes) -> Result<Done, HandlerFault>
+        ensures { nat_lt longest_body (length body.now) ≡ true → result ≡ Err HandlerFault.TooLong }
+    {
         if body.len() > LONGEST_BODY {
             return Err(HandlerFault::TooLong);
         }
@@ -263,7 +270,9 @@ where
 }
 
 /// Returns whether a handler has a request now, which it has not answered yet.
-fn has_request(outcome: &Result<Done, HandlerFault>) -> bool {
+fn has_request(outcome: &Result<Done, HandlerFault>) -> bool
+    ensures { result ≡ has_a_request outcome.now }
+{
     matches!(outcome, Ok(Done::Request(..)))
 }
 

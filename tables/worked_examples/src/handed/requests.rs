@@ -64,16 +64,6 @@ fn answer(requests: &mut Requests, words: Words<'_>, given: &mut Given) -> Resul
     Ok(())
 }
 
-fn end_handler(
-    requests: &mut Requests,
-    words: Words<'_>,
-    given: &mut Given,
-) -> Result<(), LineFault> {
-    let failed = requests.handler_ended(given.alloc(), words.last_number()?)?;
-    tell(given, &failed);
-    Ok(())
-}
-
 fn end(attendance: &mut Attendance, words: Words<'_>) -> Result<(), LineFault> {
     let mut words = words;
     let handler = words.number()?;
@@ -95,13 +85,10 @@ fn call_requests(
         }
         "give-up" => tell_request(requests.give_up(), given),
         "answer" => return answer(requests, words, given),
-        "handler-ended" => return end_handler(requests, words, given),
+        "handler-ended" => requests.end_handler(words.last_number()?),
         "requester-ended" => tell(given, &requests.requester_ended(words.last_number()?)),
         "stage" => tell(given, &requests.stage(words.last_number()?)),
         "refusal" => tell(given, &requests.refusal(words.last_number()?)),
-        "waiting" => tell(given, &requests.waiting()),
-        "taken" => tell(given, &requests.taken()),
-        "bytes" => tell(given, &requests.bytes()),
         _ => return Err(LineFault::Malformed),
     }
     Ok(())
@@ -141,13 +128,13 @@ impl Calls for Counter {
 ///
 /// | Line | What it gives |
 /// |---|---|
-/// | `open N BYTES GRACE` | nothing; so many requests and bytes may wait, and a handler is waited for so long |
+/// | `open N BYTES GRACE` | nothing; so many requests, and bytes of those that wait, are let in, and a handler is waited for so long |
 /// | `put HEAD BODY` | the identifier, or why it is refused; a dash is empty |
 /// | `take H`, `give-up` | the first request: its identifier, head and body, or `none` |
 /// | `answer I H` | `answered`, or why not |
-/// | `handler-ended H` | the requests that have failed |
+/// | `handler-ended H` | nothing |
 /// | `requester-ended I`, `stage I` | where the request was, or is |
-/// | `refusal N`, `waiting`, `taken`, `bytes` | this value |
+/// | `refusal N` | why a request of so many bytes is refused now, if it is |
 /// | `asks H`, `ends H MOMENT` | nothing; a handler asks, or ends |
 /// | `attended MOMENT` | whether requests are handed over then |
 pub fn give(case: &Case, given: &mut Given) -> Result<(), CaseFault> {
