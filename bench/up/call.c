@@ -1,13 +1,14 @@
 /* The callers of bench/up/run, over loopback, each on a connection that it keeps. They invoke some times, say `ready`,
-   and at a line of the input invoke for SECONDS; an invocation that is throttled is made again, and counted apart.
+   and at a line of the input invoke for SECONDS; an invocation that is throttled is made again, and counted apart. They
+   invoke synchronously, by events, or by a request to the port of a Function URL, whose function returns its body.
    Prints: invocations, rate, p50 and p99 in microseconds, throttles. Ends with its input.
 
-   usage: call PORT FUNCTION CALLERS SIZE SECONDS */
+   usage: call PORT FUNCTION CALLERS SIZE SECONDS invoke|event|url */
 #include "http.h"
 
 enum { MOST_CALLERS = 256, WARM_UPS = 3, MOST = 1 << 20 };
 
-static int port;
+static int port, is_event;
 static char line[256], *payload;
 static size_t size;
 static long invocations, throttles;
@@ -31,7 +32,7 @@ static double invoke(int s, char *buffer) {
             __sync_fetch_and_add(&throttles, 1);
             continue;
         }
-        if (a.status != 200 || a.length != size || memcmp(buffer, payload, size))
+        if (is_event ? a.status != 202 : a.status != 200 || a.length != size || memcmp(buffer, payload, size))
             fail("an invocation was answered %d, with %zu bytes: %.200s", a.status, a.length, buffer);
         return seconds;
     }
@@ -63,11 +64,15 @@ static void hold(void) {
 
 int main(int count, char **words) {
     pthread_t callers[MOST_CALLERS];
-    if (count != 6) fail("usage: call PORT FUNCTION CALLERS SIZE SECONDS");
+    if (count != 7) fail("usage: call PORT FUNCTION CALLERS SIZE SECONDS invoke|event|url");
     int many = atoi(words[3]);
     port = atoi(words[1]), size = atol(words[4]);
     if (many < 1 || many > MOST_CALLERS || size < 2 || size > LARGEST) fail("CALLERS or SIZE is out of range");
-    snprintf(line, sizeof line, "POST /2015-03-31/functions/%s/invocations", words[2]);
+    is_event = !strcmp(words[6], "event");
+    if (is_event) fields = "X-Amz-Invocation-Type: Event\r\n";
+    if (!strcmp(words[6], "url")) fields = "Content-Type: application/json\r\n";
+    snprintf(line, sizeof line, !strcmp(words[6], "url") ? "POST /%s" : "POST /2015-03-31/functions/%s/invocations",
+             words[2]);
     payload = room();
     memset(payload, 'x', size);
     payload[0] = payload[size - 1] = '"';

@@ -3,6 +3,9 @@ import statistics
 import sys
 
 
+BARE = "bare"  # the service without `up`
+
+
 def number(it):
     """Three digits, or all before the point."""
     for least, form in ((100, ",.0f"), (10, ".1f"), (0.995, ".2f")):
@@ -25,7 +28,7 @@ class Table:
     def __init__(self, has_before):
         self.has_before = has_before
         columns = ["runtime", "callers", "payload", "way", "rate", "p50, µs", "p99, µs",
-                   "CPU µs: up and its relay", "service", "runtime", "rate, to that past"]
+                   "CPU µs: up and its relay", "service", "runtime", "rate, to bare"]
         if has_before:
             columns += ["rate, to before", "p50, to before", "CPU of up and its relay, to before", "all CPU, to before"]
         self.line(columns)
@@ -43,12 +46,12 @@ class Table:
     def rows(self, runtime, callers, size, samples):
         self.show("")
         for (name, way), found in samples.items():
-            past, before = samples[name, "past"], samples.get(("before", way))
+            bare, before = samples[BARE, "invoke"], samples.get(("before", way))
             whose = f"{runtime}, before" if name == "before" else runtime
-            cells = [whose, str(callers), size, way,
+            cells = [whose, str(callers), size, BARE if name == BARE else f"up, {way}",
                      *(spread([one[what] for one in found])
                        for what in ("rate", "half", "most", "tools", "service", "runtime")),
-                     "-" if way == "past" else self.against(found, past, "rate")]
+                     "-" if name == BARE else self.against(found, bare, "rate")]
             if self.has_before:
                 cells += [self.against(found, before, what) if name == "now" and before else "-"
                           for what in ("rate", "half", "tools", "all")]

@@ -54,9 +54,11 @@ static void send_all(int s, const char *bytes, size_t count) {
 }
 
 /* Sends a request, in one piece if it is short; without a body it has no length. */
+static const char *fields = ""; /* of each request, beside its own; each ends with CR LF */
+
 static void ask(int s, const char *line, const char *body, size_t count) {
     char head[8192];
-    int length = snprintf(head, 1024, "%s HTTP/1.1\r\nHost: 127.0.0.1\r\n", line);
+    int length = snprintf(head, 1024, "%s HTTP/1.1\r\nHost: 127.0.0.1\r\n%s", line, fields);
     if (body) length += snprintf(head + length, 64, "Content-Length: %zu\r\n", count);
     length += snprintf(head + length, 8, "\r\n");
     if (count < 4096) {

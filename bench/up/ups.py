@@ -1,9 +1,10 @@
-"""`lambda_local up` of a checkout with one function, and what the system counts of its processes."""
+"""`lambda_local up` of a checkout with one function, the same program without `up`, and what the system counts of their
+processes."""
 import json
 import os
-import re
 import select
 import signal
+import socket
 import subprocess
 import tempfile
 import time
@@ -13,7 +14,7 @@ HERE = os.path.dirname(os.path.abspath(__file__))
 READY = 120  # seconds until all environments are
 ANSWERS = 300  # seconds until the callers have finished; they give up by themselves after 60 without progress
 ENDS = 60
-LISTENING = "0A"  # of /proc/net/tcp
+SAY = 'echo "$AWS_ENDPOINT_URL_LAMBDA" "$LAMBDA_LOCAL_URL_F"; read end; true'
 
 
 class Trouble(Exception):
@@ -55,69 +56,24 @@ def below(pid):
     return found
 
 
-def ports_of(pid):
-    """Those at which a process listens."""
-    sockets = set()
-    for name in os.listdir(f"/proc/{pid}/fd"):
-        try:
-            sockets.update(re.findall(r"socket:\[(\d+)\]", os.readlink(f"/proc/{pid}/fd/{name}")))
-        except OSError:
-            pass  # (it was closed)
-    with open(f"/proc/{pid}/net/tcp") as file:
-        lines = [line.split() for line in file.readlines()[1:]]
-    return [int(line[1].split(":")[1], 16) for line in lines if line[3] == LISTENING and line[9] in sockets]
+def free_ports(count):
+    held = [socket.create_server(("127.0.0.1", 0)) for _ in range(count)]
+    found = [one.getsockname()[1] for one in held]
+    for one in held:
+        one.close()
+    return found
 
 
-class Up:
-    """It runs from here to `end`, and ends with this process."""
-
-    def __init__(self, checkout, folder, function, options, program):
-        self.checkout, self.processes = checkout, {}
-        self.given = tempfile.NamedTemporaryFile("w", dir=folder, suffix=".json")
-        json.dump({"functions": [{"name": "f", "directory": folder, "timeout": 900, **function}]}, self.given)
-        self.given.flush()
-        self.said = tempfile.TemporaryFile()
-        chosen = ["--program", program] if program else []
-        self.process = subprocess.Popen(
-            [os.path.join(checkout, "lambda_local"), "up", "--quiet", *chosen, *options, self.given.name, "--",
-             "sh", "-c", "echo \"$AWS_ENDPOINT_URL_LAMBDA\"; read end; true"],
-            cwd=folder, stdin=subprocess.PIPE, stdout=subprocess.PIPE, stderr=self.said, start_new_session=True)
-
-    def wait_until_ready(self):
-        ready, _, _ = select.select([self.process.stdout], [], [], READY)
-        line = self.process.stdout.readline().decode() if ready else ""
-        if not line:
-            raise Trouble(f"up of {self.checkout} was not ready; it said: {self.tail()}")
-        self.ports = {"through": int(line.rsplit(":", 1)[1])}
-        groups = {"up": [self.process.pid], "service": [], "relay": [], "runtime": []}
-        for child in children(self.process.pid):
-            words = " ".join(words_of(child))
-            if " serve " in words:
-                groups["service"].append(child)
-            elif "relay_process" in words:
-                groups["relay"].append(child)
-            elif "guard_process" in words:
-                groups["runtime"] += below(child)
-        self.processes = groups
-        if not groups["service"] or not groups["runtime"]:
-            raise Trouble(f"the processes of up of {self.checkout} are not known: {groups}")
-        self.ports["past"] = next(port for port in ports_of(groups["service"][0]) if self.is_invoke_port(port))
-
-    @staticmethod
-    def is_invoke_port(port):
-        try:
-            with urllib.request.urlopen(f"http://127.0.0.1:{port}/_local/stats", timeout=10) as answer:
-                return answer.status == 200
-        except OSError:
-            return False
+class Measured:
+    """What is measured of some processes, whose `ports` are known by the kinds of requests to them."""
 
     def used(self):
         """Seconds of processor time so far, by group."""
         return {name: sum(map(seconds_of, found)) for name, found in self.processes.items()}
 
-    def measured(self, call, way, callers, size, seconds):
+    def measured(self, call, kind, callers, size, seconds):
         """Rate, microseconds of half and of 99% of the invocations, and those of processor time of each."""
-        words = [call, str(self.ports[way]), "f", str(callers), str(size), str(seconds)]
+        words = [call, str(self.ports[kind]), "f", str(callers), str(size), str(seconds), kind]
         with tempfile.TemporaryFile() as said, subprocess.Popen(words, stdin=subprocess.PIPE, stdout=subprocess.PIPE,
                                                                 stderr=said) as caller:
             try:
@@ -138,13 +94,98 @@ class Up:
         line = caller.stdout.readline() if ready else b""
         if not line:
             said.seek(0)
-            raise Trouble(f"a call failed: {said.read()[-300:].decode(errors='replace')}; up said: {self.tail()}")
+            raise Trouble(f"a call failed: {said.read()[-300:].decode(errors='replace')}; it said: {self.tail()}")
         return line
 
     def tail(self):
         self.said.seek(0)
         return self.said.read()[-400:].decode(errors="replace").strip() or "nothing"
 
+
+class Bare(Measured):
+    """The service alone, with a runtime that these words start for each environment. It runs from here to `end`."""
+
+    def __init__(self, program, folder, words, places):
+        port, *ports = free_ports(places + 1)
+        self.given = tempfile.NamedTemporaryFile("w", dir=folder, suffix=".json")
+        json.dump({"account": "123456789012", "region": "us-east-1", "invokePort": port,
+                   "functions": [{"name": "f", "timeout": 900, "ports": ports}]}, self.given)
+        self.given.flush()
+        self.said, self.ports = tempfile.TemporaryFile(), {"invoke": port}
+        self.processes = {"up": [], "relay": [], "service": [], "runtime": []}
+        self.started = []
+        self.service = self.start([program, "serve", self.given.name], folder, "service")
+        self.runtimes = [(words, folder, {**os.environ, "AWS_LAMBDA_RUNTIME_API": f"127.0.0.1:{one}",
+                                          "_HANDLER": "echo.handler", "LAMBDA_TASK_ROOT": folder}) for one in ports]
+
+    def start(self, words, folder, group, environ=None):
+        made = subprocess.Popen(words, cwd=folder, env=environ, stdin=subprocess.DEVNULL, stdout=self.said,
+                                stderr=self.said)
+        self.started.append(made)
+        self.processes[group].append(made.pid)
+        return made
+
+    def wait_until_ready(self):
+        self.until(lambda: "listening" in self.tail(), "it did not listen")
+        for words, folder, environ in self.runtimes:
+            self.start(words, folder, "runtime", environ)
+        self.until(lambda: self.entries() >= len(self.runtimes), "not each runtime asked for an invocation")
+
+    def until(self, is_so, otherwise):
+        end = time.monotonic() + READY
+        while not is_so():
+            if time.monotonic() > end or self.service.poll() is not None:
+                raise Trouble(f"the service alone: {otherwise}; it said: {self.tail()}")
+            time.sleep(0.05)
+
+    def entries(self):
+        with urllib.request.urlopen(f"http://127.0.0.1:{self.ports['invoke']}/_local/stats", timeout=10) as answer:
+            return json.load(answer)["entries"]
+
+    def end(self):
+        for one in reversed(self.started):
+            one.kill()
+            one.wait()
+        self.said.close()
+        self.given.close()
+
+
+class Up(Measured):
+    """It runs from here to `end`, and ends with this process."""
+
+    def __init__(self, checkout, folder, function, options, program):
+        self.checkout, self.processes = checkout, {}
+        self.given = tempfile.NamedTemporaryFile("w", dir=folder, suffix=".json")
+        whole = {"name": "f", "directory": folder, "timeout": 900, "url": True, **function}
+        json.dump({"functions": [whole]}, self.given)
+        self.given.flush()
+        self.said = tempfile.TemporaryFile()
+        chosen = ["--program", program] if program else []
+        self.process = subprocess.Popen(
+            [os.path.join(checkout, "lambda_local"), "up", "--quiet", *chosen, *options, self.given.name, "--",
+             "sh", "-c", SAY],
+            cwd=folder, stdin=subprocess.PIPE, stdout=subprocess.PIPE, stderr=self.said, start_new_session=True)
+
+    def wait_until_ready(self):
+        ready, _, _ = select.select([self.process.stdout], [], [], READY)
+        line = self.process.stdout.readline().decode() if ready else ""
+        if not line:
+            raise Trouble(f"up of {self.checkout} was not ready; it said: {self.tail()}")
+        endpoint, url = line.split()
+        self.ports = {"invoke": int(endpoint.rsplit(":", 1)[1]), "event": int(endpoint.rsplit(":", 1)[1]),
+                      "url": int(url.rstrip("/").rsplit(":", 1)[1])}
+        groups = {"up": [self.process.pid], "service": [], "relay": [], "runtime": []}
+        for child in children(self.process.pid):
+            words = " ".join(words_of(child))
+            if " serve " in words:
+                groups["service"].append(child)
+            elif "relay_process" in words:
+                groups["relay"].append(child)
+            elif "guard_process" in words:
+                groups["runtime"] += below(child)
+        self.processes = groups
+        if not groups["service"] or not groups["runtime"]:
+            raise Trouble(f"the processes of up of {self.checkout} are not known: {groups}")
     def end(self):
         if self.process.poll() is None:
             self.process.stdin.close()

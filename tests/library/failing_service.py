@@ -1,5 +1,5 @@
 """A front over a service that does what a check asks for: it answers, breaks its connection off, or says something
-else than HTTP. The front has the port of a storm, in which no invocation meets trouble."""
+else than HTTP. The service has a further port, that of a storm, in which no invocation meets trouble."""
 import contextlib
 import itertools
 import json
@@ -53,15 +53,15 @@ DEEDS = {
 class Handed:
     """A request that waits for a handler, and its answer."""
 
-    def __init__(self, head, body):
+    def __init__(self, head, body, port):
         method, target = head.split(b" ")[:2]
         fields = [[name.decode(), value.strip().decode()]
                   for name, _, value in (line.partition(b":") for line in head.splitlines()[1:])]
-        self.members = {"method": method.decode(), "target": target.decode(), "headers": fields}
+        self.members = {"port": port, "method": method.decode(), "target": target.decode(), "headers": fields}
         self.body, self.answer, self.is_over = body, b"", threading.Event()
 
-    def given(self, number, port):
-        content = json.dumps({"id": number, "port": port, **self.members}).encode() + b"\n" + self.body
+    def given(self, number):
+        content = json.dumps({"id": number, **self.members}).encode() + b"\n" + self.body
         return answer(200, content)
 
     def posted(self, head, body):
@@ -72,7 +72,7 @@ class Handed:
 
 class Service(threading.Thread):
     """Does these deeds with its Invokes, one after the other, and then answers each. It notes each that it takes. It
-    hands over events, and what is no Invoke."""
+    hands over events, what is no Invoke, and all that comes to its further port."""
 
     def __init__(self, *deeds: str) -> None:
         super().__init__(daemon=True)
@@ -81,8 +81,9 @@ class Service(threading.Thread):
         self.heads: List[bytes] = []
         self.payloads: List[Any] = []
         self.waiting: "queue.SimpleQueue[Handed]" = queue.SimpleQueue()
-        self.listener = socket.create_server(("127.0.0.1", 0))
-        self.port = self.listener.getsockname()[1]
+        self.listener, self.further = (socket.create_server(("127.0.0.1", 0)) for _ in range(2))
+        self.port, self.further_port = (one.getsockname()[1] for one in (self.listener, self.further))
+        threading.Thread(target=self.hand_over, daemon=True).start()
         self.start()
 
     def run(self):
@@ -91,6 +92,24 @@ class Service(threading.Thread):
                 peer, _ = self.listener.accept()
                 self.connections += 1
                 threading.Thread(target=self.serve, args=(peer,), daemon=True).start()
+
+    def hand_over(self):
+        with contextlib.suppress(OSError):
+            while True:
+                peer, _ = self.further.accept()
+                threading.Thread(target=self.hand_over_of, args=(peer,), daemon=True).start()
+
+    def hand_over_of(self, peer):
+        with peer, peer.makefile("rb") as stream, contextlib.suppress(OSError):
+            while head := head_in(stream):
+                length = int((re.findall(rb"(?i)content-length: (\d+)", head) or [0])[0])
+                peer.sendall(self.answered(Handed(head, stream.read(length), self.further_port)))
+
+    def answered(self, handed):
+        """What is posted for it, once it is."""
+        self.waiting.put(handed)
+        handed.is_over.wait()
+        return handed.answer
 
     def serve(self, peer):
         is_closed = self.answer(peer)
@@ -107,17 +126,14 @@ class Service(threading.Thread):
                     break
                 if b"/_local/requests/next" in head:
                     handed = self.waiting.get()
-                    peer.sendall(handed.given(self.connections, self.port))
+                    peer.sendall(handed.given(self.connections))
                     continue
                 if b"/_local/requests/" in head:
                     handed.posted(head, body)
                     peer.sendall(answer(202, b""))
                     continue
                 if b"/_local/handler" in head or b"Invocation-Type: Event" in head:
-                    waits = Handed(head, body)
-                    self.waiting.put(waits)
-                    waits.is_over.wait()
-                    peer.sendall(waits.answer)
+                    peer.sendall(self.answered(Handed(head, body, self.port)))
                     continue
                 if b"/_local/" in head or b"/concurrency" in head:
                     peer.sendall(answer(200, b"{}"))
@@ -133,8 +149,9 @@ class Service(threading.Thread):
         return False
 
     def close(self):
-        self.listener.shutdown(socket.SHUT_RDWR)
-        self.listener.close()
+        for listener in (self.listener, self.further):
+            listener.shutdown(socket.SHUT_RDWR)
+            listener.close()
 
 
 class Reports(List[Any]):
@@ -157,10 +174,11 @@ def front_of(service, **members):
         if members.get("kind") == "event":
             told.append(SimpleNamespace(text=text, **members))
 
-    front = Front(settings_of(whole), "up.json", 5, cast(Log, log))
+    front = Front(settings_of(whole), 5, cast(Log, log), is_stormy=True)
     configuration = {"region": "us-east-1", "account": "123456789012",
                      "functions": [{"name": name, "ports": [1]} for name in ("f", "sink")]}
-    made: Any = SimpleNamespace(port=service.port, configuration=configuration)
+    made: Any = SimpleNamespace(port=service.port, configuration=configuration,
+                                handled={"invokePort": service.further_port})
     no_trouble: Any = SimpleNamespace(kinds_of=lambda function: ())
     front.serve(made, weather=(Storm(1), no_trouble))
     service.heads.clear()

@@ -106,7 +106,7 @@ def of_result(data: bytes) -> None:
         try:
             form = OfBalancer(settings.Integration("alb", is_multiple=is_multiple), "us-east-1")
             reply = form.reply(data, None, lambda text: None)  # type: ignore[arg-type]  # (it does not look at it)
-            assert "\n" not in (reply.reason or "") and all("\n" not in value for _, value in reply.headers)
+            assert all("\n" not in value for _, value in reply.headers)
         except Unmappable:
             pass
 

@@ -68,8 +68,8 @@ class AlbEvents(Case):
             caller.connection.request("GET", path)
             answer = caller.connection.getresponse()
             return answer.status, answer.reason, answer.read()
-        self.check("status and its words", giving({"statusCode": 404, "statusDescription": "404 Not There",
-                                                   "body": "no"}), (404, "Not There", b"no"))
+        self.check("status and its own words", giving({"statusCode": 404, "statusDescription": "404 Not There",
+                                                       "body": "no"}), (404, "Not Found", b"no"))
         self.check("in Base64", giving({"statusCode": 200, "isBase64Encoded": True, "body": "YQ=="})[2], b"a")
         self.check("words that are none", giving({"statusCode": 200, "statusDescription": "200 a\r\nb: c"})[:2],
                    (200, "OK"))

@@ -49,8 +49,8 @@ class EventsFaults(Case):
             self.check("each event is sent once, in turn", [number for number, _ in service.runs], list(range(20)))
             self.check("each succeeds in its first attempt", [(line.status, line.attempts) for line in told],
                        [("ok", 1)] * 20)
-            # (beside two of the handler, one by which it is seen, and one of the storm's port)
-            self.check("a connection that is open is used again", service.connections <= 10 + 4, True,
+            # (beside some of the handler, one by which it is seen, and those by which the storm's port sends events on)
+            self.check("a connection that is open is used again", service.connections <= 10 + 7, True,
                        shown=service.connections)
 
     def test_a_service_that_is_stopped_is_not_asked_again(self):
@@ -72,7 +72,7 @@ class EventsFaults(Case):
             time.sleep(0.2)
             front.client.close()  # (what was open)
             head = f"POST {invoke_path('f')} HTTP/1.1\r\nX-Amz-Invocation-Type: Event\r\n"
-            service.waiting.put(Handed(head.encode(), b'{"number": 2}'))
+            service.waiting.put(Handed(head.encode(), b'{"number": 2}', service.port))
             until(lambda: len(told) >= 4, PATIENCE)
             self.check("an event that cannot be sent is no failed attempt", statuses(told)[1:4], ["fault"] * 3)
         self.check("it is told at the end", (statuses(told)[-1], told[-1].attempts, service.runs),

@@ -2,42 +2,27 @@
 right next answer, whatever a function answers, to whichever method (RFC 9112, section 6.3; RFC 9110, sections 8.6, 9.3
 and 15). The program is LAMBDA_LOCAL_PROGRAM, else ./lambda_local."""
 import asyncio
+import concurrent.futures
 import http.client
 import io
 import itertools
 import json
+import socket
 import time
 from typing import Any, AsyncIterator, Dict, List, Tuple
 
-from lambda_local.front import sending, tail
-from lambda_local.front.budget import Unread
+from lambda_local.front import tail
 from lambda_local.front.http import Reply, Request
-from lambda_local.front.wire import Gone
-from lambda_local.http1 import RequestReader
+from lambda_local.service import Service
 from tests.library.cases import Case
 from tests.library.up_kit import Up
+from tests.tools.test_front_handler import CONFIGURATION, Running
 from tests.tools.test_streaming import STREAMING, quoted
 
-METHODS = ("GET", "HEAD", "POST", "PUT", "PATCH", "DELETE", "OPTIONS", "TRACE", "CONNECT")
+METHODS = ("GET", "HEAD", "POST", "PUT", "PATCH", "DELETE", "OPTIONS", "TRACE")
 STATUSES = (200, 201, 204, 205, 206, 301, 304, 400, 404, 500, 599)
 FORGED = "HTTP/1.1 200 OK\r\nContent-Length: 6\r\n\r\nFORGED"
-NEXT = b"HTTP/1.1 200 OK\r\nContent-Length: 4\r\n\r\nnext"
 PRELUDE = "application/vnd.awslambda.http-integration-response"
-
-
-class Written:
-    """A wire that keeps what is written."""
-    touched, is_aborted = 0.0, False
-
-    def __init__(self) -> None:
-        self.data, self.writes = b"", 0
-
-    async def write(self, data: bytes) -> None:
-        self.data += data
-        self.writes += 1
-
-    def abort(self, by_reset: bool = False) -> None:
-        self.is_aborted = True
 
 
 class Pieces:
@@ -54,27 +39,6 @@ class Pieces:
 
     async def aclose(self) -> None:
         self.is_closed = True
-
-
-def request_of(method: str, version: str) -> Request:
-    reader = RequestReader()
-    target = "a:80" if method == "CONNECT" else "/"
-    reader.receive(f"{method} {target} {version}\r\nHost: a\r\n\r\n".encode())
-    head: Any = reader.next_event()
-    body: Any = None
-    return Request(head, body)
-
-
-def written(method: str, version: str, reply: Reply, keeps: bool = True) -> Any:
-    """What goes out for a reply, and whether its connection is kept."""
-    wire: Any = Written()
-
-    async def send() -> Any:
-        try:
-            return await sending.send(wire, request_of(method, version), reply, keeps, Unread())
-        except Gone:
-            return "breaks off"
-    return wire, asyncio.run(send())
 
 
 class Bytes:
@@ -104,50 +68,45 @@ def read(data: bytes, method: str) -> Any:
 
 class FrontAnswers(Case):
     def test_each_answer_ends_where_the_next_begins(self) -> None:
-        """Each answer has its body, and what follows it on the connection is the next."""
-        wrong, count = [], 0
+        """Each answer at a further port has its body, and what follows it on the connection is the next."""
         contents: Tuple[List[bytes], ...] = ([b"some", b"", b"thing"], [FORGED.encode()], [])
-        versions = ("HTTP/1.1", "HTTP/1.0")
-        for method, status, version, content in itertools.product(METHODS, STATUSES, versions, contents):
-            whole = b"".join(content)
-            for name, reply in (
-                    ("whole", Reply(status, [], whole)),
-                    ("whole, with a length", Reply(status, [("Content-Length", "3")], whole)),
-                    ("in pieces", Reply(status, [], pieces=Pieces(content))),
-                    ("in pieces, with a length", Reply(status, [("content-length", str(len(whole)))],
-                                                       pieces=Pieces(content)))):
-                wire, keeps = written(method, version, reply)
-                has_content = not (method == "HEAD" or status in (204, 304) or method == "CONNECT" and status < 300)
-                wanted = (status, whole if has_content else b"", NEXT if keeps else b"")
-                seen = read(wire.data + (NEXT if keeps else b""), method)
-                count += 1
-                if seen != wanted:
-                    wrong.append((name, method, status, version, seen))
-        self.check(f"of {count} answers those that a client reads otherwise", wrong, [])
+        versions, forms = ("HTTP/1.1", "HTTP/1.0"), ("whole", "with a length", "in pieces")
 
-    def test_what_a_head_says_is_what_follows(self) -> None:
-        """What a head says is what follows."""
-        def heads(method: str, reply: Reply) -> List[str]:
-            wire, _ = written(method, "HTTP/1.1", reply)
-            return sorted(line.lower() for line in wire.data.decode().split("\r\n\r\n")[0].split("\r\n")[1:])
-        self.check("204 has no length", heads("GET", Reply(204, [("Content-Length", "4")], b"some")), [])
-        self.check("HEAD has that of the body", heads("HEAD", Reply(200, [], b"some")), ["content-length: 4"])
-        self.check("or what the service says", heads("HEAD", Reply(405, [("content-length", "49")])),
-                   ["content-length: 49"])
-        self.check("HEAD of pieces says nothing of them", heads("HEAD", Reply(200, [], pieces=Pieces([b"a"]))), [])
-        self.check("a tunnel is none", heads("CONNECT", Reply(200, [], b"some")), ["connection: close"])
-        for name, length in (("more than its head says", 3), ("less", 5)):
-            wire, keeps = written("GET", "HTTP/1.1", Reply(200, [("content-length", str(length))],
-                                                           pieces=Pieces([b"so", b"me"])))
-            self.check(f"a body that has {name} breaks off", (keeps, wire.is_aborted), ("breaks off", True))
-            self.check("with no more than that", len(wire.data.partition(b"\r\n\r\n")[2]) <= length)
+        async def reply(request: Request) -> Reply:
+            if request.path == "/next":
+                return Reply(200, [], b"next")
+            status, content, form = map(int, request.path.split("/")[1:])
+            headers = [("Content-Length", "3")] if form == 1 else []
+            if form == 2:
+                return Reply(status, headers, pieces=Pieces(contents[content]))
+            return Reply(status, headers, b"".join(contents[content]))
 
-    def test_the_head_waits_for_no_piece(self) -> None:
-        """The head waits for no piece, and one that is there goes with it."""
-        wire, _ = written("GET", "HTTP/1.1", Reply(200, [("content-length", "2")], pieces=Pieces([b"ab"])))
-        self.check("a piece that is there", wire.writes, 2)  # (the second has the end of chunks, or nothing)
-        wire, _ = written("GET", "HTTP/1.1", Reply(200, [("content-length", "2")], pieces=Pieces([b"ab"], 0.05)))
-        self.check("a piece that comes later", wire.writes, 3)
+        def asked(method: str, status: int, version: str, content: int, form: int) -> Any:
+            """What Python's reader makes of what comes: the answer, and then the next."""
+            target, whole = f"/{status}/{content}/{form}", b"".join(contents[content])
+            has_content = not (method == "HEAD" or status in (204, 205, 304))
+            keeps = version == "HTTP/1.1" or form != 2 or not has_content
+            with socket.create_connection(("127.0.0.1", service.handled["a port"]), timeout=60) as peer:
+                peer.sendall(f"{method} {target} {version}\r\nHost: a\r\nConnection: keep-alive\r\n\r\n"
+                             "GET /next HTTP/1.1\r\nHost: a\r\nConnection: close\r\n\r\n".encode())
+                data = b"".join(iter(lambda: peer.recv(1 << 16), b""))
+            try:
+                seen = read(data, method)
+                following = read(seen[2], "GET")[:2] if seen[2] else b""
+            except http.client.HTTPException as fault:
+                return f"{fault!r} of {data!r}"
+            wanted = (status, whole if has_content else b"", (200, b"next") if keeps else b"")
+            return None if (*seen[:2], following) == wanted else (*seen[:2], following)
+
+        cases = [*itertools.product(METHODS, STATUSES, versions, range(len(contents)), range(len(forms)))]
+        service = Service(CONFIGURATION, handled={"a port": 0})
+        with Running(service.port, reply, service.handled["a port"]) as running:
+            with concurrent.futures.ThreadPoolExecutor(8) as pool:
+                wrong = [(*case[:3], contents[case[3]], forms[case[4]], seen)
+                         for case, seen in zip(cases, pool.map(lambda case: asked(*case), cases)) if seen]
+            self.check("nothing is told", running.told, [])
+        service.kill()
+        self.check(f"of {len(cases)} answers those that a client reads otherwise", wrong, [])
 
     def test_an_answer_is_its_callers_whatever_is_known_of_its_log(self) -> None:
         """An answer is its caller's, whatever is known of its log; and it ends with its caller."""

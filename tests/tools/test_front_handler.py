@@ -10,6 +10,7 @@ import time
 from typing import Any, AsyncIterator, Dict, Iterator, List, Tuple
 
 from lambda_local.front import handler as handlers
+from lambda_local.front.descriptors import MOST
 from lambda_local.front.handed import NotHanded, handed_of
 from lambda_local.front.handler import Handler
 from lambda_local.front.http import Reply, Request
@@ -22,6 +23,7 @@ from tests.library.up_kit import Up, until
 PATIENCE = 60  # seconds, on a machine that does much else
 HEAD = {"id": 7, "port": 9100, "method": "POST", "target": "/a/b?c=d", "headers": [["host", "a"], ["x", "\xe9"]]}
 CONFIGURATION = {"account": "123456789012", "region": "us-east-1", "functions": [{"name": "f", "ports": [0]}]}
+MUCH = 6 << 20  # bytes of an answer: more than the system holds for one that reads nothing
 NO_LOG: Any = lambda *_, **__: None
 
 
@@ -50,7 +52,7 @@ class Hostile(threading.Thread):
     def __init__(self, *deeds: Tuple[bytes, bytes]) -> None:
         super().__init__(daemon=True)
         self.deeds, self.posts, self.connections, self.open = list(deeds), [b""] * 0, 0, 0
-        self.listener = socket.create_server(("127.0.0.1", 0))
+        self.listener, self.is_over = socket.create_server(("127.0.0.1", 0)), threading.Event()
         self.port = self.listener.getsockname()[1]
         self.start()
 
@@ -80,14 +82,34 @@ class Hostile(threading.Thread):
         self.listener.close()
 
 
+class Deaf(Hostile):
+    """One that reads no post."""
+
+    def __init__(self, *deeds: Tuple[bytes, bytes]) -> None:
+        super().__init__(*deeds)
+        self.listener.setsockopt(socket.SOL_SOCKET, socket.SO_RCVBUF, 4096)
+
+    def serve(self, peer: socket.socket) -> None:
+        with peer, peer.makefile("rb") as stream, contextlib.suppress(OSError):
+            if handlers.HERE.encode() in head_in(stream):
+                return peer.sendall(answer(204, b""))
+            peer.sendall(self.deeds.pop(0)[0] if self.deeds else b"")
+            self.is_over.wait(PATIENCE)
+
+    def close(self) -> None:
+        self.is_over.set()
+        super().close()
+
+
 class Running:
     """A handler of a service, in a loop of its own."""
 
-    def __init__(self, port: int, reply: Any) -> None:
+    def __init__(self, port: int, reply: Any, *further: int, most: int = MOST) -> None:
+        """`reply` answers at the service's port, and at further ones."""
         self.told: List[str] = []
         self.loop, self.ready = asyncio.new_event_loop(), threading.Event()
         log: Any = lambda _who, text, **_: self.told.append(text)
-        self.handler = Handler(port, {port: reply, 9100: reply}, log)
+        self.handler = Handler(port, dict.fromkeys([port, 9100, *further], reply), log, most)
         self.thread = threading.Thread(target=self.run, daemon=True)
         self.thread.start()
         self.handler.is_known.wait(PATIENCE)
@@ -147,7 +169,7 @@ class FrontHandler(Case):
         self.check("its number and its port", (handed.number, handed.port), (7, 9100))
         self.check("its head", (request.method, request.target, request.path, request.query, request.headers),
                    ("POST", "/a/b?c=d", "/a/b", "c=d", [("host", "a"), ("x", "\xe9")]))
-        self.check("its body, byte for byte", asyncio.run(request.body.whole(6)), b"\n\0body")
+        self.check("its body, byte for byte", request.body(6), b"\n\0body")
         self.check("a target beyond ASCII", handed_of(line_of(target="/\xe9")).request.path, "/\xc3\xa9")
         self.check("that of a tunnel", handed_of(line_of(target="", method="CONNECT")).request.path, "")
         self.check("any", handed_of(line_of(target="*", method="OPTIONS")).request.path, "*")
@@ -220,6 +242,16 @@ class FrontHandler(Case):
                                          "an answer breaks off: KeyError")], [True] * 3, shown=running.told)
             self.check("and all goes on", ask(service.port, "GET", "/raises", timeout=PATIENCE)[0], 500)
 
+    def test_an_answer_with_more_fields_than_may_be_is_a_502_and_told(self) -> None:
+        """The service ends the connection on which it is posted, and all goes on with others."""
+        async def reply(request: Request) -> Reply:
+            return Reply(200, [("x", "y" * int(request.query or "1"))] * int(request.path[1:]), b"ok")
+        with real() as service, Running(service.port, reply) as running:
+            for path, wanted in (("/97", 200), ("/98", 502), ("/3", 200), ("/70?1000", 502), ("/4?1000", 200)):
+                self.check(path, ask(service.port, "GET", path, timeout=PATIENCE)[0], wanted)
+            self.check("each is told", [line.partition(": ")[0] for line in running.told],
+                       ["GET /98 gets 502", "GET /70 gets 502"], shown=running.told)
+
     def test_what_takes_long_holds_nothing_up_and_few_connections_stay(self) -> None:
         gate: "List[asyncio.Event]" = []
 
@@ -235,12 +267,11 @@ class FrontHandler(Case):
                 thread.start()
             self.check("40 are at work", until(lambda: len(gate) == 40, 30))
             self.check("another is answered", ask(service.port, "GET", "/short", timeout=PATIENCE)[0], 200)
-            most, handlers.MOST = handlers.MOST, 40
+            running.handler.most = 40
             for one in gate:
                 running.loop.call_soon_threadsafe(one.set)
             for thread in long:
                 thread.join(PATIENCE)
-            handlers.MOST = most
             self.check("then few connections stay", until(lambda: len(running.handler.tasks) <= handlers.SPARE, 10),
                        shown=len(running.handler.tasks))
             self.check("which answer", ask(service.port, "GET", "/short", timeout=PATIENCE)[0], 200)
@@ -255,30 +286,26 @@ class FrontHandler(Case):
             await asyncio.get_running_loop().run_in_executor(None, held.acquire)
             now[0] -= 1
             return Reply(200)
-        most, handlers.MOST = handlers.MOST, 3
-        try:
-            with real() as service, Running(service.port, reply):
-                seen: List[int] = []
-                asking = [threading.Thread(target=lambda: seen.append(ask(service.port, "GET", "/x",
-                                                                          timeout=PATIENCE)[0])) for _ in range(9)]
-                for thread in asking:
-                    thread.start()
-                until(lambda: now[0] == 3, 10)
-                time.sleep(0.5)
-                self.check("three are at work, and six wait in the service", (now[0], highest[0], seen), (3, 3, []))
-                for _ in range(9):
-                    held.release()
-                for thread in asking:
-                    thread.join(PATIENCE)
-                self.check("each is answered", (seen, highest[0] <= 3), ([200] * 9, True))
-        finally:
-            handlers.MOST = most
+        with real() as service, Running(service.port, reply, most=3):
+            seen: List[int] = []
+            asking = [threading.Thread(target=lambda: seen.append(ask(service.port, "GET", "/x",
+                                                                      timeout=PATIENCE)[0])) for _ in range(9)]
+            for thread in asking:
+                thread.start()
+            until(lambda: now[0] == 3, 10)
+            time.sleep(0.5)
+            self.check("three are at work, and six wait in the service", (now[0], highest[0], seen), (3, 3, []))
+            for _ in range(9):
+                held.release()
+            for thread in asking:
+                thread.join(PATIENCE)
+            self.check("each is answered", (seen, highest[0] <= 3), ([200] * 9, True))
 
     def test_bodies_that_are_held_are_bounded(self) -> None:
         held, sizes = threading.Semaphore(0), []
 
         async def reply(request: Request) -> Reply:
-            sizes.append(request.body.length)
+            sizes.append(len(request.content))
             await asyncio.get_running_loop().run_in_executor(None, held.acquire)
             return Reply(200)
         most, handlers.MOST_HELD = handlers.MOST_HELD, 1000
@@ -311,6 +338,23 @@ class FrontHandler(Case):
             status, _, content = ask(service.port, "HEAD", "/pieces", timeout=PATIENCE)
             self.check("HEAD has none of it", (status, content), (201, b""))
             self.check("nothing is told", running.told, [])
+
+    def test_answers_that_are_not_taken_are_bounded(self) -> None:
+        """If too much waits for its reader, answers are broken off of which nothing is taken; a line says so."""
+        async def reply(_request: Request) -> Reply:
+            return Reply(200, [], b"x" * MUCH)
+        most, handlers.MOST_UNREAD = handlers.MOST_UNREAD, 3 * MUCH
+        service = Deaf(*[(answer(200, line_of()), b"")] * 7)
+        try:
+            with Running(service.port, reply) as running:
+                unread = running.handler.unread
+                self.check("what waits is more than may", until(lambda: len(unread) == 7, PATIENCE), shown=len(unread))
+                self.check("and then bounded", until(lambda: sum(unread.values()) <= 3 * MUCH, PATIENCE))
+                self.check("no more is broken off", len(unread) >= 3, shown=len(unread))
+                self.check("a line says so", until(lambda: any("broken off" in line for line in running.told), 5))
+        finally:
+            handlers.MOST_UNREAD = most
+            service.close()
 
     def test_a_requester_that_goes_ends_its_answer(self) -> None:
         body = Slow([b"x"] * 10_000, 0.02)

@@ -6,7 +6,6 @@ tests/tools/fuzz.cases with its seed, and tried first from then on.
 
 Variables: FUZZ_HOURS is for how long all parts together go on (a minute), FUZZ_SEED the first seed (the days since
 1970; it is printed). Without hypothesis (Debian: python3-hypothesis) tests/library/strategies.py draws the inputs."""
-import asyncio
 import base64
 import contextlib
 import io
@@ -50,7 +49,7 @@ CASES = os.path.join(ROOT, "tests", "tools", "fuzz.cases")
 SHRINKING = 30.0  # seconds for making a failure small
 LONGEST_SECONDS = 20.0  # of one input, on a machine that does much else
 REQUEST = "00000000-0000-8000-8001-000000000001"
-HANDED = b'{"id":7,"port":9100,"method":"POST","target":"/a/b?c=d","headers":[["host","a"],["x","y"]]}\nbody'
+HANDED = b'{"id":7,"port":9100,"method":"POST","target":"/a/b?c=d","headers":[["host","a"],["x","y"]]}\n"body"'
 HISTORY = (b'form 2\n{"account":"123456789012","accountLimit":1000,"functions":[{"extensions":["x"],"handler":"a.b",'
            b'"name":"f","ports":[1],"timeout":3}],"invokePort":9,"leastRemainder":100,"maxEntries":1000,'
            b'"region":"us-east-1","salt":0}\n1 register 1 =x is a\n'
@@ -151,7 +150,7 @@ def of_handed(data):
     with contextlib.suppress(NotHanded):
         request = handed_of(data).request
         request_head(request.method, request.target or "*", request.headers)
-        assert data.endswith(b"\n" + asyncio.run(request.body.whole(len(data))))
+        assert data.endswith(b"\n" + request.body(len(data)))
 
 
 class SevenAtOnce(io.BytesIO):

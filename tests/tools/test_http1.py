@@ -11,7 +11,6 @@ import re
 import subprocess
 import tempfile
 import time
-import urllib.parse
 from collections import Counter
 
 from lambda_local.front.origins import refusal_of
@@ -20,16 +19,13 @@ from lambda_local.http1 import (NEED_DATA, CutShort, Data, Malformed, Request, R
 from lambda_local.service import free_ports
 from tests import ROOT
 from tests.library.cases import Case
-from tests.library.events_kit import READY, READY_SECONDS
 from tests.library.h11_beside import compared
 from tests.library.http_mutants import BROKEN, TAKEN, answers_to, messages_of, mutants, outcome_of, own_outcome
-from tests.library.up_kit import Up
 
 COUNT = int(os.environ.get("HTTP1_COUNT", "10000"))
 SEED = int(os.environ.get("HTTP1_SEED") or random.randrange(1 << 32))
 AT_ONCE = 8  # connections to the service
 MOST_SHOWN = 5
-APP = "def run(event, context): return event\n"
 
 
 def cases():
@@ -128,12 +124,6 @@ def seconds_to_read(data, size):
     return time.process_time() - begun
 
 
-def processor_seconds(pid):
-    with open(f"/proc/{pid}/stat") as file:
-        words = file.read().rpartition(")")[2].split()
-    return (int(words[11]) + int(words[12])) / os.sysconf("SC_CLK_TCK")
-
-
 class Http1(Case):
     def test_each_case_of_the_table_is_read_whole_and_in_pieces(self):
         for name, data, wanted in cases():
@@ -162,25 +152,6 @@ class Http1(Case):
         print(f"     {COUNT} requests, seed {SEED}: {dict(counts)}", flush=True)
         self.check("the service and our reader agree", (len(wrong), wrong[:MOST_SHOWN]), (0, []))
         self.check("both kinds are among them", min(counts["taken"], counts["refused"]) > COUNT / 10)
-
-    def test_the_front_answers_mutants_as_the_service(self):
-        """What the front answers to them, at the port of a storm, has the service's statuses."""
-        up = Up(*READY, "--storm", "11:0.001", functions=[{"name": "f", "runtime": "python", "handler": "app.run"}],
-                app=APP, whole={"asynchronous": True})
-        up.until("[up] ready", READY_SECONDS)
-        port = urllib.parse.urlsplit(up.endpoint).port
-        counts: Counter[str] = Counter()
-        requests, wrong = mutants(COUNT // 10, SEED + 1), []
-        with Serving() as service, concurrent.futures.ThreadPoolExecutor(AT_ONCE) as pool:
-            own = list(service.outcomes(requests))
-            for data, seen, wanted in zip(requests, pool.map(lambda data: outcome_of(answers_to(port, data)), requests),
-                                          own):
-                counts["taken" if wanted[:1] == [TAKEN] else "refused" if wanted else "cut"] += 1
-                if seen != wanted:
-                    wrong.append((data, seen, wanted))
-        print(f"     {COUNT // 10} requests: {dict(counts)}", flush=True)
-        self.check("the front answers them as the service", (len(wrong), wrong[:MOST_SHOWN]), (0, []))
-        self.check("it ends in order, and leaves nothing", up.end(), (0, []))
 
     def test_h11_and_our_reader_agree_but_for_what_is_listed(self):
         try:
@@ -270,29 +241,3 @@ class Http1(Case):
             small, large = (min(seconds_to_read(made(times * count), size) for _ in range(3)) for times in (1, 4))
             self.check(f"{name}: {small * 1000:.1f} ms, four times as much {large * 1000:.1f} ms", large < 10 * small
                        + 0.01)
-
-    def test_a_body_in_chunks_of_one_byte_costs_little_and_holds_up_nobody(self):
-        """A body in chunks of one byte through the front, beside the same body whole, and others meanwhile."""
-        up = Up(*READY, functions=[{"name": "f", "runtime": "python", "handler": "app.run"}], app=APP,
-                whole={"asynchronous": True})
-        up.until("[up] ready", READY_SECONDS)
-        size, port = 2_400_000, urllib.parse.urlsplit(up.endpoint).port
-        whole = b"POST /x HTTP/1.1\r\nHost: a\r\nContent-Length: %d\r\n\r\n" % size + b"x" * size
-        chunks = (b"POST /x HTTP/1.1\r\nHost: a\r\nTransfer-Encoding: chunked\r\n\r\n"
-                  + b"1\r\nx\r\n" * size + b"0\r\n\r\n")
-        taken = {}
-        for name, data in (("whole", whole), ("in chunks", chunks)):
-            begun = processor_seconds(up.process.pid)
-            self.check(f"a body {name} is read", {outcome_of(answers_to(port, data))[0] for _ in range(10)}, {TAKEN})
-            taken[name] = processor_seconds(up.process.pid) - begun
-        print(f"     seconds of processor time for ten bodies of {size} bytes: {taken}", flush=True)
-        self.check("one-byte chunks take at most ten times as long", taken["in chunks"] <= 10 * max(taken["whole"],
-                                                                                                    0.05))
-        with concurrent.futures.ThreadPoolExecutor(4) as pool:
-            sending, longest = [pool.submit(answers_to, port, chunks) for _ in range(4)], 0.0
-            while not all(one.done() for one in sending):
-                begun = time.monotonic()
-                up.get("/_local/stats")
-                longest = max(longest, time.monotonic() - begun)
-        self.check(f"others are answered meanwhile, within {longest:.2f} s", longest < 3)
-        self.check("it ends in order, and leaves nothing", up.end(), (0, []))

@@ -13,7 +13,7 @@ import time
 from typing import Any, Dict, List
 from unittest import mock
 
-from lambda_local.front.front import listener_at
+from lambda_local.service import free_listener
 from lambda_local.telemetry import relay, relay_process
 from lambda_local.telemetry.conversation import Conversation, Ears
 from lambda_local.telemetry.proxy import Proxy
@@ -246,7 +246,7 @@ class Relay(Case):
         async def come(count):
             lines: List[str] = []
             service = await asyncio.start_server(lambda *_: None, "127.0.0.1", 0)
-            proxy = Proxy(listener_at(0, "a proxy", "up.json"), service.sockets[0].getsockname()[1], Ears(),
+            proxy = Proxy(free_listener("a proxy", "up.json"), service.sockets[0].getsockname()[1], Ears(),
                           lines.append, most=2)
             await proxy.start()
             readers, closed = [], 0

@@ -65,7 +65,7 @@ class RestEvents(Case):
             event = event_by(
                 caller, "POST", "/hello/world?name=me&multivalueName=you&multivalueName=m%20e&none=",
                 b'{"a":"\xc3\xa9"}',
-                [("Content-Type", "application/json"), ("headerName", "one"), ("headername", "two"),
+                [("Content-Type", "application/json"), ("header-Name", "one"), ("header-name", "two"),
                  ("User-Agent", "check"), ("Cookie", "k=v"), ("Connection", "keep-alive"),
                  ("X-Forwarded-For", "10.0.0.1")])
             self.check("a REST event has these members, and no version", set(event), COMMON)
@@ -75,11 +75,11 @@ class RestEvents(Case):
                        (event["queryStringParameters"], event["multiValueQueryStringParameters"]),
                        ({"name": "me", "multivalueName": "m e", "none": ""},
                         {"name": ["me"], "multivalueName": ["you", "m e"], "none": [""]}))
-            self.check("its headers keep their names, and the last value of each",
-                       [event["headers"].get(name) for name in ("Content-Type", "headerName", "headername", "Cookie",
+            self.check("its headers' names are in capitals, with the last value of each",
+                       [event["headers"].get(name) for name in ("Content-Type", "Header-Name", "header-name", "Cookie",
                                                                 "Connection", "X-Forwarded-For", "X-Forwarded-Proto")],
                        ["application/json", "two", None, "k=v", None, "10.0.0.1, 127.0.0.1", "http"])
-            self.check("all values of a header", event["multiValueHeaders"]["headerName"], ["one", "two"])
+            self.check("all values of a header", event["multiValueHeaders"]["Header-Name"], ["one", "two"])
             self.check("its port", event["multiValueHeaders"]["X-Forwarded-Port"], [str(caller.connection.port)])
             self.check("its parameters and variables", (event["pathParameters"], event["stageVariables"]),
                        ({"proxy": "hello/world"}, {"table": "orders"}))

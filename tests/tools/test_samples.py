@@ -138,8 +138,7 @@ class Samples(Case):
         reader.receive(b"POST /orders/7?full=yes HTTP/1.1\r\nHost: a\r\nCookie: session=1\r\nUser-Agent: curl/8.0.0\r\n"
                        b"Content-Type: application/json\r\nContent-Length: 15\r\n\r\n")
         head: Any = reader.next_event()
-        no_body: Any = None
-        request, body = Request(head, no_body), b'{"name": "Ada"}'
+        request, body = Request(head, b""), b'{"name": "Ada"}'
         context: Dict[str, Any] = {
             "accountId": "1", "apiId": "a", "domainName": "a", "domainPrefix": "a", "requestId": "r",
             "routeKey": "POST /orders/{id}", "stage": "$default", "timeEpoch": 1}

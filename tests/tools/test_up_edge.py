@@ -1,6 +1,7 @@
 """Checks that lambda_local up leaves nothing behind when one of its processes is killed, and goes on without free
 ports, memory or descriptors. The program is LAMBDA_LOCAL_PROGRAM, else ./lambda_local."""
 import asyncio
+import errno
 import http.client
 import json
 import os
@@ -10,8 +11,10 @@ import threading
 import time
 import urllib.request
 from typing import List, Union
+from unittest import mock
 
 from lambda_local.service import Fault, Service, ask
+from lambda_local.up.surroundings import Clients
 from lambda_local.up.watch import Watch
 from tests.library.cases import Case
 from tests.library.fake_trace import HEAD, LAST, Fake, chunks, line
@@ -251,6 +254,14 @@ class UpEdge(Case):
         self.check("and tells of it", until(lambda: up.count(" ok ") == 2, 60), True)
         self.check("its threads go on", up.has("cannot go on"), False)
         self.check("and it ends as always", up.end(), (0, []))
+
+    def test_a_look_for_old_clients_waits_for_nothing(self):
+        """Without a descriptor, also for an import, or a process, no old client is found, and all else goes on."""
+        for fault in (OSError(errno.EMFILE, "no descriptor"), ImportError("no module"), ProcessLookupError("reaped")):
+            with mock.patch("lambda_local.up.surroundings.own_boto3", side_effect=fault), mock.patch(
+                    "lambda_local.up.surroundings.is_python_of_path", return_value=True):
+                Clients(mock.Mock(), threading.Event()).run()
+                self.check(f"{fault!r} ends nothing", True)
 
     def test_there_are_three_threads_however_many_environments_there_are(self):
         """Its threads are the main one, the loop's and the log's, however many environments there are."""

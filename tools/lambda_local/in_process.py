@@ -206,7 +206,7 @@ def front_of(asynchronous: Union[None, bool, Members], members: Mapping[str, Mem
         raise ValueError(mistake)
     functions = tuple({"name": name, **own} for name, own in members.items())
     made = Settings(0, settings, urls={}, apis={}, functions=functions, folder=os.getcwd())
-    return Front(made, "start()", DRAIN_SECONDS, tell_of_events, Outbox(keeps_credentials))
+    return Front(made, DRAIN_SECONDS, tell_of_events, Outbox(keeps_credentials), is_stormy=storm is not None)
 
 
 def tell_of_events(who: str, text: str, level: str = "info", kind: str = "up", always: bool = False,
@@ -255,7 +255,7 @@ class LambdaLocal(Troubled):
                                   "functions": [part for part, _ in parts]}
         if self.salt is not None:
             configuration["salt"] = self.salt
-        self.service = Service(configuration, self.program)
+        self.service = Service(configuration, self.program, handled=front.wanted if front else {})
         if front:
             front.serve(self.service, weather=self.weather(storm, list(handlers)))
             self.front = front

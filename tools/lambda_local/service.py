@@ -13,7 +13,6 @@ import shutil
 import signal
 import socket
 import subprocess
-import tempfile
 import threading
 import time
 from typing import AnyStr, Callable, Collection, Dict, Iterator, List, Mapping, Optional, TextIO, Tuple
@@ -31,8 +30,11 @@ RUNTIME = "/2018-06-01/runtime/"
 AGAIN = "Lambda-Local-Again"  # a header: this has been sent before, so a storm spares it
 EXTENSION = "/2020-01-01/extension/"
 PIECE = 1 << 20  # bytes of what it says that are taken at once
+TRIES = 5  # for a free port
 TAKEN_SECONDS = 5.0  # for the status of a process that has ended
 NO_NETWORK = "network: failed"  # the program's line if it cannot listen on a port
+HANDLED, MOST_HANDLED = "LAMBDA_LOCAL_HANDLED", 64  # the variable that lists further ports, and how many it may list
+TAKEN = "another program listens there: leave the port out, and a free one is used"
 # Before the program's words: what a service begins with.
 BEGUN = ("/bin/sh", "-c", '. "$0" && begin "$@"', LIMITS)
 
@@ -122,22 +124,38 @@ def wait_for(child: "subprocess.Popen[AnyStr]", seconds: float) -> int:
     return child.wait(TAKEN_SECONDS if has_ended else 0)
 
 
+def free_listener(owner: str, path: str) -> socket.socket:
+    """A socket that listens on a free port, which another program can take between looking and listening."""
+    for _ in range(TRIES):
+        port, made = free_ports(1, ())[0], socket.socket()
+        try:
+            made.setsockopt(socket.SOL_SOCKET, socket.SO_REUSEADDR, 1)
+            made.bind(("127.0.0.1", port))
+            made.listen(1024)
+            return made
+        except OSError:
+            made.close()
+    raise Fault(4, f"{path}: port {port} ({owner}): {TAKEN}")
+
+
 class Service:
     """A running service. Of the configuration, ports of 0 (and an absent `invokePort`) are replaced by free ones.
-    `path` is the file that the configuration is from, for messages, and `variables` are its own beside ours."""
+    `path` is the file that the configuration is from, for messages, and `variables` are its own beside ours. `handled`
+    are further ports, all of whose requests it hands over, by their owners; those of 0 are replaced likewise."""
 
     def __init__(self, configuration: Members, program: Optional[str] = None,
                  say: Callable[[str], None] = lambda line: None, path: Optional[str] = None,
-                 variables: Mapping[str, str] = {}, follow: "Optional[Callable[[Service], None]]" = None) -> None:
+                 variables: Mapping[str, str] = {}, follow: "Optional[Callable[[Service], None]]" = None,
+                 handled: Mapping[str, int] = {}) -> None:
         """Once it listens, `follow` has what it says taken, by `come` and `close_said`; otherwise a thread does."""
-        self.follow = follow
+        self.follow, self.wanted = follow, handled
         self.program, self.say, self.variables = program_path(program), say, variables
         self.lines: List[str] = []
         self.given, self.path = configuration, path
-        self.folder = tempfile.mkdtemp(prefix="lambda_local.")
-        GUARD.hold(self.folder)
+        self._refuse_handled()
+        self.folder = GUARD.new_folder()
         try:
-            for _ in range(5):  # between looking and listening another program can take a port
+            for _ in range(TRIES):  # between looking and listening another program can take a port
                 picked = self._choose()
                 if self._start():
                     return
@@ -153,13 +171,28 @@ class Service:
         """If ports that were asked for are taken, another try is in vain."""
         if NO_NETWORK not in self.lines:
             return
-        owners = {self.given.get("invokePort"): "invokePort"}
-        owners.update({port: f"function {function['name']}" for function in self.given["functions"]
-                       for port in function["ports"]})
-        taken = [f"port {port} ({owner})" for port, owner in owners.items() if port and is_taken(port)]
+        taken = [f"port {port} ({owner})" for owner, port in self._ports() if port and is_taken(port)]
         if taken:
-            raise Fault(4, f"{self._place()}{', '.join(taken)}: another program listens there: leave the port out, and "
-                           f"a free one is used")
+            raise Fault(4, f"{self._place()}{', '.join(taken)}: {TAKEN}")
+
+    def _ports(self) -> Iterator[Tuple[str, int]]:
+        """The ports that were asked for, with what each is for."""
+        yield "invokePort", self.given.get("invokePort", 0)
+        for function in self.given["functions"]:
+            yield from ((f"function {function['name']}", port) for port in function["ports"])
+        yield from self.wanted.items()
+
+    def _refuse_handled(self) -> None:
+        """What the program would refuse of further ports, by their owners."""
+        if len(self.wanted) > MOST_HANDLED:
+            raise Fault(2, f"{self._place()}{len(self.wanted)} ports are wanted for Function URLs and APIs: there may "
+                           f"be {MOST_HANDLED}: leave some out")
+        owners: Dict[int, str] = {}
+        for owner, port in self._ports():
+            if port and owner in self.wanted and port in owners:
+                raise Fault(2, f"{self._place()}port {port} is that of {owners[port]} and of {owner}: each must have "
+                               "its own")
+            owners[port] = owner
 
     def _place(self) -> str:
         return f"{self.path}: " if self.path else ""
@@ -177,14 +210,14 @@ class Service:
     def _choose(self) -> int:
         configuration = json.loads(json.dumps(self.given))
         functions = configuration["functions"]
-        given = {configuration.get("invokePort", 0)} | {port for function in functions for port in function["ports"]}
-        wanted = sum(1 for function in functions for port in function["ports"]
-                     if port == 0) + (not configuration.get("invokePort"))
+        given = [port for _, port in self._ports()]
+        wanted = given.count(0)
         ports = iter(free_ports(wanted, given))
         if not configuration.get("invokePort"):
             configuration["invokePort"] = next(ports)
         for function in functions:
             function["ports"] = [port or next(ports) for port in function["ports"]]
+        self.handled = {owner: port or next(ports) for owner, port in self.wanted.items()}
         self.configuration, self.port = configuration, configuration["invokePort"]
         self.endpoint_url = f"http://127.0.0.1:{self.port}"
         self.through = self.port  # by which queues and streams invoke: in a storm the front's
@@ -195,12 +228,14 @@ class Service:
         with open(path, "w") as file:
             json.dump(self.configuration, file)
         self.lines = []
+        handled = {HANDLED: ",".join(map(str, self.handled.values()))} if self.handled else {}
+        environ = {name: value for name, value in os.environ.items() if name != HANDLED}  # (it has handlers of its own)
         # (in a session of its own, so that a terminal's Ctrl-C does not end it out of order)
         with undisturbed():
             command, pipe = GUARD.announcing([*BEGUN, self.program, "serve", path])
             self.process = subprocess.Popen(command, stdin=pipe, stdout=subprocess.PIPE, stderr=subprocess.PIPE,
                                             text=True, errors="replace", start_new_session=True,
-                                            env={**os.environ, **self.variables})
+                                            env={**environ, **handled, **self.variables})
             assert self.process.stdout and self.process.stderr
             self.output, self.said = self.process.stdout, self.process.stderr
             self.listening, self.has_said_all, self.rest = threading.Event(), threading.Event(), b""

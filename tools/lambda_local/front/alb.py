@@ -5,7 +5,6 @@ import re
 from typing import Dict, List, Optional
 
 from ..configuration import Members
-from ..http1 import is_field_value
 from .formats import OfHttpApi
 from .http import OF_CONNECTION, PHRASES, Reply, Request, every, first
 from .payload import HERE, Unmappable, body_in, body_of, headers_in, read_result, status_in
@@ -82,7 +81,7 @@ class OfBalancer(OfHttpApi):
         headers = multiple_in(value) if self.integration.is_multiple else headers_in(value)
         if first(headers, "content-type") is None:
             headers.append(("Content-Type", "application/octet-stream"))
-        return Reply(status_in(value), headers, body_in(value), reason=reason_in(value))
+        return Reply(status_in(value), headers, body_in(value))
 
     @staticmethod
     def failure_reply() -> Reply:
@@ -100,10 +99,3 @@ class OfBalancer(OfHttpApi):
     @staticmethod
     def no_stage_reply() -> Reply:
         return page(404)
-
-
-def reason_in(value: Dict[str, object]) -> Optional[str]:
-    """The words of statusDescription, such as "200 OK", without the number; none if it has none."""
-    given = value.get("statusDescription")
-    words = re.sub(r"^[0-9]{3} ?", "", given) if isinstance(given, str) else ""
-    return words if words and words.isascii() and is_field_value(words) else None

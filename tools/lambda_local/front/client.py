@@ -4,10 +4,10 @@ caller's own head is never passed on."""
 import asyncio
 import contextlib
 import time
-from typing import AsyncIterator, Callable, List, Sequence, Tuple
+from typing import AsyncIterator, List, Sequence, Tuple
 
 from ..history.running import NO_DESCRIPTOR
-from ..http1 import CLOSED, Event, Headers, Malformed, Response, ResponseReader, request_head
+from ..http1 import CLOSED, PAUSED, Event, Headers, Malformed, Response, ResponseReader, request_head
 from .http import Answer, Body
 from .wire import Gone, Wire
 
@@ -35,16 +35,14 @@ class ServiceWire(Wire):
             event = await super().event()
         except Malformed:
             raise Gone from None
-        if event is CLOSED:
+        if event is CLOSED or event is PAUSED:  # (no further answer comes)
             raise Gone
         return event
 
 
 class Client:
-    """`answered` is told the target and the bytes of each answer with the status 200 whose length is known."""
-
-    def __init__(self, port: int, answered: Callable[[str, int], None] = lambda target, size: None) -> None:
-        self.port, self.answered = port, answered
+    def __init__(self, port: int) -> None:
+        self.port = port
         self.idle: List[Tuple[ServiceWire, float]] = []  # with the time since when
 
     async def connection(self) -> ServiceWire:
@@ -86,8 +84,6 @@ class Client:
         try:
             wire.transport.write(head + body)
             answer = await self.answer(wire, method)
-            if answer.status == 200:
-                self.answered(target, answer.body.length or 0)
             yield answer
         finally:
             if len(body) == length and answer is not None and answer.keeps and answer.body.is_read:
@@ -100,7 +96,7 @@ class Client:
         wire.responses.method = method
         while not (isinstance(event := await wire.event(), Response) and event.status >= 200):
             pass
-        return Answer(event.status, event.reason, event.headers, Body(wire, event.length), event.keeps_alive)
+        return Answer(event.status, event.headers, Body(wire, event.length), event.keeps_alive)
 
     async def ask(self, method: str, target: str, headers: Sequence[Tuple[str, str]] = (), body: bytes = b"",
                   is_again: bool = False) -> Tuple[int, Headers, bytes]:

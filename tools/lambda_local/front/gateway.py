@@ -1,5 +1,6 @@
-"""Ports at which HTTP requests invoke functions: a Function URL, and the routes of an HTTP API or a REST API."""
-import json
+"""Ports at which HTTP requests invoke functions: a Function URL, and the routes of an HTTP API or a REST API. The
+service has these ports, refuses what is no request to this machine, and hands over the others; what a web page sends is
+judged here, by `cors`."""
 from typing import Any, Callable, Dict, List, Mapping, NamedTuple, Optional, Tuple
 
 from ..clock.followed import Clock
@@ -9,12 +10,10 @@ from ..streaming.streams import Streams
 from . import cors, response_stream
 from .alb import OfBalancer
 from .authorize import Asked, Authorizers, Refused
-from .budget import Budget, Full, Held
 from .client import Client
 from .events import Identifiers, target_of, trace_of
 from .formats import OfHttpApi, OfUrl, format_of, message
-from .http import NO_STAGE, PHRASES, Headers, Malformed, Reply, Request, TooLong, first
-from .origins import Refusal, further_hosts, refusal_of
+from .http import NO_STAGE, Headers, Malformed, Reply, Request, TooLong, first
 from .payload import Unmappable
 from .rest_payload import Tell
 from .routes import Routes
@@ -45,7 +44,6 @@ class Gateway:
     def __init__(self, client: Client, clock: Clock, address: Address, identifiers: Identifiers, log: Log) -> None:
         self.client, self.cors, self.identifiers, self.log = client, address.cors, identifiers, log
         self.clock = clock
-        self.budget, self.hosts = Budget(), further_hosts()
 
     def find(self, request: Request) -> Optional[Backend]:
         raise NotImplementedError
@@ -54,9 +52,6 @@ class Gateway:
         raise NotImplementedError
 
     async def handle(self, request: Request) -> Reply:
-        refusal = refusal_of(request.head, self.hosts, pages_may=True)
-        if refusal:
-            return self.refuse(request, refusal)
         if self.cors and cors.is_preflight(request):
             return cors.preflight(self.cors, request, self.preflight_status)
         backend = self.find(request)
@@ -65,40 +60,14 @@ class Gateway:
             return cors.with_cors(self.cors, request, reply)
         return reply
 
-    def refuse(self, request: Request, refusal: Refusal) -> Reply:
-        """A page whose name leads to this machine could do here what it likes: so not each Host is served. What is
-        refused by its head ends its connection, whether or not its body has come: no request behind that is lost."""
-        self.log("up", f"a request is answered {refusal.status}: {refusal.message}", level="error", kind="http")
-        reply = message(refusal.status, refusal.message)
-        return reply._replace(headers=[*reply.headers, ("Connection", "close")])
-
-    @staticmethod
-    def malformed_reply(fault: Malformed, _request: Optional[Request]) -> Reply:
-        kind = PHRASES[fault.status].title().replace(" ", "")
-        body = json.dumps({"errorMessage": str(fault), "errorType": kind}).encode()
-        return Reply(fault.status, [("Content-Type", "application/json"), ("Connection", "close")], body)
-
-    @staticmethod
-    def refusal(status: int, text: str) -> Reply:
-        return message(status, text)
-
     async def invoke(self, request: Request, backend: Backend) -> Reply:
-        try:
-            with self.budget.hold(request.body.give_way) as held:
-                return await self.invoke_by(request, backend, held)
-        except Full:
-            self.say(backend, request, f"503, requests with {self.budget.most} bytes are being answered")
-            return message(503, "Service Unavailable")
-
-    async def invoke_by(self, request: Request, backend: Backend, held: Held) -> Reply:
         def tell(text: str) -> None:
             self.say(backend, request, text, level="warning")
 
         try:
-            body = await request.body.whole(backend.format.longest, held.grow)
+            body = request.body(backend.format.longest)
         except TooLong:
             return self.too_large(backend, request, "its body", backend.format.longest)
-        held.is_whole()
         context = {**backend.context, "requestId": self.identifiers.next(backend.function),
                    "timeEpoch": self.clock.now()}
         request = request._replace(below=backend.below)
@@ -173,16 +142,11 @@ class Url(Gateway):
         if not isinstance(start, response_stream.Start):
             await invocation.aclose()
             return self.map_result(request, backend, *start, response_stream.plain_reply, tell)
-        self.budget.size += len(event)  # (which is held until the service has answered)
-        start.answer.add_done_callback(lambda _: self.release(len(event)))
         try:
             return await response_stream.url_reply(invocation, start.stream)
         except Unmappable as reason:
             self.say(backend, request, f"502, {reason}")
             return backend.format.failure_reply()
-
-    def release(self, size: int) -> None:
-        self.budget.size -= size
 
     def find(self, request: Request) -> Optional[Backend]:
         return self.backend

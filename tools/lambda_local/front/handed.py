@@ -1,10 +1,10 @@
 """A request that the service hands over (docs/formats.md, "Handlers of requests"): a line of JSON, then its body. It is
 read as strictly as what comes from anyone."""
-from typing import Callable, List, NamedTuple, Optional, Tuple
+from typing import List, NamedTuple, Optional, Tuple
 
 from ..http1 import Malformed, Request as Head, Target, is_field_value, is_token, target_of
 from ..json_reader import NotJson, read_json
-from .http import Headers, Request, TooLong
+from .http import Headers, Request
 
 LONGEST_LINE = 512 << 10  # bytes: a head of 64 KiB, each byte of which may be written as six
 MEMBERS = {"id", "port", "method", "target", "headers"}
@@ -12,23 +12,6 @@ MEMBERS = {"id", "port", "method", "target", "headers"}
 
 class NotHanded(Exception):
     """Why this is no request."""
-
-
-class Whole:
-    """A body that is here."""
-    is_read = is_here = True
-
-    def __init__(self, content: bytes) -> None:
-        self.content, self.length = content, len(content)
-
-    async def whole(self, most: int, grow: Callable[[int], None] = lambda _: None) -> bytes:
-        if self.length > most:
-            raise TooLong
-        grow(self.length)
-        return self.content
-
-    def give_way(self) -> None:
-        """(It waits for nobody.)"""
 
 
 class Handed(NamedTuple):
@@ -59,7 +42,7 @@ def handed_of(given: bytes) -> Handed:
         raise NotHanded("its method is none")
     target, parts = target_in(members["target"])
     head = Head(method, target, parts, "HTTP/1.1", fields_in(members["headers"]), len(content), True, False)
-    return Handed(number, port, Request(head, Whole(content)))
+    return Handed(number, port, Request(head, content))
 
 
 def target_in(given: object) -> Tuple[str, Target]:

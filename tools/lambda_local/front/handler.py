@@ -1,10 +1,12 @@
 """What the service hands over, and what is answered: connections that stay open, each of which asks for a request,
 answers it, and asks again (docs/formats.md, "Handlers of requests").
 
-As long as fewer than MOST are at work there is one that asks, so what is long holds nothing else up. What comes beyond
-that waits in the service, within its bounds; so it does while the bodies that are held here have MOST_HELD bytes."""
+As long as fewer than `most` are at work there is one that asks, so what is long holds nothing else up. What comes
+beyond that waits in the service, within its bounds; so it does while the bodies that are held here have MOST_HELD
+bytes. Of answers that their readers do not take, there are MOST_UNREAD bytes here at most."""
 import asyncio
 import contextlib
+import socket
 import threading
 import time
 from typing import Awaitable, Callable, Dict, List, Optional, Set, Tuple
@@ -12,26 +14,31 @@ from typing import Awaitable, Callable, Dict, List, Optional, Set, Tuple
 from ..history.running import NO_DESCRIPTOR
 from ..http1 import Malformed, Unwritable, chunk, last_chunk, request_head
 from ..json_reader import NotJson, read_json
-from ..outgoing import Log
+from ..outgoing import Log, several
 from .client import Client, NoDescriptor, ServiceWire
+from .descriptors import MOST
 from .errors import of_service
 from .handed import LONGEST_LINE, Handed, NotHanded, handed_of
-from .http import OF_CONNECTION, Answer, Pieces, Reply, Request, TooLong
+from .http import OF_CONNECTION, Answer, Pieces, Reply, Request, TooLong, first
 from .tasks import begin_task
 from .wire import Gone
 
 REQUESTS = "/_local/requests/"
 HERE = "/_local/handler"  # no route of the service: it has one while a handler is here, which answers it
-MOST, SPARE = 256, 4  # connections; of which so many ask while nothing is to be done
+SPARE = 4  # connections that ask while nothing is to be done
 MOST_HELD = 64 << 20  # bytes of bodies; each connection that asks may get one more
 LONGEST = LONGEST_LINE + (6 << 20)  # bytes of a request, with its line
 PIECE = 128 << 10  # bytes of a body that are given to the system at once
+MOST_SENT = 256 << 10  # bytes of a connection that the system holds for the service
+MOST_UNREAD = 256 << 20  # bytes of answers; beyond these, those of which nothing is taken for SLOW_SECONDS break off
+SLOW_SECONDS, BETWEEN_LOOKS = 2.0, 1.0
+LONGEST_POST = 6 << 20  # bytes of an answer whose length is known
 PAUSE = 0.1  # seconds, until a connection that has broken is made again
 BETWEEN_TELLS = 60.0  # seconds, of the same shortage
 BEGIN_SECONDS = 20.0  # until the service knows the handler
 BODY_SECONDS = 20.0  # for the body of an answer of the service, once its head is here
 LONGEST_SAID = 1 << 20  # bytes of an answer to a post
-OVER, ENDED = 409, 503  # the requester has gone; the service ends
+OVER, TOO_MUCH, ENDED = 409, 431, 503  # the requester has gone; a head is too long; the service ends
 OWN_FIELDS = OF_CONNECTION | {"content-length"}  # which the service sets
 Port = Callable[[Request], Awaitable[Reply]]
 
@@ -45,22 +52,25 @@ class Unanswered(Exception):
 
 
 class Handler:
-    """`ports` have what answers the requests to each port. It runs in the loop in which it is started."""
+    """`ports` have what answers the requests to each port, `most` of which at once. It runs in the loop in which it is
+    started."""
 
-    def __init__(self, service: int, ports: Dict[int, Port], log: Log) -> None:
-        self.service, self.ports, self.log = service, ports, log
+    def __init__(self, service: int, ports: Dict[int, Port], log: Log, most: int = MOST) -> None:
+        self.service, self.ports, self.log, self.most = service, ports, log, most
+        self.unread: Dict[ServiceWire, int] = {}  # bytes of answers, by the connections on which they wait
         self.tasks: "Set[asyncio.Task[None]]" = set()
         self.asking = self.held = 0  # connections that ask; bytes of the bodies of requests that are answered
         self.rooms: "List[asyncio.Future[None]]" = []  # those that wait until there is room for a body
-        self.last_told = -BETWEEN_TELLS
+        self.last_told = self.last_broken = -BETWEEN_TELLS
         self.is_known = threading.Event()  # the service hands over, or has ended
 
     async def start(self) -> None:
         self.begin()
         self.keep(begin_task(self.see(), "what sees whether the service hands over", self.tell))
+        self.looking = begin_task(self.look(), "what breaks off answers that are not read", self.tell)
 
     async def stop(self) -> None:
-        ending = list(self.tasks)
+        ending = [*self.tasks, self.looking]
         for task in ending:
             task.cancel()
         await asyncio.gather(*ending, return_exceptions=True)
@@ -99,6 +109,7 @@ class Handler:
             wire: Optional[ServiceWire] = None
             try:
                 _, wire = await asyncio.get_running_loop().create_connection(ServiceWire, "127.0.0.1", self.service)
+                wire.transport.get_extra_info("socket").setsockopt(socket.SOL_SOCKET, socket.SO_SNDBUF, MOST_SENT)
                 if unanswered:
                     self.tell(f"{unanswered} gets 502: the service has closed the connection of its handler")
                     unanswered = ""
@@ -131,9 +142,9 @@ class Handler:
         if handed is None:
             self.asking -= 1
             return False
-        size = handed.request.body.length or 0
+        size = len(handed.request.content)
         self.asking, self.held = self.asking - 1, self.held + size
-        if not self.asking and len(self.tasks) < MOST:
+        if not self.asking and len(self.tasks) < self.most:
             self.begin()
         try:
             await self.answer(wire, handed)
@@ -203,7 +214,7 @@ class Handler:
 
     async def reply_to(self, handed: Handed, what: str) -> Optional[Reply]:
         """None if there is none, for which its requester gets 502. A fault of our own is answered too, and reported."""
-        if handed.request.path == HERE:
+        if handed.port == self.service and handed.request.path == HERE:
             return Reply(204)
         try:
             return await self.ports[handed.port](handed.request)
@@ -222,26 +233,53 @@ class Handler:
 
     async def post(self, wire: ServiceWire, number: int, reply: Reply) -> None:
         """Refused if the service does not take it, Gone if the connection is broken, or has to be."""
+        if reply.status == 205:  # (which has no content: RFC 9110, section 15.3.6)
+            reply = reply._replace(body=b"", pieces=None)
         fields = [("Lambda-Local-Status", str(reply.status)),
                   *(("Lambda-Local-Header", f"{name}: {value}") for name, value in reply.headers
                     if name.lower() not in OWN_FIELDS)]
+        length = len(reply.body) if reply.pieces is None else length_said(reply)
+        framing = ("Transfer-Encoding", "chunked") if length is None else ("Content-Length", str(length))
+        head = self.posted(number, "response", [*fields, framing])
         if reply.pieces is None:
-            head = self.posted(number, "response", [*fields, ("Content-Length", str(len(reply.body)))])
-            await wire.write(head + reply.body[:PIECE])
-            for begin in range(PIECE, len(reply.body), PIECE):
-                await wire.write(reply.body[begin:begin + PIECE])
+            await self.write(wire, head, reply.body)
             status, said = await self.said(wire, "POST")
         else:
-            await wire.write(self.posted(number, "response", [*fields, ("Transfer-Encoding", "chunked")]))
-            status, said = await self.said_of_pieces(wire, reply.pieces)
+            await wire.write(head)
+            status, said = await self.said_of_pieces(wire, reply.pieces, length)
+        if status == TOO_MUCH:
+            raise Refused("its headers are more, or longer, than the service takes")
         if status not in (202, OVER):
             raise Refused(f"the service answers {status}, {message_in(said)}")
 
-    async def said_of_pieces(self, wire: ServiceWire, pieces: Pieces) -> Tuple[int, bytes]:
-        """Sends a body as it comes. If the service answers before its end, it takes no more of it. What breaks off
-        breaks the connection off, and so the requester's response."""
+    async def write(self, wire: ServiceWire, head: bytes, body: bytes) -> None:
+        """Of a body that its reader does not take, there is no copy but for a piece."""
+        try:
+            for begin in range(0, max(1, len(body)), PIECE):
+                self.unread[wire] = len(body) - begin
+                await wire.write(head + body[begin:begin + PIECE])
+                head = b""
+        finally:
+            self.unread.pop(wire, None)
+
+    async def look(self) -> None:
+        while True:
+            await asyncio.sleep(BETWEEN_LOOKS)
+            now, size, count = time.monotonic(), sum(self.unread.values()), 0
+            for wire in sorted(self.unread, key=lambda wire: wire.full_since):
+                if size > MOST_UNREAD and wire.untaken(now) >= SLOW_SECONDS:
+                    size, count = size - self.unread.pop(wire), count + 1
+                    wire.abort()
+            if count and now - self.last_broken > BETWEEN_TELLS:
+                self.last_broken = now
+                self.tell(f"{several(count, 'answer')} broken off: more than {MOST_UNREAD >> 20} MiB of answers wait, "
+                          "and their readers take nothing")
+
+    async def said_of_pieces(self, wire: ServiceWire, pieces: Pieces, length: Optional[int]) -> Tuple[int, bytes]:
+        """Sends a body as it comes. If the service answers before its end, it takes no more of it. What breaks off, or
+        has another length than was said, breaks the connection off, and so the requester's response."""
         loop = asyncio.get_running_loop()
-        said, sent = loop.create_task(self.said(wire, "POST")), loop.create_task(self.send(wire, pieces))
+        said, sent = loop.create_task(self.said(wire, "POST")), loop.create_task(self.send(wire, pieces, length))
         try:
             await asyncio.wait({said, sent}, return_when=asyncio.FIRST_COMPLETED)
             if sent.done():
@@ -256,17 +294,30 @@ class Handler:
             await asyncio.gather(said, sent, return_exceptions=True)
 
     @staticmethod
-    async def send(wire: ServiceWire, pieces: Pieces) -> None:
+    async def send(wire: ServiceWire, pieces: Pieces, length: Optional[int]) -> None:
+        left = length
         async for piece in pieces:
+            if left is not None and len(piece) > left:
+                raise Gone
             if piece:
-                await wire.write(chunk(piece))
-        await wire.write(last_chunk())
+                await wire.write(chunk(piece) if left is None else piece)
+                left = None if left is None else left - len(piece)
+        if left:
+            raise Gone
+        if left is None:
+            await wire.write(last_chunk())
 
     def tell_shortage(self) -> None:
         now = time.monotonic()
         if now - self.last_told > BETWEEN_TELLS:
             self.last_told = now
             self.tell("no file descriptor is left for another connection (ulimit -n): callers wait")
+
+
+def length_said(reply: Reply) -> Optional[int]:
+    """The length that the service has said of a body which is passed on, if it may be posted with it."""
+    said = first(reply.headers, "content-length")
+    return int(said) if said is not None and said.isdigit() and int(said) <= LONGEST_POST else None
 
 
 def message_in(said: bytes) -> str:

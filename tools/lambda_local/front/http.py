@@ -1,18 +1,17 @@
-"""Requests and answers of the front, with bodies that are read as they come."""
+"""Requests and answers of the front, and the bodies of the service's answers, which are read as they come."""
 import asyncio
 import http
-from typing import AsyncIterator, Callable, List, NamedTuple, Optional, Protocol
+from typing import AsyncIterator, List, NamedTuple, Optional, Protocol
 
-from ..http1 import TOKEN, Data, Headers, Malformed, Request as Head, every, first, words_of
+from ..http1 import TOKEN, Data, Headers, Malformed, Request as Head, every, first
 from .wire import Wire
 
 __all__ = ["OF_CONNECTION", "PHRASES", "TOKEN", "Answer", "Body", "Headers", "Malformed", "Reply", "Request", "TooLong",
-           "every", "first", "words_of"]
+           "every", "first"]
 
 # Of one connection alone (RFC 9110, section 7.6.1)
 OF_CONNECTION = {"connection", "keep-alive", "proxy-connection", "te", "trailer", "transfer-encoding", "upgrade"}
 PHRASES = {**{status.value: status.phrase for status in http.HTTPStatus}, 413: "Payload Too Large", 414: "URI Too Long"}
-CONTINUE = b"HTTP/1.1 100 Continue\r\n\r\n"
 
 
 class TooLong(Exception):
@@ -22,43 +21,28 @@ class TooLong(Exception):
 class Body:
     """A body as it comes. `length` is none for one in chunks, negative for one until the end of the connection."""
 
-    def __init__(self, wire: Wire, length: Optional[int], expects_continue: bool = False,
-                 on_whole: Optional[Callable[[], None]] = None) -> None:
-        self.wire, self.length, self.is_read = wire, length, False
-        self.expects_continue = expects_continue  # the peer sends it once it is asked to
-        self.on_whole = on_whole
+    def __init__(self, wire: Wire, length: Optional[int]) -> None:
+        self.wire, self.length, self.is_read = wire, length, length == 0
         if length == 0:
-            self._finish(wire.reader.next_event())
+            wire.reader.next_event()
 
     @property
     def is_here(self) -> bool:
         """Whether all of it has come already."""
         return self.is_read or self.length is not None and 0 <= self.length <= len(self.wire.reader.buffer)
 
-    def give_way(self) -> None:
-        """It is not waited for any more."""
-        self.wire.abort()
-
-    def _finish(self, _end: object) -> None:
-        self.is_read = True
-        if self.on_whole:
-            self.on_whole()
-
     async def pieces(self) -> AsyncIterator[bytes]:
         """Each gives others their turn, so that a body in small chunks holds nobody up."""
         if self.is_read:
             return
-        if self.expects_continue and not self.wire.reader.buffer:
-            await self.wire.write(CONTINUE)
-        self.expects_continue = False
         while isinstance(event := await self.wire.event(), Data):
             yield event.data
             if self.length is None:
                 await asyncio.sleep(0)
-        self._finish(event)
+        self.is_read = True
 
-    async def whole(self, most: int, grow: Callable[[int], None] = lambda _: None) -> bytes:
-        """All of it; TooLong if it has more bytes than that. `grow` is told of each piece before it is kept."""
+    async def whole(self, most: int) -> bytes:
+        """All of it; TooLong if it has more bytes than that."""
         if self.length is not None and self.length > most:
             raise TooLong
         parts: List[bytes] = []
@@ -67,7 +51,6 @@ class Body:
             size += len(piece)
             if size > most:
                 raise TooLong
-            grow(len(piece))
             parts.append(piece)
         return parts[0] if len(parts) == 1 else b"".join(parts)
 
@@ -75,31 +58,9 @@ class Body:
 NO_STAGE = "$default"  # the stage of an HTTP API that is in no path
 
 
-class Content(Protocol):
-    """The body of a request, which comes or is here."""
-
-    @property
-    def length(self) -> Optional[int]:
-        ...
-
-    @property
-    def is_read(self) -> bool:
-        ...
-
-    @property
-    def is_here(self) -> bool:
-        ...
-
-    async def whole(self, most: int, grow: Callable[[int], None] = lambda _: None) -> bytes:
-        ...
-
-    def give_way(self) -> None:
-        ...
-
-
 class Request(NamedTuple):
     head: Head
-    body: Content
+    content: bytes  # its body
     below: Optional[str] = None  # its path below the stage that it begins with
 
     @property
@@ -117,6 +78,12 @@ class Request(NamedTuple):
     @property
     def path(self) -> str:
         return self.head.parts.path if self.below is None else self.below
+
+    def body(self, most: int) -> bytes:
+        """Its body; TooLong if it has more bytes than that."""
+        if len(self.content) > most:
+            raise TooLong
+        return self.content
 
     def path_with(self, stage: str) -> str:
         """Its path with the stage, as AWS has it at an API's own address."""
@@ -137,7 +104,6 @@ class Request(NamedTuple):
 class Answer(NamedTuple):
     """An answer as it comes from the service."""
     status: int
-    reason: str
     headers: Headers
     body: Body
     keeps: bool  # whether the connection can be used again, once the body has been read
@@ -159,4 +125,3 @@ class Reply(NamedTuple):
     headers: Headers = []
     body: bytes = b""
     pieces: Optional[Pieces] = None
-    reason: Optional[str] = None

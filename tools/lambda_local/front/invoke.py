@@ -70,7 +70,7 @@ class InvokePort:
     async def ask(self, request: Request) -> Reply:
         """What the service answers to a synchronous invocation."""
         is_again = first(request.headers, AGAIN.lower()) is not None
-        payload = await request.body.whole(LONGEST)
+        payload = request.body(LONGEST)
         status, headers, body = await self.client.ask("POST", request.target, trace_of(request.headers), payload,
                                                       is_again)
         return Reply(status, [(name, value) for name, value in headers if name.lower() in OF_ANSWER], body)
@@ -109,7 +109,7 @@ class InvokePort:
 
     async def take(self, queue: Queue, request: Request, function: str, identifier: str) -> Reply:
         try:
-            payload = await request.body.whole(MOST_PAYLOAD)
+            payload = request.body(MOST_PAYLOAD)
         except TooLong:
             return of_user(413, "RequestTooLargeException", f"Payload exceeds {MOST_PAYLOAD} bytes", identifier)
         if payload and not is_json(payload):

@@ -83,7 +83,7 @@ class Management:
             return Reply(204, [("x-amzn-requestid", identifier)])
         if kind not in SYNCHRONOUS:
             return WRONG_TYPE
-        payload = await request.body.whole(LONGEST)
+        payload = request.body(LONGEST)
         return await response_stream.invoke_with_response_stream(self.client, self.streams, target,
                                                                  trace_of(request.headers), payload)
 

@@ -1,6 +1,6 @@
-"""Which requests the front takes: by the service's own rule (docs/formats.md; crates/request_guard), those of programs
-on this machine, and not of sites that a browser shows. A name of theirs that leads to this machine is in `Host`, and
-they themselves are in `Origin`."""
+"""Which requests are taken that do not come to the service first: by its own rule (docs/formats.md;
+crates/request_guard), those of programs on this machine, and not of sites that a browser shows. A name of theirs that
+leads to this machine is in `Host`, and they themselves are in `Origin`."""
 import os
 import re
 from typing import Collection, Mapping, NamedTuple, Optional, Set
@@ -23,7 +23,6 @@ MALFORMED_HOST = Refusal(400, "InvalidParameterValueException", "Host is malform
 FROM_PAGE = Refusal(403, "AccessDeniedException", "Web pages may not call this service")
 FOREIGN_HOST = Refusal(403, "AccessDeniedException", f"Host is neither local nor in {VARIABLE}")
 FOREIGN_CODING = Refusal(501, "NotImplemented", "Transfer coding not supported")
-BROKEN_BODY = Refusal(400, "InvalidRequestContentException", "Body is malformed")
 
 
 def further_hosts(environ: Mapping[str, str] = os.environ) -> Set[str]:
@@ -60,12 +59,12 @@ def is_plainly_coded(headers: Headers) -> bool:
     return not codings or len(codings) == 1 and codings[0].lower() == "chunked"
 
 
-def refusal_of(head: Request, further: Collection[str], pages_may: bool = False) -> Optional[Refusal]:
+def refusal_of(head: Request, further: Collection[str]) -> Optional[Refusal]:
     """Why a request is not taken; the first cause that holds, in the service's order."""
     wrong = wrong_host(head, further)
     if wrong is MALFORMED_HOST:
         return wrong
-    if not pages_may and is_from_page(head.headers):
+    if is_from_page(head.headers):
         return FROM_PAGE
     if wrong is not None:
         return wrong

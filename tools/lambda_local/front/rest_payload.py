@@ -49,25 +49,23 @@ def last_of_each(values: Mapping[str, List[str]]) -> Dict[str, str]:
     return {name: given[-1] for name, given in values.items()}
 
 
-def headers_of(request: Request, keeps_case: bool) -> Dict[str, List[str]]:
-    """Returns the values of each header, under the name that it has in the request, or that name in lower case."""
+def capitalized(name: str) -> str:
+    """A header's name as it is usually written. (As it was sent the service does not hand it over.)"""
+    return "-".join(word[:1].upper() + word[1:] for word in name.split("-"))
+
+
+def headers_of(request: Request, is_rest: bool) -> Dict[str, List[str]]:
+    """Returns the values of each header under its name, for a REST API in capitals, else in lower case."""
     found: Dict[str, List[str]] = {}
-    names: Dict[str, str] = {}
     for name, value in request.headers:
-        key = name.lower()
-        if key not in OF_CONNECTION and key != "expect":
-            found.setdefault(names.setdefault(key, name if keeps_case else key), []).append(value)
-
-    def put(name: str, value: str) -> None:
-        found.setdefault(names.setdefault(name.lower(), name if keeps_case else name.lower()), [value])
-
+        if name.lower() not in OF_CONNECTION and name.lower() != "expect":
+            found.setdefault(name.lower(), []).append(value)
     before = ", ".join(every(request.headers, "x-forwarded-for"))
-    found.pop(names.get("x-forwarded-for", ""), None)
-    put("X-Forwarded-For", f"{before}, {HERE}" if before else HERE)
-    put("X-Forwarded-Proto", "http")
+    found["x-forwarded-for"] = [f"{before}, {HERE}" if before else HERE]
+    found.setdefault("x-forwarded-proto", ["http"])
     port = re.search(r":([0-9]+)$", first(request.headers, "host") or "")
-    put("X-Forwarded-Port", port[1] if port else "80")
-    return found
+    found.setdefault("x-forwarded-port", [port[1] if port else "80"])
+    return {capitalized(name) if is_rest else name: values for name, values in found.items()}
 
 
 def context_of(request: Request, context: Members, resource: str, integration: Integration) -> Dict[str, object]:

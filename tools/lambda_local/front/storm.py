@@ -250,8 +250,8 @@ class Gate:
 class StormyClient(Client):
     """A client whose invocations go through a storm."""
 
-    def __init__(self, port: int, answered: Callable[[str, int], None], gate: Gate) -> None:
-        super().__init__(port, answered)
+    def __init__(self, port: int, gate: Gate) -> None:
+        super().__init__(port)
         self.gate = gate
 
     @contextlib.asynccontextmanager

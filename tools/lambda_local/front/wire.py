@@ -7,15 +7,12 @@ buffer of its own before the reader of HTTP does: measured with the same reader,
 microseconds of processor time through streams and 72 so, one with a body of 1 MiB 900 and 600."""
 import asyncio
 import select
-import socket
-import struct
 import time
-from typing import Callable, Optional
+from typing import Optional
 
 from ..http1 import NEED_DATA, Event, Reader
 
 MOST_UNREAD = 256 << 10  # bytes; with more, the peer is not read from until they are taken
-BY_RESET = struct.pack("ii", 1, 0)  # of SO_LINGER
 
 
 class Gone(Exception):
@@ -23,28 +20,23 @@ class Gone(Exception):
 
 
 class Wire(asyncio.Protocol):
-    """`on_lost` is called with the connection once it is gone in both directions."""
-
-    def __init__(self, reader: Reader,
-                 on_lost: Optional[Callable[["Wire"], None]] = None) -> None:
-        self.reader, self.on_lost = reader, on_lost
+    def __init__(self, reader: Reader) -> None:
+        self.reader = reader
         self.is_lost = self.is_paused = False
         self.transport: asyncio.Transport  # from connection_made on
-        self.is_made = False
         self.waiting: "Optional[asyncio.Future[None]]" = None
         self.draining: "Optional[asyncio.Future[None]]" = None
         self.full_since = time.monotonic()  # while it drains: since when its peer takes too little
-        self.touched, self.received = time.monotonic(), 0  # the last byte in one of the directions; bytes that came
+        self.touched = time.monotonic()  # the last byte in one of the directions
 
     # ---- what asyncio tells ------------------------------------------------------------------------------------------
 
     def connection_made(self, transport: asyncio.BaseTransport) -> None:
         assert isinstance(transport, asyncio.Transport)
-        self.transport, self.is_made = transport, True
+        self.transport = transport
 
     def data_received(self, data: bytes) -> None:
         self.touched = time.monotonic()
-        self.received += len(data)
         self.reader.receive(data)
         if len(self.reader.buffer) > MOST_UNREAD and not self.is_paused:
             self.is_paused = True
@@ -54,15 +46,13 @@ class Wire(asyncio.Protocol):
     def eof_received(self) -> bool:
         self.reader.receive(b"")
         self._wake()
-        return True  # (the other direction stays open: a caller may end its side and wait for the answer)
+        return True  # (what ended its side may still take what is sent)
 
     def connection_lost(self, fault: Optional[Exception]) -> None:
         self.is_lost = True
         self._wake()
         if self.draining and not self.draining.done():
             self.draining.set_result(None)
-        if self.on_lost:
-            self.on_lost(self)
 
     def pause_writing(self) -> None:
         self.draining, self.full_since = asyncio.get_running_loop().create_future(), time.monotonic()
@@ -121,18 +111,11 @@ class Wire(asyncio.Protocol):
             if self.is_lost:
                 raise Gone
 
-    def end(self) -> None:
-        """Says that nothing more will be sent."""
-        if not self.is_lost and self.transport.can_write_eof():
-            self.transport.write_eof()
-
     def close(self) -> None:
         self.transport.close()
 
-    def abort(self, by_reset: bool = False) -> None:
-        """Ends it at once. A peer that reads until the end sees by a reset that it is none."""
-        if by_reset and not self.is_lost:
-            self.transport.get_extra_info("socket").setsockopt(socket.SOL_SOCKET, socket.SO_LINGER, BY_RESET)
+    def abort(self) -> None:
+        """Ends it at once."""
         self.transport.abort()
 
     def is_silent(self) -> bool:

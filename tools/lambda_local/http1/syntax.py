@@ -88,11 +88,6 @@ def elements(value: str) -> List[str]:
     return [element.strip(" \t") for element in value.split(",")]
 
 
-def words_of(headers: Headers, name: str) -> List[str]:
-    """The elements of a header that is a list, in lower case."""
-    return [word.lower() for value in every(headers, name) for word in elements(value) if word]
-
-
 # ---- lines -----------------------------------------------------------------------------------------------------------
 
 

@@ -6,14 +6,13 @@ import socket
 import struct
 from typing import Callable, Dict, Optional, Set, Tuple, cast
 
-from ..front.newcomers import Newcomers
-from ..front.places import A_PROXY
 from ..front.tasks import begin_task
 from .conversation import Conversation, Ears
+from .newcomers import Newcomers
 from .quick import Quick
 
 MOST = 64  # connections at once; a runtime and ten extensions have eleven polls
-AT_ONCE = 16  # newcomers that are accepted before others have their turn
+A_PROXY = 8  # descriptors: two for each connection of a runtime and some extensions
 HELD_SECONDS = 20.0  # for the rest of a request that is answered here, as the service has it for a head
 STEPS = 4  # of the loop, in which what is cancelled ends
 BY_RESET = struct.pack("ii", 1, 0)  # of SO_LINGER
@@ -204,7 +203,7 @@ class Proxy:
                  when_stopped: Callable[[], None] = lambda: None, most: int = MOST, descriptors: int = A_PROXY):
         self.listener, self.port, self.ears, self.tell, self.most = listener, port, ears, tell, most
         self.when_stopped, self.descriptors = when_stopped, descriptors
-        self.newcomers = Newcomers(listener, self._welcome, self._tell_shortage, AT_ONCE)
+        self.newcomers = Newcomers(listener, self._welcome, self._tell_shortage)
         self.pairs: Dict[Pair, None] = {}  # in the order in which they came
         self.beginning: Set["asyncio.Task[None]"] = set()
         self.told: Set[str] = set()

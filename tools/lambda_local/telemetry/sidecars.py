@@ -7,7 +7,8 @@ next generation on if a caller wants the log of an invocation (`up.closer`), or 
 relay also tells what the service refuses."""
 from typing import Any, Callable, Container, Dict, Iterable, List, Mapping, NamedTuple, Set
 
-from ..front.front import Other, listener_at
+from ..front.front import Other
+from ..service import free_listener
 from ..streaming.pairing import Pairing
 from ..streaming.streams import Streams
 from .beside import Beside, Printed
@@ -94,7 +95,7 @@ class Sidecars:
         if self.relay is None:
             self.relay = Relay(self.tell, self.when_lost, self.hear)
         place = self.unmarked[number]
-        self.found[number] = BehindRelay(self.relay, number, listener_at(0, f"proxy of {place.name}", self.path),
+        self.found[number] = BehindRelay(self.relay, number, free_listener(f"proxy of {place.name}", self.path),
                                          place.port)
 
     def tell(self, number: int, kind: str, text: str) -> None:

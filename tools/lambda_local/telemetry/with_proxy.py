@@ -5,17 +5,17 @@ import uuid
 from typing import Any, Callable, Optional
 
 from ..front import origins
-from ..front.front import listener_at
-from ..front.places import A_PROXY, WITH_TELEMETRY
 from ..http1 import Request
+from ..service import free_listener
 from .beside import Beside, Line, Printed
 from .conversation import Answer
 from .desk import Desk
 from .ears import EnvironmentEars, OfStreams
-from .proxy import Proxy
+from .proxy import A_PROXY, Proxy
 from .refusals import Refusals
 from .story import About
 
+WITH_TELEMETRY = 32  # descriptors of a proxy with connections to receivers
 KINDS = {400: "InvalidHost", 403: "AccessDenied", 501: "NotImplemented"}  # the service's, at an environment's port
 REASONS = {400: "Bad Request", 403: "Forbidden", 501: "Not Implemented"}
 
@@ -88,6 +88,6 @@ def made(function: Any, name: str, port: int, path: str, printed: Printed, strea
     def ends() -> None:
         refusals.end()
         desk.ends()
-    proxy = Proxy(listener_at(0, f"proxy of {name}", path), port, ears, tell, ends,
+    proxy = Proxy(free_listener(f"proxy of {name}", path), port, ears, tell, ends,
                   descriptors=WITH_TELEMETRY if function.has_telemetry else A_PROXY)
     return WithTelemetry(desk, proxy, name, printed) if function.has_telemetry else WithProxy(proxy)

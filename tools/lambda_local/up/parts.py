@@ -77,12 +77,12 @@ class Parts:
             options.up, options.debug, options.salt, options.only, options.allow_unready, self.project.whole,
             options.patient)
         if options.storm:
-            configuration.pop("invokePort", None)  # (it is the port of the storm)
+            configuration.pop("invokePort", None)  # (the storm has it)
         for note in self.functions[0].notes_of_all:
             self.say(note)
         self.queues = queues_of(self.settings.functions)
         self.positions = self.positions_of_streams()
-        self.open_front()
+        self.make_front()
         self.start_service(configuration)
         self.follow_service()
         self.serve()
@@ -98,14 +98,14 @@ class Parts:
             raise Fault(2, f"{path}: {fault}")
         return prepare(path, self.settings.functions, keeps_credentials)
 
-    def open_front(self) -> None:
-        """Opens the ports of all that is in front of functions; what comes there waits."""
+    def make_front(self) -> None:
+        """Makes what answers the requests that the service hands over."""
         options, ready = self.options, self.options.patient * READY_SECONDS
         self.patience = options.ready or max([ready, *(function.init + ready / 2 for function in self.functions
                                                        if function.init)])
         drain = options.patient * DRAIN_SECONDS if options.drain is None else options.drain
         outbox = Outbox(options.keep_credentials) if self.sends_on else None
-        self.front = Front(self.settings, options.up, drain, self.log, outbox, self.loop)
+        self.front = Front(self.settings, drain, self.log, outbox, self.loop, is_stormy=options.storm is not None)
         self.tasks = Tasks(self.loop, self.supervisor.broken, self.is_short)
         self.streaming = {name for name, address in self.settings.urls.items() if address.streams}
         self.sidecars = Sidecars(self.functions, self.streaming, options.up, self.log, options.report, self.relay_lost,
@@ -119,7 +119,8 @@ class Parts:
         for number in (signal.SIGTERM, signal.SIGINT, signal.SIGHUP):
             signal.signal(number, self.signalled)
         self.service = Service(configuration, options.program, lambda line: log("service", line, kind="service"),
-                               options.up, patience.of_service(options.patient), self.hear_service)
+                               options.up, patience.of_service(options.patient), self.hear_service,
+                               self.front.wanted)
         self.is_served = True
 
     def follow_service(self) -> None:
@@ -149,7 +150,7 @@ class Parts:
         self.troubles = Troubles(self.functions, self.watch, self.log, self.stopping)
         self.front.serve(self.service, Tails(self.invocations, self.watch, self.closer),
                          self.sidecars.serve(self.service.configuration, self.printed), self.sidecars.streams,
-                         self.limits.answered, self.watch.clock, (storm, self.troubles) if storm else None)
+                         self.watch.clock, (storm, self.troubles) if storm else None)
         self.watch.takers.append(self.sidecars.pairing(self.front.call).take)
         self.refused = RefusedCalls(self.service.configuration, self.sidecars, self.sidecars.tell)
         self.watch.takers.append(self.refused.take)

@@ -1,6 +1,7 @@
 """What the service's log tells of requests that it refuses before they are calls (docs/formats.md), as lines of the
 environments whose processes sent them: the first of each kind, then how many came since. (A proxy, or the relay, tells
-all that is refused of its environment's; a caller sees the answer.)"""
+all that is refused of its environment's; a caller sees the answer.) Of those that come to the port of a Function URL or
+an API, the first of each kind."""
 import re
 from typing import Any, Callable, List, Mapping, Match
 
@@ -24,6 +25,7 @@ class Rejected:
         self.service, self.sidecars, self.environments, self.log = service, sidecars, environments, log
         ports: List[int] = [port for function in service.configuration["functions"] for port in function["ports"]]
         self.numbers = {port: number for number, port in enumerate(ports, 1)}
+        self.owners = {port: owner for owner, port in service.handled.items()}
         self.read = 0  # lines of the service's log
 
     def look(self) -> None:
@@ -36,7 +38,9 @@ class Rejected:
 
     def _take(self, status: int, told: str) -> None:
         if first := FIRST.fullmatch(told):
-            number = self.numbers.get(int(first["port"]))
+            number, owner = self.numbers.get(int(first["port"])), self.owners.get(int(first["port"]))
+            if owner is not None:
+                self.log("up", f"{owner}: {told_of(first)}: {status}, {first['advice']}", level="error", kind="http")
             if number is not None and not self.sidecars.is_heard(number):
                 here = self.environments[number]
                 self.log(here.name, f"-- {words_of(status, first)}", level="warning", kind="refused",
@@ -47,13 +51,19 @@ class Rejected:
                      f"{more['advice']}", level="warning", kind="refused")
 
 
+def told_of(first: Match[str]) -> str:
+    """A request, by its method and path."""
+    path = (first["target"] or "").partition("?")[0]
+    return f"{first['method']} {shortened(path)}" if first["method"] else "what came is refused"
+
+
 def words_of(status: int, first: Match[str]) -> str:
     """A request that was refused, and what to do, as a proxy says it if it has a sentence for it."""
     if first["method"] is None:
-        return f"what came is refused: {status}, {first['advice']}"
+        return f"{told_of(first)}: {status}, {first['advice']}"
     path = first["target"].partition("?")[0]
     kind = type_of((first["why"] or "").encode())
     is_known = bool(kind) or status in (NO_ROUTE, OTHER_METHOD)
     told = sentence(first["method"], IDENTIFIED.sub("ID", path), status, kind, None, "") if is_known else (
         first["advice"])
-    return f"{first['method']} {shortened(path)}: {status}, {told}"
+    return f"{told_of(first)}: {status}, {told}"

@@ -4,7 +4,7 @@ import errno
 import socket
 from typing import Callable
 
-AT_ONCE = 64  # newcomers that are accepted before others have their turn
+AT_ONCE = 16  # newcomers that are accepted before others have their turn
 WITHOUT_ROOM = (errno.EMFILE, errno.ENFILE, errno.ENOBUFS, errno.ENOMEM)
 PAUSE = 0.1  # seconds, after a newcomer for whom there is no descriptor
 
@@ -15,8 +15,8 @@ class Newcomers:
     """
 
     def __init__(self, listener: socket.socket, welcome: Callable[[socket.socket], None],
-                 when_short: Callable[[], None], at_once: int = AT_ONCE) -> None:
-        self.listener, self.welcome, self.when_short, self.at_once = listener, welcome, when_short, at_once
+                 when_short: Callable[[], None]) -> None:
+        self.listener, self.welcome, self.when_short = listener, welcome, when_short
 
     def begin(self) -> None:
         self.loop = asyncio.get_running_loop()
@@ -29,7 +29,7 @@ class Newcomers:
         self.listener.close()
 
     def accept(self) -> None:
-        for _ in range(self.at_once):
+        for _ in range(AT_ONCE):
             try:
                 peer, _ = self.listener.accept()
             except (BlockingIOError, InterruptedError, ConnectionAbortedError):
