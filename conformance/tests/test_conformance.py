@@ -7,6 +7,7 @@ in the shapes of clients: each day others. With CONFORMANCE_WHOLE=1 all are, whi
 CONFORMANCE_ONLY names mistakes that alone are tried, or `sound` or `shipped`."""
 import atexit
 import concurrent.futures
+import functools
 import os
 import re
 import shutil
@@ -20,7 +21,7 @@ from typing import Callable, Dict, Iterable, List, NamedTuple, Tuple
 
 from lambda_conformance import causes, extension, runtime
 from tests import ROOT
-from tests.library.cases import Case
+from tests.library.cases import Case, names_of
 from conformance.tests.forked_kit import Kits
 from conformance.tests.kit_programs import (PROGRAMS, SHAPES, clients, extensions, libraries, shapes, subscribers,
                                         wrong_extensions, wrong_runtimes)
@@ -267,6 +268,61 @@ def jobs():
         yield Job(mistake.__name__, wrong, (one, mistake, is_whole), "caught", (one, mistake))
 
 
+SOMEWHERE = os.path.join("nowhere", "report.xml")
+# Words that are refused, and what is said then.
+WRONG_WORDS: Tuple[Tuple[List[str], str], ...] = (
+    ([], "write one of runtime, extension, service"),
+    (["runtimes"], "write one of runtime, extension, service"),
+    (["runtime"], "write the command that is tested after --"),
+    (["runtime", "--"], "write the command that is tested after --"),
+    (["runtime", "--only", "nothing", "--", "true"], "--only nothing: there is no such scenario or check"),
+    (["runtime", "--init-seconds", "soon", "--", "true"], "--init-seconds"),
+    (["runtime", "--invocations", "1", "--", "true"], "1 is not a number from 10 to 1,000,000"),
+    (["runtime", "--sometimes", "--", "true"], "--sometimes"),
+    (["runtime", "--", "no_such_program"], "no_such_program is not a program"),
+    (["runtime", "--junit", SOMEWHERE, "--", "true"], "--junit nowhere"),
+    (["runtime", "--markdown", SOMEWHERE, "--", "true"], "--markdown nowhere"),
+    (["runtime", "--badge", SOMEWHERE, "--", "true"], "--badge nowhere"),
+    (["runtime", "--pictures", "/dev/null", "--", "true"], "--pictures /dev/null"),
+    (["runtime", "--", "sh", "-c", "echo it is broken; exit 3"],
+     "it ended with status 3 before it asked for anything, and wrote:\n  it is broken"),
+    (["extension", "--", "true"], "write --name NAME"),
+    (["extension", "--name", "x", "--events", "INVOKE,START", "--", "true"],
+     "INVOKE,START: write INVOKE, SHUTDOWN or both"),
+    (["extension", "--name", "x", "--", "true"], "it ended with status 0 before it asked for anything"))
+
+
+def usages():
+    """A run for each of these, and of two wrong environments: what tells of it, its start, what is said, the status."""
+    for words, told in WRONG_WORDS:
+        yield " ".join(words) or "no word", functools.partial(Run, *words), told, 2
+    yield ("no program", functools.partial(Run, "runtime", "--program", "nowhere", "--", "true"),
+           "nowhere is not a program", 4)
+    yield ("no free port", functools.partial(Run, "runtime", "--", "true", LAMBDA_LOCAL_PORTS="1-1"),
+           "LAMBDA_LOCAL_PORTS=1-1", 2)
+
+
+# The tests whose runs go on beside all others, as many as there is room for, with what gives these.
+POOL = concurrent.futures.ThreadPoolExecutor(AT_ONCE)
+BESIDE: Dict[str, Callable[[], list]] = {
+    "wrong_usage": lambda: [(name, POOL.submit(start), told, status) for name, start, told, status in usages()],
+    "programs": lambda: [job.begun_in(POOL) for job in jobs() if job.name in (CHOSEN or [job.name])]}
+
+
+@functools.lru_cache(None)
+def begun(test):
+    return BESIDE[test]()
+
+
+def load_tests(_loader, chosen, _pattern):
+    """Begins the runs of the chosen tests."""
+    names = [*names_of(chosen)]
+    for test in BESIDE:
+        if test in names:
+            begun(test)
+    return chosen
+
+
 def processes_of(mark):
     """The processes that have this word in their command line or their environment."""
     found = []
@@ -337,12 +393,9 @@ class Conformance(Case):
             self.check(f"{kind.name}: these have one that is a NOTE or a SHOULD", LENIENT[kind.name] - others, set())
 
     def test_programs(self):
-        """All of them at once, as many as there is room for."""
-        with concurrent.futures.ThreadPoolExecutor(AT_ONCE) as pool:
-            judges: Dict[str, Callable[..., None]] = {"passes": self.passes, "caught": self.caught}
-            running = [job.begun_in(pool) for job in jobs() if job.name in (CHOSEN or [job.name])]
-            for job, run in running:
-                judges[job.judge](run.result(), *job.by)
+        judges: Dict[str, Callable[..., None]] = {"passes": self.passes, "caught": self.caught}
+        for job, run in begun("programs"):
+            judges[job.judge](run.result(), *job.by)
 
     def test_a_failure_is_explained(self):
         with tempfile.TemporaryDirectory() as folder:
@@ -364,34 +417,10 @@ class Conformance(Case):
             self.check("and its details", "Invocation error" in (failure.text or ""))
 
     def test_wrong_usage(self):
-        somewhere = os.path.join("nowhere", "report.xml")
-        cases: Tuple[Tuple[List[str], str], ...] = (
-            ([], "write one of runtime, extension, service"),
-            (["runtimes"], "write one of runtime, extension, service"),
-            (["runtime"], "write the command that is tested after --"),
-            (["runtime", "--"], "write the command that is tested after --"),
-            (["runtime", "--only", "nothing", "--", "true"], "--only nothing: there is no such scenario or check"),
-            (["runtime", "--init-seconds", "soon", "--", "true"], "--init-seconds"),
-            (["runtime", "--invocations", "1", "--", "true"], "1 is not a number from 10 to 1,000,000"),
-            (["runtime", "--sometimes", "--", "true"], "--sometimes"),
-            (["runtime", "--", "no_such_program"], "no_such_program is not a program"),
-            (["runtime", "--junit", somewhere, "--", "true"], "--junit nowhere"),
-            (["runtime", "--markdown", somewhere, "--", "true"], "--markdown nowhere"),
-            (["runtime", "--badge", somewhere, "--", "true"], "--badge nowhere"),
-            (["runtime", "--pictures", "/dev/null", "--", "true"], "--pictures /dev/null"),
-            (["runtime", "--", "sh", "-c", "echo it is broken; exit 3"],
-             "it ended with status 3 before it asked for anything, and wrote:\n  it is broken"),
-            (["extension", "--", "true"], "write --name NAME"),
-            (["extension", "--name", "x", "--events", "INVOKE,START", "--", "true"],
-             "INVOKE,START: write INVOKE, SHUTDOWN or both"),
-            (["extension", "--name", "x", "--", "true"], "it ended with status 0 before it asked for anything"))
-        with concurrent.futures.ThreadPoolExecutor(AT_ONCE) as pool:
-            for (words, told), run in zip(cases, pool.map(lambda case: Run(*case[0]), cases)):
-                self.refused(" ".join(words) or "no word", run, told)
-        self.refused("no program", Run("runtime", "--program", "nowhere", "--", "true"), "nowhere is not a program", 4)
-        self.refused("no free port", Run("runtime", "--", "true", LAMBDA_LOCAL_PORTS="1-1"), "LAMBDA_LOCAL_PORTS=1-1")
+        for name, run, told, status in begun("wrong_usage"):
+            self.refused(name, run.result(), told, status)
 
-    def refused(self, name, run, told, status=2):
+    def refused(self, name, run, told, status):
         lines = 1 + told.count("\n")
         seen = (run.status, len(run.errors.splitlines()), told in run.errors)
         self.check(f"{name}: status {status} and {'one line' if lines == 1 else 'what it wrote'}", seen,

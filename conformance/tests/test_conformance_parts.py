@@ -4,6 +4,7 @@ import contextlib
 import http.server
 import itertools
 import math
+import os
 import signal
 import subprocess
 import sys
@@ -115,7 +116,7 @@ class OwnTime(Case):
         had = (worked * place / 10 for place in itertools.count())
         with contextlib.ExitStack() as patched:
             for where, name, value in (
-                    (watch.time, "monotonic", lambda: next(moments)), (watch, "members", lambda _: [1]),
+                    (watch.time, "monotonic", lambda: next(moments)), (watch, "members", lambda *_: [1]),
                     (watch.CLOCK, "slowness", lambda: 8.0), (watch, "worked", lambda _: next(had)),
                     (watch, "is_asleep", lambda _: asleep)):
                 patched.enter_context(mock.patch.object(where, name, value))
@@ -267,6 +268,43 @@ class NumbersThatComeAgain(Case):
             self.check(f"of a command that has ended {name}", other.poll(), wanted)
             other.kill()
             other.communicate()
+
+
+class Processes(Case):
+    """Looks at the processes of this machine, of which there are many."""
+
+    def test_members_of_a_session(self):
+        sessions = watch.Sessions()
+        with mock.patch.object(watch, "SEEN", 3600), subprocess.Popen(["sleep", "60"], start_new_session=True) as first:
+            begun = time.monotonic()
+            self.check("its process", sessions.members(first.pid, begun), [first.pid])
+            with mock.patch.object(sessions, "look", side_effect=AssertionError("it looks again")):
+                self.check("is known for a moment", sessions.members(first.pid, time.monotonic()), [first.pid])
+            with subprocess.Popen(["sleep", "60"], start_new_session=True) as other:
+                found = sessions.members(other.pid, time.monotonic())
+                self.check("one of a later session is found", found, [other.pid])
+                other.kill()
+            first.kill()
+        self.check("now there is none", sessions.members(first.pid), [])
+
+    def test_a_variable_is_read_once_for_each_program(self):
+        variables, read = watch.Variables(), watch.value_of
+        with subprocess.Popen(["sh", "-c", "read line; NAME=second exec sleep 60"], stdin=subprocess.PIPE,
+                              env={**os.environ, "NAME": "first"}) as child:
+            def has(value):
+                return variables.has(child.pid, watch.fields(f"/proc/{child.pid}/stat"), b"NAME=" + value)
+            while read(child.pid, b"NAME=") != b"NAME=first":  # (until it is what it is to become)
+                time.sleep(0.01)
+            self.check("it has the variable that it was started with", (has(b"first"), has(b"second")), (True, False))
+            with mock.patch.object(watch, "value_of", side_effect=AssertionError("it is read again")):
+                self.check("and is not asked again", (has(b"first"), has(b"other")), (True, False))
+            assert child.stdin
+            child.stdin.write(b"\n")
+            child.stdin.close()
+            while read(child.pid, b"NAME=") != b"NAME=second":
+                time.sleep(0.01)
+            self.check("as another program it has another one", (has(b"first"), has(b"second")), (False, True))
+            child.kill()
 
 
 class PlayedRuntime(Case):

@@ -13,7 +13,6 @@ import subprocess
 import sys
 import tempfile
 import time
-import unittest
 import xml.etree.ElementTree as xml
 from typing import List, Tuple
 
@@ -21,12 +20,13 @@ from lambda_conformance.service import BATCH, FRESH_SHARE, known, oracle, pairs,
 from lambda_conformance.service.random_sequences import Generator
 from lambda_local.service import Service, free_ports, program_path
 from tests import ROOT
-from tests.library.cases import Case
+from tests.library.cases import Case, names_of
 from conformance.tests.forked_kit import Kits
 from conformance.programs.emulator.faults import FAULTS, LIBERTIES, OF_PAIRS
 
 EMULATOR = os.path.join(ROOT, "conformance", "programs", "emulator")
-POOL = concurrent.futures.ThreadPoolExecutor(6 * len(os.sched_getaffinity(0)))  # of runs, which wait most of the time
+# Of runs, which wait most of the time: fewer at once than in test_conformance.py, which has more to do beside it.
+POOL = concurrent.futures.ThreadPoolExecutor(4 * len(os.sched_getaffinity(0)))
 CHOSEN = os.environ.get("CONFORMANCE_FAULTS", "").split()
 PARTS, IN_PART = 8, 125  # of the random sequences for lambda_local, each part with a service and a seed of its own
 IN_EMULATOR, SEED = 60, 1  # random sequences, and what they come from
@@ -119,7 +119,8 @@ SHOWS_AS = {
 SHOWS_IN_PAIRS = {
     "uses-one-environment": {"invoke waits answered", "next deliver connection"},
     "mixes-environments": {"response BadId status", "failure BadId status"},
-    "ends-both-environments": {"invoke waits answered", "next waits answered", "ext-next waits answered"},
+    "ends-both-environments": {"invoke waits answered", "next waits answered", "ext-next waits answered",
+                               "ext-exit-failure accepted status"},
     "shares-extensions": {"ext-next Unknown status", "ext-next Unknown connection"},
     "times-out-both-environments": {"next waits answered", "ext-next waits answered"},
 }
@@ -241,13 +242,9 @@ def begun(test):
     return {key: POOL.submit(run) for key, run in RUNS[test].items()}
 
 
-def each(tests):
-    return [one for test in tests for one in each(test)] if isinstance(tests, unittest.TestSuite) else [tests]
-
-
 def load_tests(_loader, chosen, _pattern):
     """Begins the runs of the chosen tests."""
-    names = [test.id().rpartition(".test_")[2] for test in each(chosen)]
+    names = [*names_of(chosen)]
     for test in RUNS:
         if test in names:
             begun(test)

@@ -177,7 +177,10 @@ class TakesWhatHasCome(Runtime):
     connected = Short
 
     def read(self, payload):
-        return super().read(payload if payload.count(b"{") == payload.count(b"}") else payload + b'"}')
+        try:
+            return super().read(payload)
+        except ValueError:
+            return super().read(payload + b'"}')
 
 
 class WaitsOnADeadConnection(Runtime):

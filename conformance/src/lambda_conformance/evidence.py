@@ -13,6 +13,7 @@ if TYPE_CHECKING:
 
 BEHIND = 3  # lines of what the connections show
 MALFORMED = (400, 404, 405, 411, 414, 431, 501, 505)  # statuses of requests that are wrong in whatever state
+WITHOUT = "telemetry"  # a kind of request that the service has no route for, and refuses however right it is
 TWO_POLLS = "there is a second Next while one waits"
 WRITTEN = 10  # lines of what the program wrote last
 
@@ -54,7 +55,8 @@ def shown_cause(exchanges: List[Exchange], polls_twice: bool) -> str:
     """What a FAIL comes from, whatever its check is about, in words; none if the connections do not show it."""
     if any(exchange.behind for exchange in exchanges):
         return "a body is longer than its length says"
-    malformed = next((one for one in exchanges if one.status in MALFORMED and not one.by_rule), None)
+    malformed = next((one for one in exchanges if one.status in MALFORMED and not one.by_rule and one.kind != WITHOUT),
+                     None)
     if malformed:
         return f"{malformed.kind} is answered {malformed.status}"
     return TWO_POLLS if polls_twice else ""

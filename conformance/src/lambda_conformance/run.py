@@ -154,10 +154,16 @@ def judge_others(scenarios: List[Scenario], open_stage: OpenStage, report: Repor
         else:
             report.add_all(verdicts, only)
     confirmed = 0
+    later: List[List[Verdict]] = []  # of what by itself fails in what another scenario is about
     for scenario, verdicts in sorted(failed, key=lambda one: fails_later(one[1])):  # (the cause comes first)
         if confirmed < ENOUGH and report.tells(verdicts):
-            verdicts = run_alone(scenario, open_stage, verdicts)
+            verdicts, before = run_alone(scenario, open_stage, verdicts), verdicts
             confirmed += kit.has_failed(verdicts)
+            if kit.has_failed(verdicts) and fails_later(verdicts) and not fails_later(before):
+                later.append(verdicts)
+                continue
+        report.add_all(verdicts, only)
+    for verdicts in later:
         report.add_all(verdicts, only)
 
 

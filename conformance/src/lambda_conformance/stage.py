@@ -111,6 +111,7 @@ class Stage:
         self.collects_early = collects_early
         # (the service's clock is the real one: on a busy machine a function has more of it)
         self.is_long, self.is_first = timeout > SILENT, first  # (no handler takes as long)
+        self.is_brief = timeout < GONE_ON  # (its timeout says it sooner, on a busy machine too)
         self.timeout = timeout = math.ceil(timeout * CLOCK.slowness())
         self.patience = 2 * tools.options.init_seconds + PATIENCE
         self.name = (scenario.name + LONG_NAME)[:LONGEST_NAME] if has_long_name else scenario.name
@@ -246,7 +247,7 @@ class Stage:
                 concurrent.futures.wait([waiting], 0.5)
                 break
             gone_on = (gone_on or OwnTime(self.environment.process.number)) if self.has_gone_on(begun) else None
-            if gone_on and gone_on.look() > GONE_ON:
+            if gone_on and gone_on.look() > GONE_ON and not self.is_brief:
                 raise Missing(self.lacks(UNANSWERED))
             if own and self.waits():
                 own = OwnTime(self.environment.process.number)

@@ -1,12 +1,15 @@
 """What the system says in /proc of the processes of a session: whether they work, and what they hold."""
+import math
 import os
+import threading
 import time
-from typing import FrozenSet, Iterable, List, NamedTuple, Optional
+from typing import Dict, FrozenSet, Iterable, List, NamedTuple, Optional, Tuple
 
 from .clock import CLOCK
 
 CALM = 1.3  # times as long as usual a little work may take before it matters whether the machine or the program is slow
-LISTED = 2.0  # seconds for which a list of processes is used again
+LISTED, SEEN = 1.5, 0.5  # seconds for which a list of processes is used again, and one that others have made
+MOST_READ = 20_000  # processes whose environment is remembered
 BRIEF = 0.2  # seconds in which it does not matter yet
 PAGE = os.sysconf("SC_PAGE_SIZE")
 TICKS = os.sysconf("SC_CLK_TCK")  # in a second
@@ -47,14 +50,31 @@ class Older:
 OLDER = Older()
 
 
-def members(session: int) -> List[int]:
-    """The numbers of the session's processes that run."""
-    return [number for number in OLDER.others() if is_of(session, fields(f"/proc/{number}/stat"))]
+class Sessions:
+    """The processes that run, by their sessions. To look at all takes a while, and several scenarios ask at once."""
+
+    def __init__(self) -> None:
+        self._lock = threading.Lock()
+        self._seen = -math.inf  # when, by `time.monotonic`
+        self._members: Dict[int, List[int]] = {}
+
+    def look(self) -> None:
+        self._seen, self._members = time.monotonic(), {}
+        for number in OLDER.others():
+            words = fields(f"/proc/{number}/stat")
+            if words and words[0] != "Z":
+                self._members.setdefault(int(words[3]), []).append(number)
+
+    def members(self, session: int, since: Optional[float] = None) -> List[int]:
+        """The numbers of those of a session: now, or, of one that has begun since then, as they were a moment ago."""
+        with self._lock:
+            is_old = time.monotonic() - self._seen > SEEN
+            if since is None or is_old or self._seen < since and session not in self._members:
+                self.look()
+            return list(self._members.get(session, ()))
 
 
-def is_of(session: int, words: List[str]) -> bool:
-    """Whether a process with these words runs, and is of the session."""
-    return bool(words) and int(words[3]) == session and words[0] != "Z"
+members = Sessions().members
 
 
 class Found(NamedTuple):
@@ -71,18 +91,40 @@ def processes_of(session: int, mark: bytes) -> Found:
         words = fields(f"/proc/{number}/stat")
         if words and int(words[3]) == session:
             (found.zombies if words[0] == "Z" else found.running).append(number)
-        elif words and int(words[19]) >= begun and has_mark(number, mark):
+        elif words and int(words[19]) >= begun and VARIABLES.has(number, words, mark):
             found.running.append(number)
     return found
 
 
-def has_mark(process: int, mark: bytes) -> bool:
-    """Whether these words are a variable in its environment."""
+class Variables:
+    """What processes have as one variable of their environment, each of which is read once: it is another one after an
+    `exec`, and then stands elsewhere."""
+
+    def __init__(self) -> None:
+        self._read: Dict[Tuple[int, bytes], Tuple[List[str], bytes]] = {}
+
+    def has(self, process: int, words: List[str], mark: bytes) -> bool:
+        """Whether it has this one, by the words of its `stat` file: when it began, and where its environment stands
+        (nothing but 0 for one that is not ours to see)."""
+        name, place = mark.partition(b"=")[0] + b"=", [words[19], *words[47:49]]
+        known = self._read.get((process, name))
+        if known is None or known[0] != place or "0" in place:
+            if len(self._read) > MOST_READ:
+                self._read.clear()
+            known = self._read[process, name] = place, value_of(process, name)
+        return known[1] == mark
+
+
+VARIABLES = Variables()
+
+
+def value_of(process: int, name: bytes) -> bytes:
+    """The variable of its environment that begins so; nothing if it has none."""
     try:
-        with open(f"/proc/{process}/environ", "rb") as file:
-            return mark in file.read().split(b"\0")
+        with open(f"/proc/{process}/environ", "rb", buffering=0) as file:
+            return next((one for one in file.read().split(b"\0") if one.startswith(name)), b"")
     except OSError:
-        return False
+        return b""
 
 
 def begun_at(process: int) -> Optional[int]:
@@ -177,5 +219,5 @@ class OwnTime:
         """Lists the processes anew now and then. Returns whether they are those of the last look."""
         if now - self._listed <= LISTED:
             return True
-        before, self._members, self._listed = self._members, members(self._session), now
+        before, self._members, self._listed = self._members, members(self._session, self._begun), now
         return before == self._members

@@ -72,9 +72,11 @@ def failing_later(stage: ExtensionStage) -> None:
     stage.idle()
     if stage.registered_for("INVOKE"):
         stage.later(stage.invoke, b"1")
-    else:
+    elif stage.registered_for("SHUTDOWN"):
         stage.spin_down()
-    reports(stage, "exit_error", "extension_exit_error")
+    else:
+        return stage.note("exit_error", "it registers for no event, at which it could fail")
+    return reports(stage, "exit_error", "extension_exit_error")
 
 
 def ends(stage: ExtensionStage, name: str, since: str) -> None:

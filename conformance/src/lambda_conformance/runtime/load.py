@@ -64,12 +64,13 @@ def thousands(stage: Stage) -> None:
         looks = asked("x" * PAYLOAD, leaks.Course(INVOCATIONS, SECONDS_WITH, MOST, PATIENCE, leaks.SUSPECT), files)
         left = max(SECONDS - SECONDS_WITH, begun + SECONDS - CLOCK.now())
         after = asked("", leaks.Course(LITTLE, left, MOST_LITTLE, PATIENCE_LITTLE, leaks.SUSPECT_OF_LITTLE))
+        stage.idle_or_ended()  # (what it sends once its caller has the last answer counts too)
     except Missing as missing:
         stage.check("many_invocations", False, missing.finding)
         return stage.jury.rest(NOTE, NOT_SO_MANY)
     refused, done = [one for one in requests[before:] if one.refused and one.kind != "next"], looks.done + after.done
     # (what it does in each of them, or at each error, other checks are about)
-    stage.check("many_invocations", not 0 < len(refused) < done // EVERY,
+    stage.check("many_invocations", not 0 < len(refused) < looks.done // EVERY + after.done // EVERY,
                 deed(f"of the requests in {done} invocations {len(refused)} are refused: {refused and refused[0]}"),
                 f"{done} invocations")
     leaks.judge(stage, looks, CHECKS, given or INVOCATIONS, after)

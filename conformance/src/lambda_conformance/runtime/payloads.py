@@ -16,7 +16,7 @@ scenario = scenarios_of(SCENARIOS)
 LIMIT = 6_291_456  # bytes of a synchronous payload, in each direction
 TEXT = "Grüße, 世界, \u0627\u0644\u0639\u0627\u0644\u0645, 🚀, e\u0301"
 ESCAPES = r'"\"\\\/\b\f\n\r\t\u0000\u00e9\u4e16\ud83d\ude80\u2028"'
-SPACED = (b' {"a": 1}\n', b'{\r\n\t"a": [\n1,\n2\n],\n\n"b" : null\n}\n', b'\n[ 1\n, "two" ]', b" 17 ")
+SPACED = (b' {"a": 1}\n', b'{\r\n\t"a": [\n1,\n2\n],\n\n"b" : true\n}\n', b'\n[ 1\n, "two" ]', b" 17 ")
 NUMBERS = ["0", "-1", "1.50", "1e3", "0.1", "9007199254740993", "12345678901234567890", "-1.7976931348623157e308",
            "5e-324"]
 PRECISION = decimal.Decimal("1e-13")  # to which some languages write numbers by default (RFC 8259 lets them)
