@@ -3,11 +3,20 @@ of them prints ends with the line 'N passed, M failed'."""
 import atexit
 import textwrap
 import unittest
-from typing import Any, List, Optional, Tuple
+from typing import Any, Iterator, List, Optional, Tuple
 
 from tests.library import counted
 
 MOST_COMPARED = 2000  # characters of what is compared line by line
+
+
+def names_of(tests: unittest.TestSuite) -> Iterator[str]:
+    """The names of the tests of a suite, without `test_`."""
+    for test in tests:
+        if isinstance(test, unittest.TestSuite):
+            yield from names_of(test)
+        else:
+            yield test.id().rpartition(".test_")[2]
 
 
 class Case(unittest.TestCase):

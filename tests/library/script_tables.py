@@ -1,8 +1,18 @@
-"""The cases of a table of scripts, in the form that docs/checks.md describes under "Adding a case", and what a program
-makes of one."""
+"""The folders of the tables, and the cases of a table of scripts, in the form that docs/checks.md describes under
+"Adding a case", and what a program makes of one."""
+import glob
+import os
 import re
 import subprocess
-from typing import List, NamedTuple, Tuple
+from typing import Dict, List, NamedTuple, Tuple
+
+DATA = os.path.join("tables", "checks", "data")
+# The folders of the tables that the program of tables/checks runs by a word.
+GROUPS: Dict[str, Tuple[str, ...]] = {
+    "examples": ("parts", "wire", "handed", "routes", "scripts"), "accounts": ("accounts", "ledgers", "exchanges"),
+    "sockets": ("sockets",)}
+# Those of scripts, which lambda_local itself reads.
+SCRIPTS = ("replays", "traces")
 
 
 class Case(NamedTuple):
@@ -11,6 +21,17 @@ class Case(NamedTuple):
     name: str
     script: bytes
     gives: str
+
+
+def unknown_folders(root: str) -> List[str]:
+    """The folders of tables that are in no group, and those of a group that are not there."""
+    known = {*SCRIPTS, *(folder for folders in GROUPS.values() for folder in folders)}
+    return sorted(known.symmetric_difference(os.listdir(os.path.join(root, DATA))))
+
+
+def tables_in(root: str, *folders: str) -> List[str]:
+    """The paths of the tables in these folders, folder by folder."""
+    return [path for folder in folders for path in sorted(glob.glob(os.path.join(root, DATA, folder, "*.txt")))]
 
 
 def plain(line):

@@ -46,10 +46,14 @@ def first_call(words, **more):
 
 
 def program():
-    """The program that the copies release: LAMBDA_LOCAL_PROGRAM, else what ./lambda_local finds."""
+    """The program that the copies release: LAMBDA_LOCAL_PROGRAM, else what ./lambda_local finds. A LookupError has what
+    that says if there is none."""
     if given := os.environ.get("LAMBDA_LOCAL_PROGRAM"):
         return given
-    found = subprocess.run([os.path.join(ROOT, "lambda_local"), "path"], stdout=subprocess.PIPE, text=True, check=True)
+    found = subprocess.run([os.path.join(ROOT, "lambda_local"), "path"], stdout=subprocess.PIPE,
+                           stderr=subprocess.PIPE, text=True)
+    if found.returncode:
+        raise LookupError(found.stderr.strip() or f"./lambda_local path ends with status {found.returncode}")
     return found.stdout.strip()
 
 

@@ -1,5 +1,6 @@
 """How a must-fail edit is tried: the prover checks a copy of the crate with the edit, and must refuse it by a promise.
 An edit's twin, which changes nothing, must still be proved."""
+import atexit
 import contextlib
 import os
 import re
@@ -8,7 +9,7 @@ import signal
 import subprocess
 import tempfile
 import threading
-from typing import Dict, List, NamedTuple, Optional, Sequence
+from typing import Dict, Iterator, List, NamedTuple, Optional, Sequence
 
 from prover import check_words
 from tests.library import edits
@@ -23,6 +24,7 @@ TOLD = re.compile(r"note: \S+:\d+:\d+:|\S+:\d+:\d+: error")
 NAMES = re.compile(r"(note: )?(\./)?proofs/.*(has no field|is not in scope|has no `|was not admitted)")
 # What the prover says of a name that several functions have.
 SEVERAL = re.compile(r"several functions are named `([^`]*)`: help: write one of (.*)")
+NO_VERDICT, BY_NAMES = "no verdict", "refused by names alone"  # how faults begin
 SECONDS, CPU_SECONDS = 1500, 720  # the most for one check; on a slow host one takes three times what it does on another
 
 
@@ -38,6 +40,32 @@ class Trial(NamedTuple):
     fault: str
     seconds: float
     is_decided: bool = True
+
+
+class Works:
+    """Folders with what checks of a crate have proved, which the next one of that crate takes as far as it is up to
+    date: so it checks what its edit changes, and not all that this calls once more. Each serves one check at a time."""
+
+    def __init__(self) -> None:
+        self.lock, self.top = threading.Lock(), ""
+        self.free: Dict[str, List[str]] = {}
+
+    @contextlib.contextmanager
+    def of(self, crate: str) -> Iterator[str]:
+        with self.lock:
+            if not self.top:
+                self.top = tempfile.mkdtemp(prefix="must_fail.")
+                atexit.register(shutil.rmtree, self.top, ignore_errors=True)
+            free = self.free.setdefault(crate, [])
+            work = free.pop() if free else tempfile.mkdtemp(prefix=f"{crate}.", dir=self.top)
+        try:
+            yield work
+        finally:
+            with self.lock:
+                free.append(work)
+
+
+WORKS = Works()
 
 
 def lay_out(crate: str, texts: Dict[str, str], room: str) -> None:
@@ -71,17 +99,20 @@ def end(child: int) -> None:
         os.killpg(child, signal.SIGKILL)
 
 
-def check(root: str, crate: str, functions: Sequence[str], texts: Dict[str, str], built: str, seconds: float) -> Check:
-    """Checks functions of an edited crate, or all of it, over the libraries that `rt ci` has proved in `built`."""
-    with tempfile.TemporaryDirectory() as room:
+def check(root: str, crate: str, functions: Sequence[str], texts: Dict[str, str], built: str, seconds: float,
+          anew: bool = False) -> Check:
+    """Checks functions of an edited crate, or all of it, over the libraries that `rt ci` has proved in `built`, and,
+    unless it is to be done anew, over what earlier checks have proved."""
+    with tempfile.TemporaryDirectory() as room, WORKS.of(crate) as work:
         lay_out(f"{root}/crates/{crate}", texts, room)
-        made = run(check_words(root, built, crate, functions), room, seconds)
+        kept = [] if anew else ["--incremental", work]
+        made = run([*check_words(root, built, crate, functions), *kept], room, seconds)
     several = SEVERAL.search("\n".join(made.lines))
     if several:  # of these, the ones of the files that the edit changes
         modules = {f"{crate}::{os.path.splitext(it)[0].removeprefix('src/').replace('/', '::')}::" for it in texts}
         named = [it for it in re.findall("`([^`]*)`", several[2]) if any(map(it.startswith, modules))]
         if named and [*functions] != named:
-            return check(root, crate, [*({*functions} - {several[1]}), *named], texts, built, seconds)
+            return check(root, crate, [*({*functions} - {several[1]}), *named], texts, built, seconds, anew)
     return made
 
 
@@ -93,16 +124,24 @@ def functions_of(root: str, name: str) -> List[str]:
 
 
 def trial(root: str, name: str, built: str, seconds: float = SECONDS) -> Trial:
-    """Tries an edit, or a twin."""
+    """Tries an edit, or a twin; once more, anew, if over what earlier checks have proved it is not as it should be."""
+    made = trial_once(root, name, built, seconds, False)
+    if not made.fault or not made.seconds or made.fault.startswith((NO_VERDICT, BY_NAMES)):
+        return made
+    again = trial_once(root, name, built, seconds, True)
+    return again._replace(seconds=made.seconds + again.seconds)
+
+
+def trial_once(root: str, name: str, built: str, seconds: float, anew: bool) -> Trial:
     crate, is_twin = name.split("/")[0], name.endswith(edits.TWIN)
     try:
         texts = edits.edited(edits.path_of(root, name), f"{root}/crates/{crate}", "same" if is_twin else "new")
     except ValueError as why:
         return Trial(f"it does not fit: {why}", 0)
-    made = check(root, crate, functions_of(root, name), texts, built, seconds)
+    made = check(root, crate, functions_of(root, name), texts, built, seconds, anew)
     if made.status is None:
         is_costly = made.seconds > CPU_SECONDS - 2
-        return Trial(f"no verdict within {CPU_SECONDS} CPU seconds" if is_costly else f"no verdict within {seconds} s",
+        return Trial(f"{NO_VERDICT} within {f'{CPU_SECONDS} CPU seconds' if is_costly else f'{seconds} s'}",
                      made.seconds, is_costly)
     fault = fault_of_twin(made.status, made.lines) if is_twin else fault_of_edit(made.status, made.lines)
     return Trial(fault, made.seconds)
@@ -120,8 +159,8 @@ def fault_of_edit(status: int, lines: List[str]) -> str:
         return "\n     ".join(["no function is refused:", *unproved, *lines[-3:]])
     told = [it for it in lines if TOLD.match(it)]
     if told and all(map(NAMES.match, told)):
-        return ("refused by names alone: a hand-written proof names what the edit takes away, which says nothing of "
-                f"the promise; change a value and keep the names: {told[0][:160]}")
+        return (f"{BY_NAMES}: a hand-written proof names what the edit takes away, which says nothing of the promise; "
+                f"change a value and keep the names: {told[0][:160]}")
     return ""
 
 

@@ -61,10 +61,12 @@ class Batches(Case):
         """The fault of each trial; for each check in turn the prover's answer."""
         given = iter(answers)
         self.checked: List[Tuple[List[str], List[str]]] = []
+        self.checked_anew: List[bool] = []
 
-        def check(root: str, crate: str, functions: Sequence[str], texts: Dict[str, str], *bounds: object
-                  ) -> trials.Check:
+        def check(root: str, crate: str, functions: Sequence[str], texts: Dict[str, str], built: str, seconds: float,
+                  anew: bool = False) -> trials.Check:
             self.checked.append(([*functions], sorted(texts)))
+            self.checked_anew.append(anew)
             lines = next(given)
             return trials.Check(0 if "=" not in lines[-1] else 1, lines, 10)
         with mock.patch.object(trials, "check", check):
@@ -79,10 +81,14 @@ class Batches(Case):
         self.check("whose time they share", self.seconds, 10.0)
 
     def test_what_is_not_refused_is_tried_alone(self) -> None:
-        seen = self.tried(["x/in_a", "x/in_b"], ONE_REFUSED, ["fn x::b::h: proved", "all proved"])
+        proved = ["fn x::b::h: proved", "all proved"]
+        seen = self.tried(["x/in_a", "x/in_b"], ONE_REFUSED, proved, proved)
         self.check("its fault is that of its own check", seen, {"x/in_a": "", "x/in_b": "still proved"})
-        self.check("functions", [it[0] for it in self.checked], [["A::g", "h"], ["h"]])
-        self.check("no time is lost", self.seconds, 20.0)
+        self.check("which is made once more, anew", self.checked_anew, [False, False, True])
+        self.check("functions", [it[0] for it in self.checked], [["A::g", "h"], ["h"], ["h"]])
+        self.check("no time is lost", self.seconds, 30.0)
+        seen = self.tried(["x/in_a", "x/in_b"], ONE_REFUSED, proved, ["fn x::b::h: not proved", "only=1 proved=0"])
+        self.check("and may find what the first did not", [it for it in seen if seen[it]], [])
         seen = self.tried(["x/in_a", "x/in_b"], BY_NAMES, [*BY_NAMES[1:3], "only=1 proved=0"])
         self.check("refused by names alone", [it for it in seen if "names alone" in seen[it]], ["x/in_b"])
 
@@ -108,7 +114,8 @@ class Batches(Case):
     def test_twins_are_proved_together(self) -> None:
         both = ["x/in_a same", "x/in_b same"]
         self.check("both", self.tried(both, ["all proved"]), {it: "" for it in both})
-        seen = self.tried(both, ONE_REFUSED, [ONE_REFUSED[0], "only=1 proved=0"], ["all proved"])
+        alone = [ONE_REFUSED[0], "only=1 proved=0"]
+        seen = self.tried(both, ONE_REFUSED, alone, alone, ["all proved"])
         self.check("one that is not", [it for it in seen if seen[it]], ["x/in_a same"])
 
     def test_the_texts_of_functions(self) -> None:

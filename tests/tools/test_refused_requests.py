@@ -190,6 +190,7 @@ class RefusedRequests(Case):
 
         class Started:
             configuration = {"functions": [{"ports": [9001, 9002]}, {"ports": [9003]}]}
+            handled = {"url of function f": 9100}
             lines = ["[INFO  lambda_local] listening"]
         told: List[Any] = []
         started: Any = Started
@@ -207,6 +208,9 @@ class RefusedRequests(Case):
                  '"errorType":"MissingHeader"}: x', ("f/1", "-- POST /2020-01-01/extension/register: 400, it needs the "
                                                      "header Lambda-Extension-Name")),
                 ("501 POST /a at port 9001: the coding; send it", ("f/1", "-- POST /a: 501, the coding; send it")),
+                ("403 GET /a?b at port 9100: the host is foreign",
+                 ("up", "url of function f: GET /a: 403, the host is foreign")),
+                ("400 port 9100: these bytes", ("up", "url of function f: what came is refused: 400, these bytes")),
                 ("400 port 9001: these bytes", ("f/1", "-- what came is refused: 400, these bytes")),
                 ("413 at an environment's port: 5000 more since; the body is too long",
                  ("service", "-- requests at environments' ports: 413, 5,000 more; the body is too long"))):

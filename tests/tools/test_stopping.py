@@ -1,7 +1,7 @@
-"""Checks that a service ends at once when it is stopped, and sleeps while it is idle; and how
-tools/lambda_local/service.py waits for the end of what it has started: at once, and no longer than it is told, with
-descriptors of processes and without. The program is LAMBDA_LOCAL_PROGRAM, else ./lambda_local. Ends with
-'N passed, M failed'."""
+"""Checks that a service ends at once when it is stopped, and sleeps while it is idle; how tools/lambda_local/service.py
+waits for the end of what it has started: at once, and no longer than it is told, with descriptors of processes and
+without; and that the guard ends what is held, and no process of others. The program is LAMBDA_LOCAL_PROGRAM, else
+./lambda_local. Ends with 'N passed, M failed'."""
 import glob
 import os
 import socket
@@ -11,8 +11,10 @@ import sys
 import tempfile
 import threading
 import time
-from typing import Set, Union
+from typing import List, Set, Tuple, Union
+from unittest import mock
 
+from lambda_local import guard, guard_process
 from lambda_local.service import RUNTIME, Fault, Service, ask, wait_for
 from lambda_local.up.signal_event import SignalEvent
 from tests.library.cases import Case
@@ -91,6 +93,46 @@ class Stopping(Case):
                     seen.add("goes on")
                 other.join()
         self.check("a process that another thread waits for too", seen, {0})
+
+    def test_the_guard_ends_no_process_that_has_got_a_number_later(self):
+        """(As if the one that was held had begun at another moment.)"""
+        for kind in ("group", "process"):
+            for begun, status in (("", None), ("1", None), (None, -9)):
+                with subprocess.Popen(["sleep", "60"], start_new_session=True) as child:
+                    it = guard_process.Guard(socket.socket())
+                    it.held.append((kind, str(child.pid)))
+                    it.begun[str(child.pid)] = guard_process.begun_at(child.pid) if begun is None else begun
+                    with mock.patch.object(guard_process, "end_all_below", lambda: None):
+                        it.end()
+                    try:
+                        seen = child.wait(0.3 if status is None else 20)
+                    except subprocess.TimeoutExpired:
+                        seen = None
+                    child.kill()
+                self.check(f"a {kind} that began {'as it was held' if begun is None else 'later'}", seen, status)
+
+    def test_a_folder_is_held_before_it_exists(self):
+        said: List[Tuple[str, object]] = []
+        with tempfile.TemporaryDirectory() as room, mock.patch.object(tempfile, "tempdir", room):
+            it = guard.Guard()
+            held = mock.patch.object(it, "hold", lambda path: said.append((path, os.path.exists(path))))
+            released = mock.patch.object(it, "release", lambda path: said.append((path, "released")))
+            with held, released:
+                self.look_at_new_folders(it, room, said)
+
+    def look_at_new_folders(self, it: guard.Guard, room: str, said: List[Tuple[str, object]]) -> None:
+        path = it.new_folder()
+        self.check("it is there, and was held before", (os.listdir(room), said), ([os.path.basename(path)],
+                                                                                 [(path, False)]))
+        said.clear()
+        with mock.patch.object(tempfile, "tempdir", os.path.join(room, "nowhere")):
+            self.assertRaises(FileNotFoundError, it.new_folder)
+        self.check("one that cannot be made is not held any more", [it for _, it in said], [False, "released"])
+        said.clear()
+        names = iter([bytes.fromhex(path[-16:]), bytes(8)])
+        with mock.patch.object(os, "urandom", lambda _: next(names)):
+            other = it.new_folder()
+        self.check("nor one of others", said, [(path, True), (path, "released"), (other, False)])
 
     def test_a_service_stops_in_order_with_its_counts(self):
         service = Service(CONFIGURATION)

@@ -1,6 +1,8 @@
 """Checks how lambda_local up begins and ends: its command and Ctrl-C, credentials, identifiers, ports, a full history,
 and that nothing outlives it. The program is LAMBDA_LOCAL_PROGRAM, else ./lambda_local. Ends with 'N passed, M
 failed'."""
+import errno
+import importlib.metadata
 import json
 import os
 import pty
@@ -13,7 +15,9 @@ import tempfile
 import time
 import urllib.error
 from typing import List, Tuple
+from unittest import mock
 
+from lambda_local.up import surroundings
 from tests.library.cases import Case
 from tests.library.up_kit import LAUNCHER, RUNTIME, TOOLS, Up, children, lives, until
 
@@ -194,6 +198,16 @@ class UpCommand(Case):
                 self.check(f"aws {versions[0]} and boto3 {versions[1]}",
                            sorted(re.findall(r"\b(?:aws|boto3) [0-9.]+ ignores", "\n".join(up.lines))), wanted)
                 up.end()
+
+    def test_a_client_whose_version_cannot_be_read_is_none(self):
+        """(It is looked for in a thread, whose end by an exception would end all.)"""
+        for name, fault in (("without descriptors", OSError(errno.EMFILE, "Too many open files")),
+                            ("not installed", importlib.metadata.PackageNotFoundError("boto3")),
+                            ("without a version", KeyError("Version"))):
+            with mock.patch.object(importlib.metadata, "version", side_effect=fault):
+                self.check(name, surroundings.own_boto3(), None)
+        with mock.patch.object(importlib.metadata, "version", return_value=None):
+            self.check("without a version, as older Pythons tell it", surroundings.own_boto3(), None)
 
     def test_two_runs_have_other_identifiers_unless_a_salt_is_given(self):
         seen = []

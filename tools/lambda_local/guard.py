@@ -15,6 +15,7 @@ import queue
 import socket
 import subprocess
 import sys
+import tempfile
 import threading
 from collections import deque
 from typing import Callable, Deque, Dict, List, Mapping, Optional, Tuple, Union
@@ -193,6 +194,20 @@ class Guard:
 
     def release(self, target: Target) -> None:
         self._say("-", target)
+
+    def new_folder(self) -> str:
+        """Makes a folder for temporary files, which is held before it exists: this process may be killed in between."""
+        while True:
+            path = os.path.join(os.path.abspath(tempfile.gettempdir()), f"lambda_local.{os.urandom(8).hex()}")
+            self.hold(path)
+            try:
+                os.mkdir(path, 0o700)
+                return path
+            except FileExistsError:  # (another program's)
+                self.release(path)
+            except OSError:
+                self.release(path)
+                raise
 
     def announcing(self, words: List[str]) -> Tuple[List[str], int]:
         """Returns these words after those of a shell that holds its own group before it becomes them, and the pipe that

@@ -89,6 +89,15 @@ def send_group(pid: int, number: int) -> None:
         os.killpg(pid, number)
 
 
+def begun_at(pid: int) -> str:
+    """When a process began, in the system's clock ticks; nothing if there is none of this number."""
+    try:
+        with open(f"/proc/{pid}/stat", "rb") as file:
+            return file.read().rpartition(b")")[2].split()[19].decode()
+    except (OSError, IndexError):
+        return ""
+
+
 def kill_tree(pid: int) -> None:
     """Kills a process, its group, and all below it: each is stopped first, so that it starts nothing more."""
     found: List[int] = []
@@ -241,6 +250,7 @@ class Guard:
     def __init__(self, channel: socket.socket):
         self.channel = channel
         self.held: List[Tuple[str, str]] = []
+        self.begun: Dict[str, str] = {}  # when the processes that are held began, by their numbers
         self.started: Dict[int, "Union[subprocess.Popen[bytes], ForkedChild]"] = {}
         self.forkers = Forkers()
         self.marks: Dict[int, str] = {}  # the variables of those, NAME=VALUE
@@ -276,6 +286,8 @@ class Guard:
             sign, kind, target = os.fsdecode(line).split(" ", 2)
             if sign == "+":
                 self.held.append((kind, target))
+                if kind in ("group", "process"):
+                    self.begun[target] = begun_at(int(target))
             elif (kind, target) in self.held:
                 self.held.remove((kind, target))
         return bool(data)
@@ -283,7 +295,8 @@ class Guard:
     def end(self) -> None:
         """Ends all that is held, and all below this process."""
         for kind, target in self.held:
-            if kind in ("group", "process"):
+            # (one that has ended meanwhile may have given its number to a process of others)
+            if kind in ("group", "process") and begun_at(int(target)) in ("", self.begun[target]):
                 kill_tree(int(target))
         for kind, target in self.held:
             if kind == "marked":

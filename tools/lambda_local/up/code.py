@@ -1,7 +1,6 @@
 """The folder of a function's code: a folder, a .zip file that is unpacked, or code that UP.json has itself."""
 import os
 import re
-import tempfile
 
 from ..configuration import Members
 from ..guard import GUARD
@@ -29,8 +28,7 @@ def folder_with(member: Members, where: str) -> str:
         raise Fault(2, f"{where}: it has a directory and inline code: leave one of the two out")
     is_python = programs.is_of_python(member["runtime"])
     name = "index.py" if is_python else "index.mjs" if IS_MODULE.search(member["inline"]) else "index.js"
-    folder = tempfile.mkdtemp(prefix="lambda_local.")
-    GUARD.hold(folder)
+    folder = GUARD.new_folder()
     with open(os.path.join(folder, name), "w", encoding="utf-8", errors="surrogatepass") as file:
         file.write(member["inline"])
     return folder

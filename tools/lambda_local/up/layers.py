@@ -4,7 +4,6 @@ import functools
 import os
 import shutil
 import stat
-import tempfile
 import zipfile
 from typing import Dict, List, Mapping, Sequence, Tuple
 
@@ -44,8 +43,7 @@ def folders_of(names: Sequence[str], base: str, where: str) -> List[str]:
 @functools.lru_cache(maxsize=None)
 def unpacked(path: str, where: str) -> str:
     """A folder with what the file has, which is gone at the end."""
-    folder = tempfile.mkdtemp(prefix="lambda_local.")
-    GUARD.hold(folder)
+    folder = GUARD.new_folder()
     try:
         with zipfile.ZipFile(path) as archive:
             unpack(archive, os.path.realpath(folder))

@@ -57,11 +57,11 @@ def is_python_of_path() -> bool:
 
 
 def own_boto3() -> Optional[Tuple[int, int]]:
-    """The version of this interpreter's boto3; none if it has none."""
-    from importlib import metadata  # (which takes a while)
+    """The version of this interpreter's boto3; none if it has none, or says none."""
     try:
-        return version_in(metadata.version("boto3"))
-    except metadata.PackageNotFoundError:
+        from importlib import metadata  # (which takes a while)
+        return version_in(metadata.version("boto3") or "")
+    except (ImportError, KeyError, OSError):  # (it is not there; or no descriptor, which is not waited for, as below)
         return None
 
 
@@ -94,23 +94,21 @@ class Clients(threading.Thread):
         self.is_over = False
 
     def run(self) -> None:
-        for sentence in old_clients(self.version_of):
-            self.log("up", sentence, level="warning", kind="client")
+        # (nothing else needs this: it waits for no descriptor, also of an import, and `end` may have reaped the child)
+        with contextlib.suppress(OSError, ImportError):
+            for sentence in old_clients(self.version_of):
+                self.log("up", sentence, level="warning", kind="client")
 
     def version_of(self, words: List[str]) -> Optional[Tuple[int, int]]:
         """The first version that a program prints; none if it is not here, fails, or takes long."""
         if self.stopping.is_set():
             return None
         command, pipe = GUARD.announcing(words)
-        try:
-            with self.lock:
-                if self.is_over:
-                    return None
-                self.child = child = subprocess.Popen(command, stdin=pipe, stdout=subprocess.PIPE,
-                                                      stderr=subprocess.STDOUT, text=True, errors="replace",
-                                                      start_new_session=True)
-        except OSError:  # (nothing else needs this: it waits for no descriptor or process)
-            return None
+        with self.lock:
+            if self.is_over:
+                return None
+            self.child = child = subprocess.Popen(command, stdin=pipe, stdout=subprocess.PIPE, stderr=subprocess.STDOUT,
+                                                  text=True, errors="replace", start_new_session=True)
         printed, end = None, time.monotonic() + LONGEST_SECONDS
         while printed is None:
             try:
