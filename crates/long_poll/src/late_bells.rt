@@ -1,7 +1,7 @@
 //! The bells that ring after a connection's turn.
 
 use crate::OneShotBell;
-use account_lock::{Ringer, Rings};
+use account_lock::{Bell, Ringer, Rings};
 use std::mem;
 use std::sync::{Mutex, Wait};
 
@@ -30,8 +30,16 @@ impl LateBells {
 }
 
 impl Ringer<OneShotBell> for LateBells {
-    /// Holds the bells of a step, and rings those of a step before.
-    fn take<R: Wait>(&self, rt: &R, rings: Rings<OneShotBell>) {
+    /// Rings the last bell of a step, holds the others, and rings those of a step before. If the step has answered its own
+    /// call, the last bell is that call's: the connection hears it in this same turn, and goes on to write its answer. If
+    /// not, the connection has none to write yet.
+    fn take<R: Wait>(&self, rt: &R, mut rings: Rings<OneShotBell>) {
+        if let Some(last) = rings.take_last() {
+            last.ring();
+        }
+        if rings.is_empty() {
+            return;
+        }
         let before = mem::replace(&mut *self.held.lock(rt), Some(rings));
         if let Some(rings) = before {
             rings.ring();

@@ -1,6 +1,7 @@
 //! The bells that a step hands out.
 
-ghost use Rattle.std.specs.Prelude.{◌≡◌, ◌==◌, [], length};
+ghost use Rattle.std.specs.Prelude.{◌≡◌, ◌==◌, ◌++◌, [], length, None};
+ghost use Rattle.std.specs.Option.{option_to_list};
 
 use crate::Bell;
 use std::marker::Model;
@@ -46,6 +47,21 @@ impl<B> Rings<B> {
             first,
             second,
             others: no_others,
+        }
+    }
+
+    /// Takes out the last bell; `None` if there is none. If the step has answered its own call, that is the call's bell,
+    /// whose ticket is the newest.
+    pub fn take_last(&mut self) -> Option<B>
+        ensures taken { self.old ≡ self.new ++ option_to_list result }
+        ensures none { result ≡ None → self.old ≡ [] }
+    {
+        if let Some(bell) = self.others.pop() {
+            return Some(bell);
+        }
+        match self.second.take() {
+            Some(bell) => Some(bell),
+            None => self.first.take(),
         }
     }
 

@@ -20,8 +20,9 @@ use usage_ledger::{Keep, Ledgers, Token};
 const LONGEST_PAUSE_US: u64 = 8_000;
 
 /// A call on its way to the account, with its bell and the future that hears it. While it comes too early, it
-/// is held back: between two attempts its connection runs once, and only then notices a signal to stop and its
-/// own state; then the thread *sleeps* at the call's place in the line until it is called, for 8 ms at most.
+/// is held back: before each further attempt the thread *sleeps* at the call's place in the line until it is called,
+/// for 8 ms at most. From the second attempt on its connection runs once between two of them, and only then notices
+/// a signal to stop and its own state.
 #[derive(Drop)]
 pub(crate) struct Submission {
     call: Call,
@@ -161,20 +162,26 @@ impl<
         self.attempt(call, bell)
     }
 
-    /// Submits a call with a bell of its own, or holds it back, for as long as the service's patience.
+    /// Submits a call with a bell of its own, or holds it back, for as long as the service's patience. A call that comes
+    /// too early is tried twice: before the second attempt its thread sleeps at its place in the line, with no turn of its
+    /// connection in between.
     pub(crate) fn submit_call(&self, call: Call) -> Result<Begun<S::Ledgers>, ExchangeFault>
         requires { IsWithin (S.serves (service_of self.now)) call }
         ensures ok { IfOk result (IsBegun self.now N.Clock call) }
         ensures err { IfErr result (λ fault. fault ≡ ExchangeFault.OutOfMemory) }
     {
         let (bell, heard) = OneShotBell::pair(self.alloc())?;
-        self.submit(Submission {
+        let submission = Submission {
             call,
             bell,
             heard,
             left_us: u64::from(self.shared.patience_ms) * 1_000,
             place: None,
-        })
+        };
+        match self.submit(submission)? {
+            Begun::HeldBack(held) => self.submit(Box::into_inner(held)),
+            begun => Ok(begun),
+        }
     }
 
     /// Sleeps at a place in the line until it is called, for a pause at most. Returns how many microseconds of
