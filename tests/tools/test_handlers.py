@@ -1,26 +1,20 @@
 """Checks the handlers of a service's requests over sockets: without one nothing changes; one gets what may be handed
 over, and nothing else, byte for byte; the requester gets what was posted for its own request; each fault by name; a
 handler that dies with a request, one that comes back, and requesters that go away; and further ports, all of whose
-requests are handed over. The program is LAMBDA_LOCAL_PROGRAM,
-else ./lambda_local. Ends with 'N passed, M failed'."""
+requests are handed over. The program is LAMBDA_LOCAL_PROGRAM, else ./lambda_local. Ends with 'N passed, M failed'."""
 import http.client
 import json
 import socket
 import threading
 import time
-from typing import Any, Dict, List, Optional, Sequence, Tuple
+from typing import Dict, List, Optional, Tuple
 
 from lambda_local.service import RUNTIME, Fault, Service, ask, free_ports
-from tests.library.cases import Case
+from tests.library.handler_kit import (CONFIGURATION, INVOKE, LONGEST, NEXT, PATIENCE, Fields, Handler, Requester,
+                                       WithService, fault_of, status_of)
 
-CONFIGURATION = {"account": "123456789012", "region": "us-east-2", "functions": [{"name": "f", "ports": [0]}]}
-NEXT = "/_local/requests/next"
-INVOKE = "/2015-03-31/functions/%s/invocations"
 EVENT = {"X-Amz-Invocation-Type": "Event"}
-LONGEST = 6291456
-GRACE = 5  # seconds for which a handler is waited for
-PATIENCE = 60  # seconds until something has to come, on a machine that does much else
-MANY, HANDLERS, STREAMS = 60, 3, 50
+MANY, HANDLERS = 60, 3
 # What is answered as ever, whether a handler is here or not.
 OWN: Tuple[Tuple[str, str, Dict[str, str], Optional[str]], ...] = (
     ("GET", "/_local/version", {}, None),
@@ -59,7 +53,6 @@ AT_HANDLED: Tuple[Tuple[str, str, Dict[str, str], bytes], ...] = (
     ("POST", "/a", {"Host": "localhost:1"}, b"a=b"),
 )
 NO_HANDLER = (503, "ServiceException", "No handler is here")
-Fields = Sequence[Tuple[str, str]]
 # The fields of a post, and the message of its fault.
 WRONG: Tuple[Tuple[Fields, str], ...] = (
     ((), "Lambda-Local-Status is missing"),
@@ -72,165 +65,6 @@ WRONG: Tuple[Tuple[Fields, str], ...] = (
     ((("Lambda-Local-Status", "200"), ("Lambda-Local-Header", "Content-Length: 5")),
      "A Lambda-Local-Header names a field that the service sets itself"),
 )
-
-
-class Handler:
-    """A handler: one connection."""
-
-    def __init__(self, service: Service) -> None:
-        self.connection = http.client.HTTPConnection("127.0.0.1", service.port, timeout=PATIENCE)
-
-    def ask(self) -> None:
-        self.connection.request("GET", NEXT)
-
-    def taken(self) -> Tuple[Dict[str, Any], bytes]:
-        answer = self.connection.getresponse()
-        line, _, body = answer.read().partition(b"\n")
-        assert answer.status == 200, (answer.status, line)
-        return json.loads(line), body
-
-    def next(self) -> Tuple[Dict[str, Any], bytes]:
-        self.ask()
-        return self.taken()
-
-    def post(self, path: str, fields: Fields = (("Lambda-Local-Status", "200"),), body: bytes = b"") -> Tuple[int, str]:
-        """The status, and the type of the fault if there is one."""
-        status, answer = self.posted(path, fields, body)
-        return status, answer.get("errorType", "")
-
-    def posted(self, path: str, fields: Fields, body: bytes = b"") -> Tuple[int, Dict[str, str]]:
-        self.connection.putrequest("POST", f"/_local/requests/{path}")
-        for name, value in fields:
-            self.connection.putheader(name, value)
-        self.connection.putheader("Content-Length", str(len(body)))
-        self.connection.endheaders(body)
-        answer = self.connection.getresponse()
-        text = answer.read()
-        return answer.status, json.loads(text) if text else {}
-
-    def answer(self, head: Dict[str, Any], body: bytes = b"",
-               fields: Fields = (("Lambda-Local-Status", "200"),)) -> Tuple[int, str]:
-        return self.post(f"{head['id']}/response", fields, body)
-
-    def begin(self, head: Dict[str, Any], fields: Fields = (("Lambda-Local-Status", "200"),),
-              length: Optional[int] = None) -> None:
-        """Begins to post an answer: in chunks, unless its length is given."""
-        self.connection.putrequest("POST", f"/_local/requests/{head['id']}/response")
-        for name, value in fields:
-            self.connection.putheader(name, value)
-        framing = ("Transfer-Encoding", "chunked") if length is None else ("Content-Length", str(length))
-        self.connection.putheader(*framing)
-        self.connection.endheaders()
-
-    def chunk(self, piece: bytes) -> None:
-        self.connection.send(b"%x\r\n%s\r\n" % (len(piece), piece))
-
-    def end(self) -> Tuple[int, str]:
-        """Ends a post in chunks."""
-        self.connection.send(b"0\r\n\r\n")
-        return self.outcome()
-
-    def outcome(self) -> Tuple[int, str]:
-        answer = self.connection.getresponse()
-        text = answer.read()
-        return answer.status, json.loads(text)["errorType"] if text else ""
-
-    def close(self) -> None:
-        self.connection.close()
-
-
-class Reader:
-    """A requester that reads its answer as it comes."""
-
-    def __init__(self, service: Service, request: bytes) -> None:
-        self.socket = socket.create_connection(("127.0.0.1", service.port), PATIENCE)
-        self.socket.sendall(request)
-        self.came = b""
-
-    def until(self, end: bytes) -> bytes:
-        """What has come, once it ends so or the connection does."""
-        while not self.came.endswith(end) and (piece := self.socket.recv(65536)):
-            self.came += piece
-        return self.came
-
-    def rest(self) -> bytes:
-        """All that comes until the connection ends, or is reset."""
-        try:
-            while piece := self.socket.recv(1048576):
-                self.came += piece
-        except ConnectionResetError:
-            pass
-        return self.came
-
-    def close(self) -> None:
-        self.socket.close()
-
-
-class Requester(threading.Thread):
-    """A request on a thread of its own: its answer once it has ended."""
-
-    def __init__(self, service: Service, method: str, path: str, headers: Dict[str, str] = {},
-                 body: Any = None, port: int = 0) -> None:
-        super().__init__()
-        self.asked = (port or service.port, method, path, body, headers, PATIENCE)
-        self.seen: Tuple[int, Dict[str, str], bytes] = (0, {}, b"")
-        self.start()
-
-    def run(self) -> None:
-        self.seen = ask(*self.asked)
-
-    def answer(self) -> Tuple[int, Dict[str, str], bytes]:
-        self.join(PATIENCE)
-        return self.seen
-
-
-class Herald(Requester):
-    """A request that is sent again while no handler is here."""
-
-    def run(self) -> None:
-        end = time.monotonic() + PATIENCE
-        while (seen := ask(*self.asked))[0] == 404 and time.monotonic() < end:
-            time.sleep(0.02)
-        self.seen = seen
-
-
-def plain(answer: Tuple[int, Dict[str, str], bytes]) -> Tuple[int, Dict[str, str], bytes]:
-    """An answer without what differs from second to second."""
-    return answer[0], {name: value for name, value in answer[1].items() if name != "date"}, answer[2]
-
-
-def status_of(port: int, request: bytes) -> int:
-    """That of the answer to these bytes."""
-    with socket.create_connection(("127.0.0.1", port), PATIENCE) as connection:
-        connection.sendall(request)
-        return int(connection.makefile("rb").readline().split()[1])
-
-
-def fault_of(answer: Tuple[int, Dict[str, str], bytes]) -> Tuple[int, str, str]:
-    """The status of an answer in the form of the Lambda API, its type and its message."""
-    said = json.loads(answer[2])
-    return answer[0], answer[1].get("x-amzn-errortype", ""), said.get("message", "") or said["Message"]
-
-
-class WithService(Case):
-    def setUp(self) -> None:
-        self.service = Service(CONFIGURATION)
-
-    def tearDown(self) -> None:
-        self.service.kill()
-
-    def asked(self, method: str, path: str, headers: Dict[str, str] = {},
-              body: Any = None) -> Tuple[int, Dict[str, str], bytes]:
-        return plain(ask(self.service.port, method, path, body, headers, PATIENCE))
-
-    def handler(self) -> Handler:
-        """A handler that is here."""
-        handler = Handler(self.service)
-        handler.ask()
-        herald = Herald(self.service, "GET", "/here")
-        handler.answer(handler.taken()[0])
-        herald.answer()
-        return handler
 
 
 class Handlers(WithService):
@@ -442,172 +276,6 @@ class Handlers(WithService):
         self.check("and the service ends", self.service.stop(PATIENCE)[0], 0)
         handler.close()
         other.close()
-
-
-class Streams(WithService):
-    def begun(self, handler: Handler, request: bytes, fields: Fields = (("Lambda-Local-Status", "200"),),
-              length: Optional[int] = None) -> Reader:
-        """Who reads the answer that a handler has begun to post."""
-        reader = Reader(self.service, request)
-        head, _ = handler.next()
-        handler.begin(head, fields, length)
-        return reader
-
-    def test_a_stream_is_seen_piece_by_piece(self) -> None:
-        handler = self.handler()
-        fields = (("Lambda-Local-Status", "201"), ("Lambda-Local-Header", "X-One: 1"))
-        reader = self.begun(handler, b"GET /a HTTP/1.1\r\nHost: a\r\n\r\n", fields)
-        head = reader.until(b"\r\n\r\n").lower()
-        self.check("the head comes first", (head[:12], b"\r\nx-one: 1\r\n" in head), (b"http/1.1 201", True))
-        self.check("it is in chunks", b"\r\ntransfer-encoding: chunked\r\n" in head)
-        for piece in (b"one", b"two", bytes(70000)):
-            handler.chunk(piece)
-            end = piece[-3:] + b"\r\n"
-            self.check(f"{len(piece)} bytes are seen", reader.until(end).endswith(end))
-        self.check("the post is accepted", handler.end(), (202, ""))
-        self.check("and then is the end", reader.until(b"\r\n0\r\n\r\n").endswith(b"\r\n0\r\n\r\n"))
-        reader.close()
-        handler.close()
-
-    def test_a_reader_that_is_slow_holds_the_post(self) -> None:
-        handler = self.handler()
-        reader = self.begun(handler, b"GET /a HTTP/1.0\r\nHost: a\r\n\r\n")
-        whole = bytes(range(256)) * 4096
-        sent = 0
-        handler.connection.sock.settimeout(2)
-        try:
-            while sent < 64:
-                handler.chunk(whole)
-                sent += 1
-        except TimeoutError:
-            pass
-        self.check("the post is held", 0 < sent < 64)
-        reader.close()
-        handler.close()
-
-    def test_a_stream_may_be_long(self) -> None:
-        handler = self.handler()
-        reader = self.begun(handler, b"GET /a HTTP/1.0\r\nHost: a\r\n\r\n")
-        whole = bytes(range(256)) * 4096
-        came: List[bytes] = []
-        reading = threading.Thread(target=lambda: came.append(reader.rest()))
-        reading.start()
-        for _ in range(24):
-            handler.chunk(whole)
-        self.check("the post is accepted", handler.end(), (202, ""))
-        reading.join(PATIENCE)
-        head, _, body = came[0].partition(b"\r\n\r\n")
-        self.check("an old requester gets no chunks", b"chunked" not in head.lower())
-        self.check("and each byte, up to the connection's end", body == whole * 24)
-        handler.close()
-
-    def test_a_length_is_kept(self) -> None:
-        handler = self.handler()
-        whole = bytes(range(256)) * 4096
-        requester = Requester(self.service, "GET", "/a")
-        head, _ = handler.next()
-        handler.begin(head, length=len(whole))
-        for at in range(0, len(whole), 100003):
-            handler.connection.send(whole[at:at + 100003])
-        self.check("the post is accepted", handler.outcome(), (202, ""))
-        answer = requester.answer()
-        self.check("the answer has its length", (answer[1].get("content-length"), "transfer-encoding" in answer[1]),
-                   (str(len(whole)), False))
-        self.check("and its bytes", answer[2] == whole)
-        handler.close()
-
-    def test_a_post_that_breaks_off_cuts_the_answer(self) -> None:
-        for length in (None, 10):
-            handler = self.handler()
-            reader = self.begun(handler, b"GET /a HTTP/1.1\r\nHost: a\r\n\r\n", length=length)
-            if length is None:
-                handler.chunk(b"one")
-            else:
-                handler.connection.send(b"one")
-            reader.until(b"one" if length else b"one\r\n")
-            handler.close()
-            self.check("the requester's connection ends", reader.rest().endswith(b"one" if length else b"one\r\n"))
-            reader.close()
-
-    def test_a_requester_that_goes_away_ends_the_post(self) -> None:
-        handler = self.handler()
-        reader = self.begun(handler, b"GET /a HTTP/1.1\r\nHost: a\r\n\r\n")
-        handler.chunk(b"one")
-        reader.until(b"one\r\n")
-        reader.close()
-        self.check("while it has more to post", handler.outcome(), (409, "RequestIsOver"))
-        handler.close()
-        handler = self.handler()
-        reader = self.begun(handler, b"GET /a HTTP/1.1\r\nHost: a\r\n\r\n", length=LONGEST)
-        ended = threading.Timer(2, reader.close)
-        ended.start()
-        try:
-            handler.connection.send(bytes(LONGEST - 1))
-        except ConnectionError:
-            pass
-        self.check("and while it is held", handler.outcome(), (409, "RequestIsOver"))
-        handler.close()
-
-    def test_some_answers_have_no_body(self) -> None:
-        """A body that comes behind the head of its post then comes when the request is over."""
-        for method, status in (("HEAD", 200), ("GET", 204), ("GET", 304)):
-            handler, connection = self.handler(), http.client.HTTPConnection("127.0.0.1", self.service.port,
-                                                                             timeout=PATIENCE)
-            connection.request(method, "/a")
-            body = b"body" if status != 204 else b""
-            said = handler.answer(handler.next()[0], body, (("Lambda-Local-Status", str(status)),))
-            self.check(f"{method} {status}: its post is over", said in ((202, ""), (409, "RequestIsOver")))
-            answer = connection.getresponse()
-            self.check("it has no body", (answer.status, answer.read()), (status, b""))
-            handler.close()
-            handler = self.handler()
-            connection.request("GET", "/b")
-            head, _ = handler.next()
-            handler.begin(head)
-            handler.chunk(b"b")
-            self.check("the connection goes on", handler.end(), (202, ""))
-            self.check("with the next answer", connection.getresponse().read(), b"b")
-            connection.close()
-            handler.close()
-
-    def test_a_refused_stream_leaves_the_request(self) -> None:
-        handler = self.handler()
-        requester = Requester(self.service, "GET", "/a")
-        head, _ = handler.next()
-        handler.begin(head, (("Lambda-Local-Status", "99"),))
-        handler.chunk(bytes(1000))
-        time.sleep(0.2)
-        handler.chunk(bytes(1000))
-        self.check("its status is none", handler.end(), (400, "InvalidResponse"))
-        handler.begin({"id": head["id"] + 1})
-        handler.chunk(bytes(1000))
-        self.check("another is not there", handler.end(), (404, "UnknownRequest"))
-        self.check("the request is", handler.answer(head, b"ok"), (202, ""))
-        self.check("and is answered", requester.answer()[2], b"ok")
-        handler.close()
-
-    def test_many_streams_at_once(self) -> None:
-        def handle() -> None:
-            handler = Handler(self.service)
-            head, _ = handler.next()
-            handler.begin(head)
-            for number in range(20):
-                handler.chunk(b"%s %d " % (head["target"].encode(), number) * 500)
-            outcomes.append(handler.end())
-            handler.close()
-        outcomes: List[Tuple[int, str]] = []
-        first = self.handler()
-        handlers = [threading.Thread(target=handle) for _ in range(STREAMS)]
-        requesters = [Requester(self.service, "GET", f"/{number}") for number in range(STREAMS)]
-        for one in handlers:
-            one.start()
-        answers = [one.answer()[2] for one in requesters]
-        self.check("each requester has its own, whole and in order", answers == [
-            b"".join(b"/%d %d " % (number, piece) * 500 for piece in range(20)) for number in range(STREAMS)])
-        for one in handlers:
-            one.join(PATIENCE)
-        self.check("each post is accepted", outcomes, [(202, "")] * STREAMS)
-        first.close()
 
 
 class HandledPorts(WithService):
