@@ -17,17 +17,15 @@ import sys
 import tempfile
 import time
 import xml.etree.ElementTree as xml
-from typing import Callable, Dict, Iterable, List, NamedTuple, Tuple
+from typing import Callable, Dict, List, NamedTuple, Tuple
 
 from lambda_conformance import causes, extension, runtime
 from tests import ROOT
-from tests.library.cases import Case, names_of
+from tests.library.cases import Beside, Case
 from conformance.tests.forked_kit import Kits
 from conformance.tests.kit_programs import (PROGRAMS, SHAPES, clients, extensions, libraries, shapes, subscribers,
                                         wrong_extensions, wrong_runtimes)
-
-EXAMPLES = os.path.join(ROOT, "examples")
-HANDLERS = os.path.join(EXAMPLES, "conformance")
+from conformance.tests.sound_commands import EXAMPLES, HANDLERS, PYTHON, extensions_in_shapes, in_shapes, shipped
 
 LENIENT = {"runtime": {"keep_alive", "continue_first", "header_spaces", "reason_phrase", "same_process", "error_header",
                        "environments_apart"},
@@ -40,10 +38,7 @@ WHOLE, CHOSEN = "CONFORMANCE_WHOLE" in os.environ, os.environ.get("CONFORMANCE_O
 EACH, EACH_SHAPE = 32, 1 if CHOSEN else 3  # wrong programs, and sound ones, of which one is run with all scenarios
 BECAUSE = "|".join(one.value for one in causes.Because)
 TODAY = int(time.time() // 86400)  # which one of these, counted round
-PYTHON = [sys.executable, "-S"]  # (it starts in half the time)
 TOOL = [*PYTHON, os.path.join(ROOT, "tools"), "conformance"]
-
-
 LEAKS = {"memory", "descriptors", "threads", "children", "zombies"}  # (a machine may be too slow to judge them)
 
 
@@ -131,58 +126,9 @@ def other_extension(*command):
                is_forked=True)
 
 
-def shipped():
-    """The runtimes of examples/ with the kit's handler, those whose languages are on the machine: names and
-    commands."""
-    found = [("runtime.py", [sys.executable, os.path.join(EXAMPLES, "runtime.py")])]
-    if shutil.which("node"):
-        found.append(("runtime.mjs", ["node", os.path.join(EXAMPLES, "runtime.mjs")]))
-    if shutil.which("curl"):
-        found.append(("runtime.sh", [os.path.join(EXAMPLES, "runtime.sh")]))
-    return found
-
-
 def of_today(several, each):
     """One of so many of these, each day others; all if all are wanted."""
     return [one for place, one in enumerate(several) if WHOLE or (place - TODAY) % each == 0]
-
-
-def in_shapes():
-    """Runtimes in the shapes of clients: those whose languages are on the machine, and those that need only Python."""
-    if shutil.which("node"):
-        yield "a Node client with agents", ["node", os.path.join(SHAPES, "node_agent.mjs")]
-        yield "a Node client that streams", ["node", os.path.join(SHAPES, "node_agent.mjs"), "streaming"]
-    if shutil.which("bash") and shutil.which("curl"):
-        yield "the tutorial's bootstrap", [os.path.join(SHAPES, "tutorial.sh")]
-        yield "a client in bash alone", [os.path.join(SHAPES, "dev_tcp.sh")]
-    if shutil.which("perl"):
-        yield "a Perl client", ["perl", os.path.join(SHAPES, "perl_tiny.pl")]
-        yield "a Node client by fetch", ["node", os.path.join(SHAPES, "fetch.mjs")]
-    yield from interpreted()
-    tables: Tuple[Tuple[str, Iterable[str]], ...] = (
-        ("shapes.py", shapes.SHAPES), ("clients.py", clients.CLIENTS), ("libraries.py", libraries.LIBRARIES))
-    for file, names in tables:
-        for name in names:
-            yield f"a client in the shape of {name}", [*PYTHON, os.path.join(SHAPES, file), name]
-
-
-def interpreted():
-    """The runtimes of examples/conformance that need not be compiled."""
-    for file, language, *looks in (("runtime.tcl", "tclsh"), ("runtime.rb", "ruby"),
-                                   ("runtime.lua", "lua5.4", "-e", 'require "socket"')):
-        if shutil.which(language) and not (looks and subprocess.run([language, *looks], stderr=subprocess.DEVNULL,
-                                                                    timeout=60).returncode):
-            yield file, [language, os.path.join(HANDLERS, file)]
-
-
-def extensions_in_shapes():
-    """Extensions in the shapes of those that there are, as above."""
-    if shutil.which("node"):
-        yield "an extension by fetch", ["node", os.path.join(SHAPES, "extension_fetch.mjs")]
-    if shutil.which("bash") and shutil.which("curl"):
-        yield "an extension with curl", [os.path.join(SHAPES, "extension_curl.sh")]
-    for name in extensions.SHAPES:
-        yield f"an extension that is {name}", [*PYTHON, os.path.join(SHAPES, "extensions.py"), name]
 
 
 def subscriber(name):
@@ -302,25 +248,12 @@ def usages():
            "LAMBDA_LOCAL_PORTS=1-1", 2)
 
 
-# The tests whose runs go on beside all others, as many as there is room for, with what gives these.
+# The tests whose runs go on beside all others, as many as there is room for, with what begins these.
 POOL = concurrent.futures.ThreadPoolExecutor(AT_ONCE)
-BESIDE: Dict[str, Callable[[], list]] = {
+BESIDE = Beside({
     "wrong_usage": lambda: [(name, POOL.submit(start), told, status) for name, start, told, status in usages()],
-    "programs": lambda: [job.begun_in(POOL) for job in jobs() if job.name in (CHOSEN or [job.name])]}
-
-
-@functools.lru_cache(None)
-def begun(test):
-    return BESIDE[test]()
-
-
-def load_tests(_loader, chosen, _pattern):
-    """Begins the runs of the chosen tests."""
-    names = [*names_of(chosen)]
-    for test in BESIDE:
-        if test in names:
-            begun(test)
-    return chosen
+    "programs": lambda: [job.begun_in(POOL) for job in jobs() if job.name in (CHOSEN or [job.name])]})
+load_tests = BESIDE.load_tests
 
 
 def processes_of(mark):
@@ -394,7 +327,7 @@ class Conformance(Case):
 
     def test_programs(self):
         judges: Dict[str, Callable[..., None]] = {"passes": self.passes, "caught": self.caught}
-        for job, run in begun("programs"):
+        for job, run in BESIDE.begun("programs"):
             judges[job.judge](run.result(), *job.by)
 
     def test_a_failure_is_explained(self):
@@ -417,7 +350,7 @@ class Conformance(Case):
             self.check("and its details", "Invocation error" in (failure.text or ""))
 
     def test_wrong_usage(self):
-        for name, run, told, status in begun("wrong_usage"):
+        for name, run, told, status in BESIDE.begun("wrong_usage"):
             self.refused(name, run.result(), told, status)
 
     def refused(self, name, run, told, status):

@@ -4,7 +4,6 @@ in the emulator. The program is LAMBDA_LOCAL_PROGRAM, else ./lambda_local.
 
 Variable: CONFORMANCE_FAULTS has the faults that alone are planted."""
 import concurrent.futures
-import functools
 import os
 import random
 import re
@@ -20,7 +19,7 @@ from lambda_conformance.service import BATCH, FRESH_SHARE, known, oracle, pairs,
 from lambda_conformance.service.random_sequences import Generator
 from lambda_local.service import Service, free_ports, program_path
 from tests import ROOT
-from tests.library.cases import Case, names_of
+from tests.library.cases import Beside, Case
 from conformance.tests.forked_kit import Kits
 from conformance.programs.emulator.faults import FAULTS, LIBERTIES, OF_PAIRS
 
@@ -214,8 +213,8 @@ def against(name):
 
 
 def runs(name, *keys):
-    """A run for each of these, with its key."""
-    return {key: functools.partial(name, key) for key in keys}
+    """What begins a run for each of these, with its key."""
+    return lambda: {key: POOL.submit(name, key) for key in keys}
 
 
 def part(seed):
@@ -228,27 +227,14 @@ def pair(name):
     return against_emulator(() if name == "sound" else (name,), "--most", "1", is_pair=True)
 
 
-# Of each test, its runs: those that take longest first.
-RUNS = {"nothing_in_lambda_local": runs(part, *range(PARTS)),
-        "two_environments": runs(pair, *OF_PAIRS, "lambda_local", "sound"),
-        "nothing_in_a_sound_emulator": runs(against, "sound"),
-        "what_is_left_open": runs(against, *LIBERTIES),
-        "each_fault_is_found": runs(against, *reversed(CHOSEN or FAULTS))}
-
-
-@functools.lru_cache(None)
-def begun(test):
-    """The runs of a test, which go on beside all others."""
-    return {key: POOL.submit(run) for key, run in RUNS[test].items()}
-
-
-def load_tests(_loader, chosen, _pattern):
-    """Begins the runs of the chosen tests."""
-    names = [*names_of(chosen)]
-    for test in RUNS:
-        if test in names:
-            begun(test)
-    return chosen
+# Of each test, its runs, which go on beside all others: those that take longest first.
+BESIDE = Beside({
+    "nothing_in_lambda_local": runs(part, *range(PARTS)),
+    "two_environments": runs(pair, *OF_PAIRS, "lambda_local", "sound"),
+    "nothing_in_a_sound_emulator": runs(against, "sound"),
+    "what_is_left_open": runs(against, *LIBERTIES),
+    "each_fault_is_found": runs(against, *reversed(CHOSEN or FAULTS))})
+load_tests = BESIDE.load_tests
 
 
 def all_pairs():
@@ -258,7 +244,7 @@ def all_pairs():
 
 class ConformanceService(Case):
     def test_nothing_in_lambda_local(self):
-        ended = {seed: run.result() for seed, run in begun("nothing_in_lambda_local").items()}
+        ended = {seed: run.result() for seed, run in BESIDE.begun("nothing_in_lambda_local").items()}
         for seed, run in ended.items():
             seen = (run.status, run.words)
             self.check(f"nothing differs in lambda_local: {(run.output.splitlines() or [''])[-1]}, seed {seed}", seen,
@@ -267,13 +253,13 @@ class ConformanceService(Case):
         self.check("a thousand random sequences", sum(run.random for run in ended.values()) >= PARTS * IN_PART)
 
     def test_nothing_in_a_sound_emulator(self):
-        run = begun("nothing_in_a_sound_emulator")["sound"].result()
+        run = BESIDE.begun("nothing_in_a_sound_emulator")["sound"].result()
         self.check(f"nothing differs in an emulator without a fault: {(run.output.splitlines() or [''])[-1]}",
                    (run.status, run.words), (0, []))
         run.told(run.status == 0)
 
     def test_what_is_left_open(self):
-        for name, started in begun("what_is_left_open").items():
+        for name, started in BESIDE.begun("what_is_left_open").items():
             run = started.result()
             seen = (run.status, run.words, "accepted " in run.output or name in UNSEEN)
             last = (run.output.splitlines() or [""])[-1]
@@ -282,7 +268,7 @@ class ConformanceService(Case):
 
     def test_each_fault_is_found(self):
         self.check("each fault has what it shows as", set(FAULTS) ^ set(SHOWS_AS), set())
-        for name, started in begun("each_fault_is_found").items():
+        for name, started in BESIDE.begun("each_fault_is_found").items():
             run = started.result()
             least = 0 if name in WITHOUT_A_SEQUENCE else 1
             seen = (run.status, len(run.words), bool(set(run.words) & SHOWS_AS[name]), least <= run.calls <= MOST_CALLS)
@@ -292,7 +278,7 @@ class ConformanceService(Case):
             run.told(seen == (1, 1, True, True))
 
     def test_two_environments(self):
-        ended = {name: run.result() for name, run in begun("two_environments").items()}
+        ended = {name: run.result() for name, run in BESIDE.begun("two_environments").items()}
         for name in ("lambda_local", "sound"):
             run = ended[name]
             seen = (run.status, run.words, f"{len(all_pairs())} sequences" in run.output)

@@ -3,7 +3,7 @@ of them prints ends with the line 'N passed, M failed'."""
 import atexit
 import textwrap
 import unittest
-from typing import Any, Iterator, List, Optional, Tuple
+from typing import Any, Callable, Dict, Iterator, List, Optional, Tuple
 
 from tests.library import counted
 
@@ -17,6 +17,29 @@ def names_of(tests: unittest.TestSuite) -> Iterator[str]:
             yield from names_of(test)
         else:
             yield test.id().rpartition(".test_")[2]
+
+
+class Beside:
+    """What goes on beside all tests of a module for some of them: of each of these, by its name, what begins it. The
+    module's `load_tests` is that of this."""
+
+    def __init__(self, starts: Dict[str, Callable[[], Any]]) -> None:
+        self.starts = starts
+        self.going: Dict[str, Any] = {}
+
+    def begun(self, test: str) -> Any:
+        """What has begun for a test, which it does once."""
+        if test not in self.going:
+            self.going[test] = self.starts[test]()
+        return self.going[test]
+
+    def load_tests(self, _loader: object, chosen: unittest.TestSuite, _pattern: object) -> unittest.TestSuite:
+        """Begins what goes on for the chosen tests, in the order in which it stands."""
+        names = {*names_of(chosen)}
+        for test in self.starts:
+            if test in names:
+                self.begun(test)
+        return chosen
 
 
 class Case(unittest.TestCase):

@@ -1,4 +1,4 @@
-"""Checks the answers that a handler posts as a stream, over sockets: the requester sees each piece as it is posted, whole
+"""Checks the answers that a handler posts as a stream, over sockets: the requester sees each piece as it comes, whole
 and in order, and a slow one holds the post; what breaks off on either side ends the other; answers that have no body,
 and posts that are refused. The program is LAMBDA_LOCAL_PROGRAM, else ./lambda_local. Ends with 'N passed, M failed'."""
 import http.client
