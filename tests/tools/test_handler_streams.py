@@ -137,6 +137,19 @@ class Streams(WithService):
             connection.close()
             handler.close()
 
+    def test_a_reset_is_answered_only_without_content(self) -> None:
+        """A response of 205 has none (RFC 9110, section 15.3.6), so a post that can bring some fails its requester."""
+        for length, status in ((0, 205), (4, 500), (None, 500)):
+            handler = self.handler()
+            reader = self.begun(handler, b"GET /a HTTP/1.1\r\nHost: a\r\nConnection: close\r\n\r\n",
+                                (("Lambda-Local-Status", "205"),), length)
+            head, _, content = reader.rest().partition(b"\r\n\r\n")
+            self.check(f"a post of length {length}: the connection ends after {status}", (head[:12], content),
+                       (b"HTTP/1.1 %d" % status, b""))
+            self.check("its response says that it is empty", b"\r\ncontent-length: 0" in head.lower())
+            reader.close()
+            handler.close()
+
     def test_a_refused_stream_leaves_the_request(self) -> None:
         handler = self.handler()
         requester = Requester(self.service, "GET", "/a")

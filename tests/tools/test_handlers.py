@@ -320,9 +320,10 @@ class HandledPorts(WithService):
     def test_the_guard_stays(self) -> None:
         handler = self.handler()
         port = self.ports[0]
-        foreign = ask(port, "GET", "/a", None, {"Host": "evil.example.com"}, PATIENCE)
-        self.check("a foreign host is refused", fault_of(foreign),
-                   (403, "AccessDeniedException", "Host is neither local nor in LAMBDA_LOCAL_HOSTS"))
+        for site in ("none", "cross-site"):  # (no page, and one, which an invoke port would refuse first)
+            foreign = ask(port, "GET", "/a", None, {"Host": "evil.example.com", "Sec-Fetch-Site": site}, PATIENCE)
+            self.check(f"a foreign host is refused, of the site {site}", fault_of(foreign),
+                       (403, "AccessDeniedException", "Host is neither local nor in LAMBDA_LOCAL_HOSTS"))
         page = ask(self.service.port, "GET", "/a", None, {"Origin": "http://a.example"}, PATIENCE)
         self.check("a page at the invoke port as well", fault_of(page),
                    (403, "AccessDeniedException", "Web pages may not call this service"))
