@@ -4,29 +4,21 @@ import contextlib
 import io
 import threading
 import time
-import urllib.error
-import urllib.request
 from typing import List
 
 from lambda_local.configuration import Members
 from pytest_lambda_local import LambdaLocal
 from tests.library.cases import Case
+from tests.library.events_kit import Caller, invoke_path
 from tests.tools.test_plugin import fault_of
-
 
 EVENT, TAIL = {"X-Amz-Invocation-Type": "Event"}, {"X-Amz-Log-Type": "Tail"}
 
 
 def send(service, name, body=b"{}", headers=EVENT):
     """The status of an Event, or of another invocation."""
-    request = urllib.request.Request(f"{service.endpoint_url}/2015-03-31/functions/{name}/invocations", body, headers,
-                                     method="POST")
-    try:
-        with urllib.request.urlopen(request, timeout=30) as answer:
-            return answer.status
-    except urllib.error.HTTPError as fault:
-        fault.close()
-        return fault.code
+    with Caller(service.endpoint_url) as caller:
+        return caller.ask("POST", invoke_path(name), body, headers)[0]
 
 
 class PluginEvents(Case):

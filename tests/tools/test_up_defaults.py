@@ -5,7 +5,6 @@ import json
 import os
 import sys
 import tempfile
-import urllib.error
 import urllib.request
 import zipfile
 from typing import Any
@@ -16,6 +15,7 @@ from lambda_local.service import Fault
 from lambda_local.up.members import load
 from lambda_local.up.room import with_environments
 from tests.library.cases import Case
+from tests.library.events_kit import Caller, invoke_path
 from tests.library.threads import together
 from tests.library.up_kit import RUNTIME, Up, until
 
@@ -27,7 +27,6 @@ def run(event, context=None):
             "invoked_function_arn", None), "url": os.environ.get("LAMBDA_LOCAL_URL_MY_F")}
 """
 PYTHON = {"runtime": "python", "handler": "app.run", "python": sys.executable}
-INVOKE = "/2015-03-31/functions/{}/invocations"
 
 
 def counts(*members):
@@ -38,13 +37,8 @@ def counts(*members):
 
 
 def status_of(up, path, kind=None, body=b"{}"):
-    request = urllib.request.Request(up.endpoint + path, body, {"X-Amz-Invocation-Type": kind} if kind else {})
-    try:
-        with urllib.request.urlopen(request, timeout=30) as answer:
-            return answer.status
-    except urllib.error.HTTPError as fault:
-        fault.close()
-        return fault.code
+    with Caller(up.endpoint) as caller:
+        return caller.ask("POST", path, body, {"X-Amz-Invocation-Type": kind} if kind else {})[0]
 
 
 def got(url):
@@ -86,7 +80,7 @@ class UpDefaults(Case):
         self.check("it is ready", up.until("[up] ready", 60))
         seen = together(*6 * [lambda: up.invoke(patience=0, sleep=2)[0]])
         self.check("six at once", len({one["pid"] for one in seen if isinstance(one, dict)}), 6, shown=seen)
-        self.check("events are taken", [status_of(up, INVOKE.format("f"), kind) for kind in ("Event", "DryRun")],
+        self.check("events are taken", [status_of(up, invoke_path("f"), kind) for kind in ("Event", "DryRun")],
                    [202, 204])
         together(*3 * [lambda: up.invoke("once", patience=0, sleep=2)])
         self.check("a throttle says what to write", up.until(
@@ -96,7 +90,7 @@ class UpDefaults(Case):
     def test_events_are_refused_if_that_is_written(self):
         up = Up(whole={"asynchronous": False}, functions=[{"name": "f", **PYTHON}], app=APP)
         up.until("[up] ready", 60)
-        self.check("events are refused if that is written", status_of(up, INVOKE.format("f"), "Event"), 400)
+        self.check("events are refused if that is written", status_of(up, invoke_path("f"), "Event"), 400)
         up.end()
 
     def test_an_alias_is_invoked_and_has_the_functions_settings(self):
@@ -108,13 +102,13 @@ class UpDefaults(Case):
         for name, wanted in (("f:live", 200), (f"{arn}:live", 200), ("f?Qualifier=live", 200), ("f", 200),
                              ("f:other", 404), ("g:live", 404), ("f?Qualifier=other", 404)):
             name, _, query = name.partition("?")
-            path = INVOKE.format(name) + (f"?{query}" if query else "")
+            path = invoke_path(name) + (f"?{query}" if query else "")
             self.check(f"an alias: {path}", status_of(up, path), wanted)
-        self.check("an event of an alias", status_of(up, INVOKE.format("f:live"), "Event"), 202)
+        self.check("an event of an alias", status_of(up, invoke_path("f:live"), "Event"), 202)
         self.check("the function's own settings", (
-            status_of(up, INVOKE.format("f"), "Event", b'{"fail": true}'),
+            status_of(up, invoke_path("f"), "Event", b'{"fail": true}'),
             until(lambda: up.count(r"\[f\] event \S+ failed, attempt 1 of 1: it is dropped"), 20)), (202, 1))
-        self.check("and the others'", (status_of(up, INVOKE.format("g"), "Event", b'{"fail": true}'),
+        self.check("and the others'", (status_of(up, invoke_path("g"), "Event", b'{"fail": true}'),
                                        until(lambda: up.count(r"\[g\] event \S+ failed, attempt 3 of 3"), 20)),
                    (202, 1))
         self.check("GetFunction of an alias", got(f"{up.endpoint}/2015-03-31/functions/f:live")[
