@@ -34,12 +34,23 @@ class Beside:
         return self.going[test]
 
     def load_tests(self, _loader: object, chosen: unittest.TestSuite, _pattern: object) -> unittest.TestSuite:
-        """Begins what goes on for the chosen tests, in the order in which it stands."""
-        names = {*names_of(chosen)}
-        for test in self.starts:
+        return Beginning(self, chosen)
+
+
+class Beginning(unittest.TestSuite):
+    """The chosen tests. Once they run, and not if they are only looked at, what goes on for them begins in the order in
+    which it stands."""
+
+    def __init__(self, beside: Beside, chosen: unittest.TestSuite) -> None:
+        super().__init__(chosen)
+        self.beside = beside
+
+    def run(self, result: unittest.TestResult, debug: bool = False) -> unittest.TestResult:
+        names = {*names_of(self)}
+        for test in self.beside.starts:
             if test in names:
-                self.begun(test)
-        return chosen
+                self.beside.begun(test)
+        return super().run(result, debug)
 
 
 class Case(unittest.TestCase):

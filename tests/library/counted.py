@@ -1,6 +1,6 @@
 """Checks that are printed one by one and counted: the last line is 'N passed, M failed'. Tests of tools are unittest
 cases, which check in the same way (tests/library/cases.py)."""
-
+import re
 from typing import Callable, Optional
 
 passed = failed = 0
@@ -31,6 +31,18 @@ def check_sound(name: str, fault: Optional[str]) -> None:
     global passed, failed
     passed, failed = passed + (not fault), failed + bool(fault)
     print("FAIL" if fault else "ok  ", name + (f"\n     {fault}" if fault else ""), flush=True)
+
+
+def check_run(name: str, output: str) -> None:
+    """Prints what another run of checks has printed, and counts its checks with these. A run whose last line does not
+    say how many they were has not come to its end."""
+    global passed, failed
+    *lines, last = output.splitlines() or [""]
+    print("\n".join(lines))
+    found = re.fullmatch(r"(\d+) passed, (\d+) failed", last)
+    if found:
+        passed, failed = passed + int(found[1]), failed + int(found[2])
+    check_sound(name, None if found else last or "it says nothing")
 
 
 def end() -> bool:

@@ -27,6 +27,15 @@ CHECKS = (
 )
 COUNTED = ("import sys\nfrom tests.library import counted\ndef part(): counted.check('it', {})\n"
            "sys.exit(counted.run(part))")
+# What another run has printed, the last line of one that counts its checks, and words of what is printed.
+OTHERS = (
+    ("ok   one\nok   two\n2 passed, 0 failed\n", "3 passed, 0 failed", "ok   one\nok   two\nok   it\n"),
+    ("FAIL one\n     seen 1\n0 passed, 1 failed", "1 passed, 1 failed", "FAIL one\n     seen 1\nok   it\n"),
+    ("ok   one\n", "0 passed, 1 failed", "FAIL it\n     ok   one\n"),
+    ("1 passed, 0 failed\nTerminated\n", "0 passed, 1 failed", "1 passed, 0 failed\nFAIL it\n     Terminated\n"),
+    ("", "0 passed, 1 failed", "FAIL it\n     it says nothing\n"),
+)
+OTHER = "import sys\nfrom tests.library import counted\ncounted.check_run('it', {!r})\nsys.exit(counted.end())"
 OPENING = "import unittest\nfrom tests.library.cases import Case\nclass It(Case):\n"
 CASE = OPENING + "    def test_it(self): self.check('it', {})\nunittest.main()"
 # Tests, and the last line of their run with words of what they print.
@@ -49,10 +58,24 @@ class Result:
     startTest = stopTest = addSuccess = addFailure = addError = addSkip = lambda *given: None
 It('test_it').run(Result())
 """
-FOUND = """import unittest
+# Three tests beside which something goes on, of which two are chosen.
+BESIDE = """import unittest
+from tests.library.cases import Beside, Case
+def begins(name): return lambda: print("begun", name) or name
+beside = Beside({name: begins(name) for name in "cba"})
+load_tests = beside.load_tests
+class It(Case):
+    def test_a(self): self.check("a", beside.begun("a"), "a")
+    def test_b(self): self.check("b", beside.begun("b"), "b")
+    def test_c(self): self.check("c", beside.begun("c"), "c")
+print("loaded")
+unittest.main(argv=["it", "-k", "test_a", "-k", "test_b"])
+"""
+FOUND = """import threading, unittest
 def ids(suite):
     return [name for one in suite for name in ([one.id()] if isinstance(one, unittest.TestCase) else ids(one))]
 print('found', *sorted({name.split('.')[2] for name in ids(unittest.defaultTestLoader.discover('.'))}))
+print('threads:', threading.active_count())
 """
 
 
@@ -82,10 +105,20 @@ class Counting(Case):
             self.check(f"a case: {words[0]}", (status, seen, [it for it in words if it not in printed]),
                        (wanted, [last], []), shown=printed)
 
+    def test_the_checks_of_another_run_are_counted_if_it_came_to_its_end(self) -> None:
+        for others, last, words in OTHERS:
+            status, seen, printed = run(OTHER.format(others))
+            self.check(f"another run: {others.splitlines()[-1:]}", (status, seen, words in printed),
+                       (int("1 failed" in last), [last], True), shown=printed)
+
     def test_a_case_needs_no_lists_of_its_result(self) -> None:
         """A case under a result of pytest's."""
         status, last, printed = run(BARE)
         self.check("a case needs no lists of its result", (status, last), (0, ["1 passed, 0 failed"]), shown=printed)
+
+    def test_what_goes_on_beside_the_chosen_tests_begins_before_them_and_once(self) -> None:
+        self.check("what goes on beside two tests", run(BESIDE)[2].splitlines(),
+                   ["loaded", "begun b", "begun a", "ok   a", "ok   b", "2 passed, 0 failed"])
 
     def test_unittest_discover_finds_each_file_of_tests(self) -> None:
         printed = run(FOUND)[2]
@@ -93,3 +126,4 @@ class Counting(Case):
         names = {module.rpartition(".")[2] for module in tool_tests.files(ROOT).values()}
         self.check("all files are found", sorted(it for it in names - found if it.startswith("test_")), [],
                    shown=printed)
+        self.check("what goes on beside tests has not begun", "threads: 1" in printed.splitlines(), shown=printed)
