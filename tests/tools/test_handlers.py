@@ -142,6 +142,8 @@ class Handlers(WithService):
         head, _ = handler.next()
         handler.answer(head, b"ten bytes.")
         self.check("HEAD has no body", (requester.answer()[0], requester.answer()[2]), (200, b""))
+        handler.close()  # (it has ended already if its body came behind its head)
+        handler = self.handler()
         requester = Requester(self.service, "GET", "/204")
         head, _ = handler.next()
         handler.answer(head, b"", (("Lambda-Local-Status", "204"),))
