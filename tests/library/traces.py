@@ -1,6 +1,11 @@
-"""The entries of a history or a script, as the program traces them."""
+"""The entries of a history or a script, as the program traces them, and those of lines, as they are read."""
+from typing import List, Sequence, Tuple
+
+from lambda_local.history.entries import Entry
+from lambda_local.history.reader import Reader
 from lambda_local.history.replay import entries_of_script
 from lambda_local.history.script import Script
+from lambda_local.history.shapes import NotTrace
 from tests.library.timelines import PROGRAM
 
 
@@ -10,3 +15,27 @@ def entries_in(text):
         return list(entries_of_script(script, PROGRAM))
     finally:
         script.close()
+
+
+def one_by_one(lines: Sequence[bytes], environments: int) -> Tuple[List[Entry], str]:
+    """The entries that are read of lines, and what is said of the first that is none."""
+    each = Reader(environments)
+    found: List[Entry] = []
+    try:
+        for line in lines:
+            found.append(each.take(line))
+    except NotTrace as fault:
+        return found, str(fault)
+    return found, ""
+
+
+def all_at_once(lines: Sequence[bytes], environments: int) -> Tuple[List[Entry], str]:
+    """The same, as a task reads what has come."""
+    each = Reader(environments)
+    found: List[Entry] = []
+    try:
+        while len(found) < len(lines):
+            found += each.take_all(lines[len(found):])
+    except NotTrace as fault:
+        return found, str(fault)
+    return found, ""

@@ -35,6 +35,7 @@ from tests import ROOT
 from tests.library import given_fuzz, http_fuzz, identity_fuzz, strategies
 from tests.library.cases import Case
 from tests.library.given_fuzz import CONTROL, is_a_line
+from tests.library.traces import all_at_once, one_by_one
 
 try:
     from hypothesis import HealthCheck, Phase, given, seed, settings
@@ -129,6 +130,8 @@ def of_traces(data):
             assert isinstance(entry.own, (Answer, type(None)))
             for event in life.take(entry):
                 str(event)
+    lines, count = data.split(b"\n"), len(life.environments)
+    assert all_at_once(lines, count) == one_by_one(lines, count)
 
 
 def of_templates(data):

@@ -19,7 +19,7 @@ from lambda_local.up.following import Following
 from tests.library.cases import Case
 from tests.library.fake_trace import HEAD, LAST, Fake, chunks, failed, line
 from tests.library.timelines import PROGRAM
-from tests.library.traces import entries_in
+from tests.library.traces import all_at_once, entries_in, one_by_one
 from tests.library.up_kit import until
 
 REQUEST = "00000000-0000-8000-8001-000000000001"
@@ -72,8 +72,8 @@ def entries_of(following):
     async def take():
         entries = []
         try:
-            while (one := await following.entry()) is not None:
-                entries.append(one)
+            while some := await following.entries():
+                entries += some
         except (Lost, NotTrace) as fault:
             return entries, str(fault)
         finally:
@@ -122,6 +122,26 @@ def as_task(*answers, pieces=1 << 20, silent=False, **more):
 
 
 TARGET = "/_local/trace?follow=1&from="
+BARE, OTHER, LAST_ONE = (line(ticket).strip() for ticket in range(3))
+# Lines that are entries only together with those beside them, each by what goes over from one to the next.
+ONLY_TOGETHER = {
+    "a string": [b'{"answers":[],"call":{"function":"}', b'{","kind":"reserve"},"moment":0,"phases":[],'
+                 b'"released":[],"ticket":0}'],
+    "an array": [b'{"answers":[{"answer":"accepted","ticket":0}', b'{"answer":"done","ticket":0}],"call":'
+                 b'{"kind":"tick"},"moment":0,"phases":[],"released":[],"ticket":0}'],
+    "an array, and a second entry": [b'{"answers":[{"answer":"accepted","ticket":0}', b'{"answer":"done","ticket":0}]'
+                                     b',"call":{"kind":"tick"},"moment":0,"phases":[],"released":[],"ticket":0},0,'
+                                     + OTHER],
+    "an array between two entries": [BARE + b",[{}", b"{}]," + OTHER],
+    "a value too many": [BARE + b",0,{}", b'{"answers":[{}', b"{}]}"],
+    "two entries in a line, and one in two": [BARE + b",0," + OTHER, LAST_ONE[:-13], LAST_ONE[-13:]],
+    "an object": [BARE[:-1], b'"ticket":0}', OTHER]}
+NOT_BESIDE_OTHERS = {
+    "a member twice": BARE[:-1] + b',"ticket":0}', "a blank after a name": BARE.replace(b'"moment":', b'"moment" :'),
+    "a number that is not whole": BARE.replace(b'"moment":0', b'"moment":0.0'), "nothing": b"", "a zero": b"0",
+    "half a character": BARE.replace(b"next", b"\xe2\x82"), "a blank before it": b" " + BARE,
+    "a flag": BARE.replace(b'"environment":1', b'"environment":true'), "two entries": BARE + b"," + OTHER,
+    "5,000 digits": BARE.replace(b'"moment":0', b'"moment":' + b"1" * 5000), "depth": b"[" * 100_000}
 
 
 class History(Case):
@@ -172,6 +192,20 @@ class History(Case):
                            [entry(0), entry(1), entry(2)])
             with as_task(HEAD + chunks(body, size) + LAST, pieces=pieces) as (running, _):
                 self.check("and to a task", entries_of(running), ([entry(0), entry(1), entry(2)], ""))
+
+    def test_each_line_is_an_entry_also_of_those_that_are_read_at_once(self):
+        """What is refused of a line alone is refused beside others, by the same words, after the entries before it."""
+        for name, lines in ONLY_TOGETHER.items():
+            found, said = all_at_once(lines, 1)
+            self.check(f"{name}: the same as each alone", (found, said), one_by_one(lines, 1))
+            self.check(f"{name}: it is refused", (found, said[:8]), ([], "entry 0 "))
+        for name, wrong in NOT_BESIDE_OTHERS.items():
+            found, said = all_at_once([BARE, OTHER, wrong, LAST_ONE], 1)
+            self.check(f"{name}: the same as alone", (found, said), one_by_one([BARE, OTHER, wrong, LAST_ONE], 1))
+            self.check(f"{name}: it is refused after those before it", ([one.ticket for one in found], said[:8]),
+                       ([0, 1], "entry 2 "))
+        self.check("right ones are all read", all_at_once([BARE, OTHER, LAST_ONE], 1),
+                   ([entry(0), entry(1), entry(2)], ""))
 
     def test_a_connection_that_breaks_goes_on_with_the_next_entry(self):
         with following(HEAD + chunks(line(0)), HEAD + chunks(line(1) + line(2)[:20]), HEAD + chunks(line(2)) + LAST

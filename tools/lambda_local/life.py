@@ -8,12 +8,12 @@ that close (docs/semantics.md).
 
 The events are an invocation that a runtime was given, one that ended, one that was throttled, and an environment that
 closes."""
-from typing import Dict, Iterator, List, NamedTuple, Optional, Union
+from typing import Dict, List, NamedTuple, Optional, Union
 
 from .configuration import Members
 from .history import generations
 from .history.entries import Answer, Entry
-from .history.generations import Extension as Extension, Generation as Generation, Generations, Turn
+from .history.generations import Extension as Extension, Generation as Generation, Generations
 from .history.words import ENDINGS, FAILURES, INIT_FAILURE, INVOKE, Word
 
 
@@ -108,18 +108,23 @@ class Life:
                                                              function.get("extensions", []))
         self.invocations: Dict[int, Invocation] = {}  # those without an answer, by ticket
 
-    def take(self, entry: Entry) -> Iterator[Event]:
+    def take(self, entry: Entry) -> List[Event]:
         """The events of an entry."""
+        events: List[Event] = []
         if entry.call.kind == INVOKE:
-            yield from self._invoked(entry)
-        failed = self._extension_of(entry)
+            self._invoked(entry, events)
+        failed = None if entry.call.extension is None else self._extension_of(entry)
         turns = self.generations.take(entry)
         for answer in entry.answers:
-            if answer.word in ENDINGS:
-                yield from self._ended(entry, answer)
-            elif answer.word is Word.DELIVER:
-                yield from self._delivered(entry, answer)
-        yield from self._closed(entry, turns, failed)
+            if answer.word is Word.DELIVER:
+                self._delivered(entry, answer, events)
+            elif answer.word in ENDINGS:
+                self._ended(entry, answer, events)
+        for turn in turns:
+            if turn.closes:
+                events.append(Closes(entry.moment, self.environments[turn.environment.number], turn.generation,
+                                     entry.call.kind, failed, turn.generation.is_ready))
+        return events
 
     def reporter(self, entry: Entry) -> Optional[Reporter]:
         """Who reports a failure by an entry that is taken next; none if none is reported."""
@@ -128,10 +133,10 @@ class Life:
         extension = self._extension_of(entry) if entry.call.kind in FAILURES else None
         return extension.identifier if extension else None
 
-    def _invoked(self, entry: Entry) -> Iterator[Event]:
+    def _invoked(self, entry: Entry, events: List[Event]) -> None:
         function, own = str(entry.call.function), entry.own
         if own and own.word is Word.THROTTLED:
-            yield Throttled(entry.moment, function, own.reason or "")
+            events.append(Throttled(entry.moment, function, own.reason or ""))
         else:
             self.invocations[entry.ticket] = Invocation(function, entry.request or "", entry.moment,
                                                         self.environments.get(entry.place or 0))
@@ -141,25 +146,18 @@ class Life:
         environment = self.environments.get(entry.call.environment or 0)
         return environment.generation.extensions.get(entry.call.extension or 0) if environment else None
 
-    def _delivered(self, entry: Entry, answer: Answer) -> Iterator[Event]:
+    def _delivered(self, entry: Entry, answer: Answer, events: List[Event]) -> None:
         invocation = self.invocations.get(-1 if answer.source is None else answer.source)
         if invocation and invocation.environment:
             generation = invocation.environment.generation
             invocation.delivered = entry.moment
             invocation.asked = generation.asked if generation.deliveries == 1 else None
-            yield Begun(entry.moment, invocation, invocation.environment)
+            events.append(Begun(entry.moment, invocation, invocation.environment))
 
-    def _ended(self, entry: Entry, answer: Answer) -> Iterator[Event]:
+    def _ended(self, entry: Entry, answer: Answer, events: List[Event]) -> None:
         invocation = self.invocations.pop(answer.ticket, None)
         if invocation is None:
             return  # (the answer to another call: a reservation after a stop)
         invocation.is_over = True
         length = answer.length if answer.body is None else len(answer.body)
-        yield Ended(entry.moment, invocation, invocation.environment, answer.word, answer.body, length)
-
-    def _closed(self, entry: Entry, turns: List[Turn], failed: Optional[Extension]) -> Iterator[Event]:
-        """The generations that begin to close by this entry."""
-        for turn in turns:
-            if turn.closes:
-                yield Closes(entry.moment, self.environments[turn.environment.number], turn.generation,
-                             entry.call.kind, failed, turn.generation.is_ready)
+        events.append(Ended(entry.moment, invocation, invocation.environment, answer.word, answer.body, length))

@@ -5,7 +5,7 @@ a trace say it.
     for entry in entries:
         for turn in generations.take(entry):
             .."""
-from typing import Dict, Iterator, List, NamedTuple, Optional, Sequence, Tuple, Union
+from typing import Dict, Iterable, List, NamedTuple, Optional, Sequence, Tuple, Union
 
 from .entries import Entry, Phase, count_in
 from .words import (BUSY, CLOSING, EXPIRE, EXT_NEXT, FAILURES, IDLE, NEXT, OFF, REGISTER, SPINDOWN, STARTING, STOP,
@@ -97,9 +97,8 @@ class Generations:
             self._note(environment.generation, entry)
         if self.polls:
             self._answered(entry)
-        if not entry.phases and entry.call.kind not in MAY_END:
-            return []
-        return list(self._turns(entry, environment))
+        may_end = entry.call.kind in MAY_END
+        return self._turns(entry, environment, may_end) if entry.phases or may_end else []
 
     def _note(self, generation: Generation, entry: Entry) -> None:
         """What a call says of the one who makes it."""
@@ -140,18 +139,21 @@ class Generations:
             elif answer.word is Word.DELIVER:
                 generation.deliveries += 1
 
-    def _turns(self, entry: Entry, named: Optional[Environment]) -> Iterator[Turn]:
-        after = {phase.environment: phase for phase in entry.phases}
-        numbers = self.environments if entry.call.kind == STOP else {*after, *([named.number] if named else [])}
+    def _turns(self, entry: Entry, named: Optional[Environment], may_end: bool) -> List[Turn]:
+        turns, after = [], {phase.environment: phase for phase in entry.phases}
+        numbers: Iterable[int] = after
+        if may_end:  # (then also one whose phase it does not change)
+            numbers = self.environments if entry.call.kind == STOP else {*after, *([named.number] if named else [])}
         for number in sorted(numbers):
             environment = self.environments[number]
             was, generation = environment.phase, environment.generation
             now = after.get(number, was)
-            closes = self._reason(entry, was, now)
+            closes = self._reason(entry, was, now) if may_end or now.name == CLOSING else None
             is_over = (closes is not None or was.name == CLOSING) and now.name != CLOSING
             if closes or is_over or now is not was:
                 self._change(environment, now, entry, closes, is_over)
-                yield Turn(environment, generation, was, now, closes, is_over)
+                turns.append(Turn(environment, generation, was, now, closes, is_over))
+        return turns
 
     @staticmethod
     def _reason(entry: Entry, was: Phase, now: Phase) -> Optional[str]:

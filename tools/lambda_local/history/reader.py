@@ -1,12 +1,14 @@
 """Reads a trace (docs/trace.md): one JSON object a line, with the members that an entry has, in the order of their
 names, and no others (`shapes`)."""
+import functools
 import json
-from typing import IO, Any, Dict, Iterable, Iterator, NoReturn, Sequence, Tuple
+from typing import IO, Any, Callable, Dict, Iterable, Iterator, List, NoReturn, Optional, Sequence, Tuple
 
-from .entries import Call, Entry
+from .entries import Entry
 from .shapes import ANSWERS, CALLS, ENTRIES, MOST, PHASES, NotTrace, Shape, Shapes, shown
 
 LONGEST_LINE = 256 << 20  # bytes: two bodies of a script's longest line, each byte of them as an escape
+NEW: Callable[[Sequence[Any]], Entry] = functools.partial(tuple.__new__, Entry)
 
 
 def made_of(given: object, shapes: Shapes, what: str) -> Any:
@@ -14,7 +16,7 @@ def made_of(given: object, shapes: Shapes, what: str) -> Any:
     if type(given) is dict:
         shape = shapes.get(tuple(given))
         if shape is not None:
-            made = shape.make(tuple(given.values()))
+            made = shape.make(given)
             if made is not None:
                 return made
             raise wrong(what, given, shape)
@@ -52,15 +54,22 @@ def entry_of(line: bytes) -> Entry:
         raise NotTrace(f"it is not JSON: {fault}") from None
     if text[end:] not in ("", "\n"):
         raise NotTrace(f"after the object it goes on: {shown(text[end:])}")
-    entry: Entry = made_of(given, ENTRIES, "an entry")
-    parts = [given, given["call"], *given["answers"], *given["phases"]]
-    answers = tuple([made_of(answer, ANSWERS, "an answer") for answer in given["answers"]])
-    phases = tuple([made_of(phase, PHASES, "a phase") for phase in given["phases"]])
-    call: Call = made_of(given["call"], CALLS, "a call")
+    return entry_in(given, line)
+
+
+def entry_in(given: Any, line: bytes) -> Entry:
+    """The entry that an object says, which is all of this line."""
+    made: Entry = made_of(given, ENTRIES, "an entry")
+    answers, phases, call = given["answers"], given["phases"], given["call"]
+    answers_made = tuple([made_of(answer, ANSWERS, "an answer") for answer in answers]) if answers else ()
+    phases_made = tuple([made_of(phase, PHASES, "a phase") for phase in phases]) if phases else ()
+    call_made = made_of(call, CALLS, "a call")
     # (The names of members, which end with a quotation mark; in a string there is a backslash before it.)
-    if text.count('":') - text.count('\\":') != sum(map(len, parts)):
+    names = line.count(b'":') - (line.count(b'\\":') if b"\\" in line else 0)
+    if names != len(given) + len(call) + sum(map(len, answers)) + sum(map(len, phases)):
         raise NotTrace("an object has a member twice")
-    return entry._replace(call=call, answers=answers, phases=phases, released=tickets_of(entry.released))
+    released = tickets_of(made.released) if made.released else ()
+    return NEW((made[0], made[1], call_made, answers_made, phases_made, released, *made[6:]))
 
 
 def tickets_of(given: Sequence[object]) -> Tuple[int, ...]:
@@ -70,39 +79,62 @@ def tickets_of(given: Sequence[object]) -> Tuple[int, ...]:
     return found
 
 
+def entries_at_once(lines: Sequence[bytes]) -> Optional[List[Entry]]:
+    """The entries of these lines without their ends, which are read as one array; none if one of them may have a fault.
+
+    Between two lines there is a zero, with a line feed, which no string has. A line begins and ends with a brace: so if
+    one left an array open, that zero would be in it beside an object, and no array of an entry has both. If each second
+    value is a zero, and the others are entries, one for each line, then no line has more than its own."""
+    text, between = b",0,\n".join(lines), len(lines) - 1
+    if (text[:1], text[-1:]) != (b"{", b"}") or not text.count(b"\n") == text.count(b"},0,\n{") == between:
+        return None
+    try:
+        values = DECODER.decode(f"[{text.decode()}]")
+        if len(values) != len(lines) + between or values[1::2] != [0] * between:
+            return None
+        return [entry_in(given, line) for given, line in zip(values[::2], lines)]
+    except (ValueError, RecursionError):  # (NotTrace too: what is wrong is told of the line alone)
+        return None
+
+
 class Reader:
     """The entries of lines that come one after the other: tickets rise by one, and moments never fall."""
 
-    def __init__(self, environments: int, first: int = 0) -> None:
-        self.environments, self.next, self.moment = environments, first, 0
-
-    def read(self, line: bytes) -> Entry:
-        """The entry of a line, which is not counted yet; NotTrace if it is not the next one."""
-        try:
-            entry = entry_of(line)
-            self._look_at(entry)
-        except NotTrace as fault:
-            raise NotTrace(f"entry {self.next} of the trace: {fault}") from None
-        return entry
-
-    def count(self, entry: Entry) -> None:
-        """From here on the one after it is the next."""
-        self.next, self.moment = entry.ticket + 1, entry.moment
+    def __init__(self, environments: int, first: int = 0, moment: int = 0) -> None:
+        """The first entry has this ticket, and is not before this moment."""
+        self.environments, self.next, self.moment = environments, first, moment
 
     def take(self, line: bytes) -> Entry:
-        """The entry of a line, which is counted; NotTrace if it is not the next one."""
-        entry = self.read(line)
-        self.count(entry)
-        return entry
+        """The entry of a line; NotTrace if it is not the next one."""
+        return self._take([], map(entry_of, (line, )))[0]
+
+    def take_all(self, lines: Sequence[bytes]) -> List[Entry]:
+        """The entries of lines without their ends, up to the first that is not the next one; NotTrace if none is."""
+        return self._take([], entries_at_once(lines) or map(entry_of, lines))
+
+    def _take(self, taken: List[Entry], entries: Iterable[Entry]) -> List[Entry]:
+        try:
+            for entry in entries:
+                self._look_at(entry)
+                self.next, self.moment = entry.ticket + 1, entry.moment
+                taken.append(entry)
+        except NotTrace as fault:
+            if not taken:
+                raise NotTrace(f"entry {self.next} of the trace: {fault}") from None
+        return taken
 
     def _look_at(self, entry: Entry) -> None:
         if entry.ticket != self.next:
             raise NotTrace(f"its ticket is {entry.ticket}, and not {self.next}")
         if entry.moment < self.moment:
             raise NotTrace(f"its moment {entry.moment} is before {self.moment}, that of the entry before it")
-        named = [phase.environment for phase in entry.phases]
-        named += [number for number in (entry.call.environment, entry.place, entry.expires) if number is not None]
-        if named and not (0 < min(named) and max(named) <= self.environments):
+        number, most = entry.call.environment, self.environments
+        is_known = number is None or 0 < number <= most
+        for number in (entry.place, entry.expires):
+            is_known = is_known and (number is None or 0 < number <= most)
+        for phase in entry.phases:
+            is_known = is_known and 0 < phase.environment <= most
+        if not is_known:
             raise NotTrace("it names an environment that the configuration does not have")
 
 

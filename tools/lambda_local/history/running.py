@@ -144,7 +144,10 @@ class Running:
 
 def has_report(entry: Entry) -> bool:
     """Whether a failure is reported in it."""
-    return entry.call.kind in FAILURES or any(answer.word is Word.ERROR for answer in entry.answers)
+    for answer in entry.answers:
+        if answer.word is Word.ERROR:
+            return True
+    return entry.call.kind in FAILURES
 
 
 def lost(fault: Exception) -> Lost:

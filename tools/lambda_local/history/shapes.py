@@ -1,9 +1,7 @@
 """The objects of a trace by their members (docs/trace.md): what an entry, a call, an answer and a phase may have."""
 import base64
 import binascii
-import functools
 import itertools
-import operator
 import re
 from typing import Any, Callable, Dict, FrozenSet, Iterable, Iterator, List, NamedTuple, Optional, Tuple, Type, Union
 
@@ -15,7 +13,7 @@ IDENTIFIER = re.compile(r"[0-9a-f]{8}-[0-9a-f]{4}-[0-9a-f]{4}-[0-9a-f]{4}-[0-9a-
 Made = Union[Call, Answer, Phase, Entry]
 Check = Callable[[Any], object]
 Change = Callable[[Any], Any]
-Make = Callable[[Tuple[Any, ...]], Optional[Made]]
+Make = Callable[[Dict[str, Any]], Optional[Made]]
 Known = Iterable[Tuple[str, str, str]]  # words, the members that each has, and those that it may have
 
 
@@ -30,7 +28,7 @@ class Shape(NamedTuple):
     checks: Tuple[Tuple[int, Check], ...]  # the places of words, names and identifiers
     reasons: Optional[Dict[str, FrozenSet[str]]]  # of each word, if the first two members are a word and a reason
     changes: Tuple[Tuple[int, Change], ...]  # the places of words and bytes
-    make: Make  # of the values, if they are all right
+    make: Make  # of one, if it is all right
 
 
 def shown(value: object) -> str:
@@ -92,32 +90,21 @@ KNOWN_ENTRIES: Known = (("", "answers call moment phases released ticket", "char
 
 
 def maker(kind: Type[Any], fields: Dict[str, str], names: Tuple[str, ...], shape: Shape) -> Make:
-    """What makes a tuple of this kind of the values of members, if they are all right. It is called for each object of
-    a trace."""
-    types, numbers, checks, reasons, changes = shape.types, shape.numbers, shape.checks, shape.reasons, shape.changes
-    defaults = tuple(kind._field_defaults.get(field) for field in kind._fields)
-    places = {fields.get(name, name): place for place, name in enumerate(names)}
-    ordered = operator.itemgetter(*(places.get(field, len(names) + at) for at, field in enumerate(kind._fields)))
-    new: Any = functools.partial(tuple.__new__, kind)
-
-    def make(values: Tuple[Any, ...]) -> Optional[Made]:
-        if tuple(map(type, values)) != types:
-            return None
-        for place in numbers:
-            if not 0 <= values[place] < MOST:
-                return None
-        for place, check in checks:
-            if not check(values[place]):
-                return None
-        if reasons and values[1] not in reasons[values[0]]:
-            return None
-        if changes:
-            changed = list(values)
-            for place, change in changes:
-                changed[place] = change(changed[place])
-            values = tuple(changed)
-        made: Made = new(ordered(values + defaults))
-        return made
+    """What makes a tuple of this kind of the values of members, if they are all right. It is compiled, as those of
+    named tuples are: it is called for each object of a trace."""
+    known: Dict[str, Any] = {"new": tuple.__new__, "kind": kind, "MOST": MOST, "reasons": shape.reasons}
+    wanted = [f"type(v{place}) is {a_type.__name__}" for place, a_type in enumerate(shape.types)]
+    wanted += [f"0 <= v{place} < MOST" for place in shape.numbers]
+    wanted += [f"check{place}(v{place})" for place, _ in shape.checks]
+    wanted += ["v1 in reasons[v0]"] if shape.reasons else []
+    known.update((f"check{place}", check) for place, check in shape.checks)
+    known.update((f"change{place}", change) for place, change in shape.changes)
+    values = {fields.get(name, name): f"v{place}" for place, name in enumerate(names)}
+    made = [values.get(field, repr(kind._field_defaults.get(field))) for field in kind._fields]
+    exec("\n".join([f"def make(given):\n    {', '.join(values.values())}, = given.values()\n    if {' and '.join(wanted)}:",
+                    *(f"        v{place} = change{place}(v{place})" for place, _ in shape.changes),
+                    f"        return new(kind, ({', '.join(made)}))"]), known)
+    make: Make = known["make"]
     return make
 
 

@@ -1,7 +1,7 @@
 """The words of a history: what a call is answered with, the kinds of calls, and the phases of environments
 (docs/trace.md)."""
 import enum
-from typing import Tuple
+from typing import FrozenSet, Tuple
 
 
 class Word(str, enum.Enum):
@@ -29,10 +29,14 @@ class Word(str, enum.Enum):
         return str.__str__(self)
 
 
+for each in Word:
+    type.__setattr__(Word, each.name, each)  # (Python 3.11 calls a function for each use of a member's name)
+
+
 # An invocation that was served is answered by one of these: by its function, or in its place.
 SERVED: Tuple[Word, ...] = (Word.OUTPUT, Word.ERROR, Word.TIMEOUT, Word.INIT_TIMEOUT, Word.TOO_LARGE_OUTPUT)
 # An invocation that was admitted ends with one of these.
-ENDINGS: Tuple[Word, ...] = (*SERVED, Word.STOPPED)
+ENDINGS: FrozenSet[Word] = frozenset((*SERVED, Word.STOPPED))
 
 INVOKE, NEXT, RESPONSE, RESPONSE_TOO_LARGE, FAILURE = "invoke", "next", "response", "response-too-large", "failure"
 INIT_FAILURE, REGISTER, EXT_NEXT = "init-failure", "register", "ext-next"

@@ -24,13 +24,13 @@ class Pairing:
         self.placed: Dict[int, Placed] = {}  # those without an answer, by ticket
 
     def take(self, entry: Entry) -> None:
-        token = token_in(entry.call.trace) if entry.call.kind == INVOKE else None
         if entry.charged is not None and entry.request is not None and entry.place is not None:
+            token = token_in(entry.call.trace) if entry.call.kind == INVOKE else None
             if token is not None:
                 self.call(self.streams.placed, token, entry.request, entry.place)
             if entry.place in self.environments:
                 self.placed[entry.ticket] = Placed(entry.request, entry.place)
-        for answer in entry.answers:
+        for answer in entry.answers if self.placed else ():
             if answer.word is Word.DELIVER and answer.source is not None:
                 self._tell(self.streams.delivered, self.placed.get(answer.source))
             elif answer.word in ENDINGS:

@@ -1,8 +1,7 @@
 """The service's followed trace as a task reads it: its entries as they come, without bodies but for the few that have a
 report with them. `history.running` has the same for a thread."""
 import asyncio
-from collections import deque
-from typing import Callable, Deque, Optional
+from typing import Callable, List, Optional
 
 from ..front.client import Client, ServiceWire
 from ..front.http import Body
@@ -14,7 +13,7 @@ from ..http1 import Data, request_head
 from .bell import Bell
 
 REST = 0.01  # seconds
-AT_ONCE = 16  # entries, after which others have their turn
+AT_ONCE = 64  # entries, after which others have their turn
 LONGEST_REFUSAL = 1 << 20  # bytes
 
 
@@ -28,7 +27,7 @@ class Trace:
     def __init__(self, port: int, silence: float) -> None:
         self.port, self.silence = port, silence
         self.split = Lines()
-        self.lines: Deque[bytes] = deque()
+        self.lines: List[bytes] = []  # that have come, and were not taken
         self.wire: Optional[ServiceWire] = None
         self.body: Optional[Body] = None  # while more of it is to come
         self.is_silent = False
@@ -71,9 +70,9 @@ class Trace:
         fault = self.wire.responses.fault if self.wire else None
         return lost(fault) if fault else Lost("it has closed the connection")
 
-    async def line(self) -> Optional[bytes]:
-        """The next one, without its end; none after the last. Silent if nothing comes for long, Lost if it breaks off,
-        NotTrace if it ends within a line."""
+    async def come(self) -> List[bytes]:
+        """Those that have come, once there are some; none after the last. Silent if nothing comes for long, Lost if it
+        breaks off, NotTrace if it ends within a line."""
         while not self.lines and self.body is not None:
             try:
                 assert self.wire is not None
@@ -81,11 +80,11 @@ class Trace:
             except Gone:
                 raise (Silent() if self.is_silent else self.broken()) from None
             if isinstance(event, Data):
-                self.lines.extend(self.split.feed(event.data))
+                self.lines += self.split.feed(event.data)
             else:
                 self.body = None
                 self.split.end()
-        return self.lines.popleft() if self.lines else None
+        return self.lines
 
     def hold(self) -> None:
         """Nothing more is read until the next line is asked for."""
@@ -106,23 +105,23 @@ class Following:
     def __init__(self, port: int, environments: int, loop: asyncio.AbstractEventLoop, silence: float = SILENCE,
                  is_awaited: Callable[[], bool] = lambda: True) -> None:
         """If it `is_awaited`, somebody waits for the next entry; who begins to rings `hurry`."""
-        self.port, self.silence = port, silence
+        self.port, self.silence, self.environments = port, silence, environments
+        self.next = self.moment = 0  # the ticket of the first entry that was not taken, and the moment of that before
         self._reader = Reader(environments)
+        self._read: List[Entry] = []  # those that were read, and not taken yet
         self._tries = 0  # to get the next entry with its report
         self._trace: Optional[Trace] = None
         self.hurry, self.is_awaited = Bell(loop), is_awaited
 
-    @property
-    def next(self) -> int:
-        """The ticket of the first entry that was not taken yet."""
-        return self._reader.next
-
-    async def entry(self) -> Optional[Entry]:
-        """The next entry, once it comes; none once the service is Off. Lost if the service does not answer, NotTrace if
-        its answer is none: it may be asked again, and goes on with the same one."""
+    async def entries(self) -> List[Entry]:
+        """The next entries, once there are some; none once the service is Off. Lost if the service does not answer,
+        NotTrace if its answer is none: it may be asked again, and goes on with the same one."""
         while True:
             try:
-                return await self._entry()
+                found = await self._entries()
+                if found:
+                    self.next, self.moment = found[-1].ticket + 1, found[-1].moment
+                return found
             except Silent:
                 self.close()
             except (OSError, Lost) as fault:
@@ -132,24 +131,40 @@ class Following:
                 self.close()
                 raise
 
-    async def _entry(self) -> Optional[Entry]:
+    async def _entries(self) -> List[Entry]:
+        if not self._read:
+            self._read = await self._some()
+        without = next((count for count, entry in enumerate(self._read) if has_report(entry)), len(self._read))
+        if self._read and not without:
+            return [await self._reported()]
+        found, self._read = self._read[:without], self._read[without:]
+        return found
+
+    async def _some(self) -> List[Entry]:
+        """Some that have come, without bodies; none after the last."""
         if self._trace is None:
             self._trace = Trace(self.port, self.silence)
             await self._trace.ask(f"follow=1&from={self.next}&bodies=none")
         elif not self._trace.lines:
             await self._rest(self._trace)
-        line = await self._trace.line()
-        if line is None:
-            self.close()
-            return None
-        if self.next % AT_ONCE == 0:
+        else:
             await asyncio.sleep(0)
-        entry = self._reader.read(line)
-        if has_report(entry) and self._tries < MOST_TRIES:
+        lines = await self._trace.come()
+        if not lines:
+            self.close()
+            return []
+        found = self._reader.take_all(lines[:AT_ONCE])
+        del lines[:len(found)]
+        return found
+
+    async def _reported(self) -> Entry:
+        """The next one, which has a report, with its bodies; after some tries without."""
+        entry = self._read[0]
+        if self._tries < MOST_TRIES:
             self._tries += 1
             entry = await self._whole(entry)
         self._tries = 0
-        self._reader.count(entry)
+        del self._read[0]
         return entry
 
     async def _rest(self, trace: Trace) -> None:
@@ -164,17 +179,18 @@ class Following:
         trace = Trace(self.port, self.silence)
         try:
             await trace.ask(f"from={entry.ticket}")
-            line = await trace.line()
-            if line is None:
+            lines = await trace.come()
+            if not lines:
                 raise Lost(f"it does not give entry {entry.ticket} again")
-            return self._reader.read(line)
+            return Reader(self.environments, entry.ticket, entry.moment).take(lines[0])
         except MemoryError:
             return entry
         finally:
             trace.close()
 
     def close(self) -> None:
-        """Ends the connection, if there is one."""
+        """Ends the connection, if there is one. What was not taken is asked for again."""
+        self._reader, self._read = Reader(self.environments, self.next, self.moment), []
         if self._trace:
             self._trace.close()
             self._trace = None

@@ -18,6 +18,7 @@ MOST_REMEMBERED = 1024  # invocations that have ended
 LONGEST_SECONDS = 30.0  # until the end of one is here that was answered
 OF_PROCESSES = ("Runtime.ExitError", "Extension.Crash")  # errors that no handler has raised
 MB = 1 << 20
+OF_ENDINGS = {Word.INIT_TIMEOUT: "Init.Timeout", Word.TOO_LARGE_OUTPUT: "Function.ResponseSizeTooLarge"}  # errors
 STATUSES = {Word.OUTPUT: "success", Word.TIMEOUT: "timeout", Word.INIT_TIMEOUT: "timeout"}  # of a report
 
 
@@ -145,8 +146,7 @@ class Invocations:
 def error_of(event: Ended) -> str:
     """The type of an error that no handler has raised, as the caller gets it; empty if there is none."""
     if event.kind is not Word.ERROR:
-        return {Word.INIT_TIMEOUT: "Init.Timeout",
-                Word.TOO_LARGE_OUTPUT: "Function.ResponseSizeTooLarge"}.get(event.kind, "")
+        return OF_ENDINGS.get(event.kind, "")
     kind = text_of((members_of(event.body or b"") or {}).get("errorType"))
     return kind if event.invocation.delivered is None or kind in OF_PROCESSES else ""
 
@@ -154,6 +154,8 @@ def error_of(event: Ended) -> str:
 def remembered(event: Ended) -> Ended:
     """An event with no more of its body than the end of its log may have: of an error that no handler has raised, the
     ends of its type and its message."""
+    if event.body is None:
+        return event
     kind = error_of(event)
     if event.kind is not Word.ERROR or not kind:
         return event._replace(body=None)

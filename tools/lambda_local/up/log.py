@@ -144,6 +144,7 @@ class Log:
         self.is_coloured = (form == "text" and self.stream.isatty() and not os.environ.get("NO_COLOR")
                             and os.environ.get("TERM", "dumb") != "dumb")
         self.colours: Dict[str, str] = {}
+        self.second = 0, ""  # of the last line, and as the log has it
         self.note = Note(self)
         self.stream.flush()
         self.writer = Writer(self.stream.fileno())
@@ -175,7 +176,11 @@ class Log:
         return (line + "\n").encode(errors="backslashreplace")
 
     def as_text(self, now: float, who: str, text: str, level: str) -> str:
-        stamp = datetime.fromtimestamp(now).strftime("%H:%M:%S.%f")[:12]
+        second, (known, time_of_day) = int(now), self.second
+        if second != known:
+            time_of_day = datetime.fromtimestamp(second).strftime("%H:%M:%S")
+            self.second = second, time_of_day
+        stamp = f"{time_of_day}.{int(1000 * (now - second)):03}"
         if not self.is_coloured:
             return f"{stamp} [{who}] {text}"
         name = who.partition("/")[0]

@@ -27,11 +27,10 @@ class RefusedCalls:
         self.of: Dict[int, Refusals] = {}
 
     def take(self, entry: Entry) -> None:
-        call = entry.call
-        if call.kind not in ROUTES or call.environment is None or not self.sidecars.is_unheard(call.environment):
-            return
-        own = entry.own
+        call, own = entry.call, entry.own
         if own is None or own.word is not Word.REFUSED or own.reason not in ANSWERS:
+            return
+        if call.kind not in ROUTES or call.environment is None or not self.sidecars.is_unheard(call.environment):
             return
         number, (status, kind), (method, path) = call.environment, ANSWERS[own.reason], ROUTES[call.kind]
         if number not in self.of:

@@ -204,6 +204,8 @@ class Troubles:
                 order.end(False, why=f"it was throttled, {event.reason}")
 
     def _popped(self, function: str) -> Optional[Order]:
+        if not self.orders:
+            return None
         with self.lock:
             return self.orders.pop(function, None)
 

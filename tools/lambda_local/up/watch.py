@@ -8,6 +8,7 @@ from typing import Awaitable, Callable, List, Optional, Set
 from ..history.entries import Entry
 from ..history.running import Lost, NoDescriptor
 from ..history.shapes import NotTrace
+from ..history.words import FAILURES
 from ..life import Begun, Closes, Ended, Environment, Event, Generation, Life, Reporter
 from ..service import Service
 from .asking import Answered, entries_of
@@ -53,15 +54,15 @@ class Watch:
         self.own: Set[Reporter] = set()  # in whose names this tool reports a failure next, which it says elsewhere
         self.takers: List[Callable[[Entry], None]] = []  # that are given each entry, before its events
         self.followers: List[Callable[[Event], None]] = []  # that are given each event
-        self.readers: List[Callable[[], None]] = []  # that are notified once all events of an entry were given
+        self.readers: List[Callable[[], None]] = []  # that are notified once all events of some entries were given
 
     async def follow(self) -> None:
         in_vain = 0
         while True:
             before, self.is_lost = self.following.next, False
             try:
-                while (entry := await self.following.entry()) is not None:
-                    self._come(entry)
+                while entries := await self.following.entries():
+                    self._come(entries)
                 break
             except (Lost, NotTrace, MemoryError) as fault:
                 in_vain = 0 if self.following.next > before else min(in_vain + 1, len(PAUSES) - 1)
@@ -71,13 +72,18 @@ class Watch:
                 break
         self._lose(None, 0)
 
-    def _come(self, entry: Entry) -> None:
-        self.clock.note(entry.moment)
-        for take in (*self.takers, self._take):
-            self._call(take, entry)
+    def _come(self, entries: List[Entry]) -> None:
+        self.clock.note(entries[-1].moment)
+        takers = (*self.takers, self._take)
+        for entry in entries:
+            for take in takers:
+                try:
+                    take(entry)
+                except Exception as fault:
+                    self._tell(fault, f"could not follow entry {entry.ticket} of the history, {entry.call.kind}")
         for reader in self.readers:
             reader()
-        self.taken = entry.ticket + 1
+        self.taken = entries[-1].ticket + 1
         self.has_news.set()
         self._wake_tasks()
 
@@ -108,14 +114,8 @@ class Watch:
         """A fault in one event, which is reported with it: the next one is taken."""
         self.log("up", f"{what}: {told(fault)}", level="error", kind="fault")
 
-    def _call(self, take: Callable[[Entry], None], entry: Entry) -> None:
-        try:
-            take(entry)
-        except Exception as fault:
-            self._tell(fault, f"could not follow entry {entry.ticket} of the history, {entry.call.kind}")
-
     def _take(self, entry: Entry) -> None:
-        reporter = self.life.reporter(entry)
+        reporter = self.life.reporter(entry) if entry.call.kind in FAILURES else None
         for event in self.life.take(entry):
             if not (isinstance(event, Closes) and reporter in self.own):
                 self._report(event)
