@@ -48,6 +48,7 @@ WRONG: Tuple[Tuple[bytes, str], ...] = (
 class Hostile(threading.Thread):
     """A service that does these deeds, one on each connection: it sends this to a `next`, this to the post, and closes
     the connection. What it was sent is kept."""
+    reads = 1  # how often it reads on after it has said that
 
     def __init__(self, *deeds: Tuple[bytes, bytes]) -> None:
         super().__init__(daemon=True)
@@ -74,7 +75,7 @@ class Hostile(threading.Thread):
             peer.sendall(given)
             self.posts.append(head_in(stream))
             peer.sendall(said)
-            if said:
+            for _ in range(self.reads if said else 0):
                 self.posts.append(stream.read1(1 << 16))
 
     def close(self) -> None:
@@ -207,6 +208,31 @@ class FrontHandler(Case):
                 self.check("what is told", [wanted in line for line in running.told] if wanted else running.told,
                            [True] if wanted else [])
             service.close()
+
+    def test_the_next_request_is_asked_for_with_the_answer(self) -> None:
+        """A short one. If the service refuses that, nothing more is posted there: its connection ends."""
+        request, other = answer(200, line_of() + b"body"), answer(200, line_of(id=8))
+        next_one = b"POST /_local/requests/8/response"
+        asked = b"okGET /_local/requests/next HTTP/1.1\r\n"
+        for name, said, posted in (("that is taken", answer(202, b""), next_one),
+                                   ("whose requester has gone", answer(409, b"{}"), next_one),
+                                   ("that is refused", answer(400, b"{}"), b"")):
+            service = Hostile((request, said + other))
+            service.reads = 2
+            with Running(service.port, ok) as running:
+                self.check(f"an answer {name}", until(lambda: len(service.posts) > 2, 30))
+                self.check(f"{name}: it asks in the same breath", service.posts[1][:len(asked)], asked)
+                self.check(f"{name}: what follows", service.posts[2][:max(1, len(posted))], posted)
+                self.check(f"{name}: no error is posted", b"/error" in b"".join(service.posts), False)
+                self.check(f"{name}: what is told", len(running.told), int(not posted))
+            service.close()
+
+    def test_answers_that_are_not_taken_leave_one_that_asks(self) -> None:
+        """Each has asked for the next request with its answer, and none of these is read."""
+        service = Deaf(*[(answer(200, line_of(id=number)), b"") for number in range(12)])
+        with Running(service.port, ok):
+            self.check("each further request is taken", until(lambda: not service.deeds, 30), True)
+        service.close()
 
     def test_the_end_of_the_service_is_the_end(self) -> None:
         service = Hostile((answer(503, b'{"errorMessage":"The service has ended","errorType":"ServiceEnded"}'), b""))

@@ -29,6 +29,7 @@ SPARE = 4  # connections that ask while nothing is to be done
 MOST_HELD = 64 << 20  # bytes of bodies; each connection that asks may get one more
 LONGEST = LONGEST_LINE + (6 << 20)  # bytes of a request, with its line
 PIECE = 128 << 10  # bytes of a body that are given to the system at once
+SHORT, FEW = 16 << 10, 64  # bytes and fields of an answer that the service takes in any case
 MOST_SENT = 256 << 10  # bytes of a connection that the system holds for the service
 MOST_UNREAD = 256 << 20  # bytes of answers; beyond these, those of which nothing is taken for SLOW_SECONDS break off
 SLOW_SECONDS, BETWEEN_LOOKS = 2.0, 1.0
@@ -58,6 +59,7 @@ class Handler:
     def __init__(self, service: int, ports: Dict[int, Port], log: Log, most: int = MOST) -> None:
         self.service, self.ports, self.log, self.most = service, ports, log, most
         self.unread: Dict[ServiceWire, int] = {}  # bytes of answers, by the connections on which they wait
+        self.ahead: Set[ServiceWire] = set()  # connections that have asked for a request with their last answer
         self.tasks: "Set[asyncio.Task[None]]" = set()
         self.asking = self.held = 0  # connections that ask; bytes of the bodies of requests that are answered
         self.rooms: "List[asyncio.Future[None]]" = []  # those that wait until there is room for a body
@@ -129,12 +131,13 @@ class Handler:
                 self.tell(f"an answer breaks off: {fault!r}"[:300])
             finally:
                 if wire:
+                    self.ahead.discard(wire)
                     wire.abort()
             await asyncio.sleep(PAUSE)
 
     async def exchange(self, wire: ServiceWire) -> bool:
         """Asks for a request and answers it. Whether the connection is needed further."""
-        while self.held > MOST_HELD:
+        while self.held > MOST_HELD and wire not in self.ahead:
             room = asyncio.get_running_loop().create_future()
             self.rooms.append(room)
             await room
@@ -155,14 +158,27 @@ class Handler:
                 room = self.rooms.pop()
                 if not room.done():
                     room.set_result(None)
-        if self.asking > SPARE:
+        if self.asking > SPARE and wire not in self.ahead:
             self.asking -= 1
             return False
         return True
 
+    def asks_on(self, wire: ServiceWire, size: int) -> bool:
+        """Whether the connection asks for the next request with its answer to this one, whose body has so many bytes.
+        (It is one that asks once that answer is taken, for which it may wait.)"""
+        if self.asking + len(self.ahead) >= SPARE or self.held - size > MOST_HELD:
+            return False
+        self.ahead.add(wire)
+        return True
+
+    def asked(self) -> bytes:
+        return request_head("GET", f"{REQUESTS}next", self.host())
+
     async def next(self, wire: ServiceWire) -> Optional[Handed]:
         """None if the service has ended."""
-        wire.transport.write(request_head("GET", f"{REQUESTS}next", self.host()))
+        if wire not in self.ahead:
+            wire.transport.write(self.asked())
+        self.ahead.discard(wire)
         status, body = await self.said(wire, "GET", LONGEST)
         if status == ENDED:
             return None
@@ -197,10 +213,12 @@ class Handler:
         try:
             if reply is not None:
                 try:
-                    return await self.post(wire, handed.number, reply)
+                    return await self.post(wire, handed, reply)
                 except (Refused, Unwritable) as fault:
                     is_told = True
                     self.tell(f"{what} gets 502: {fault}")
+                if wire in self.ahead:
+                    raise Gone  # (what it would post now comes after the next request: its end is the answer)
             wire.transport.write(self.posted(handed.number, "error", [("Content-Length", "0")]))
             await self.said(wire, "POST")
         except (Gone, Malformed):
@@ -231,7 +249,7 @@ class Handler:
         """The head of a post."""
         return request_head("POST", f"{REQUESTS}{number}/{how}", [*self.host(), *fields])
 
-    async def post(self, wire: ServiceWire, number: int, reply: Reply) -> None:
+    async def post(self, wire: ServiceWire, handed: Handed, reply: Reply) -> None:
         """Refused if the service does not take it, Gone if the connection is broken, or has to be."""
         if reply.status == 205:  # (which has no content: RFC 9110, section 15.3.6)
             reply = reply._replace(body=b"", pieces=None)
@@ -240,9 +258,11 @@ class Handler:
                     if name.lower() not in OWN_FIELDS)]
         length = len(reply.body) if reply.pieces is None else length_said(reply)
         framing = ("Transfer-Encoding", "chunked") if length is None else ("Content-Length", str(length))
-        head = self.posted(number, "response", [*fields, framing])
+        head = self.posted(handed.number, "response", [*fields, framing])
         if reply.pieces is None:
-            await self.write(wire, head, reply.body)
+            is_plain = len(head) + len(reply.body) <= SHORT and len(fields) <= FEW and 200 <= reply.status <= 599
+            asks_on = is_plain and self.asks_on(wire, len(handed.request.content))
+            await self.write(wire, head, reply.body + self.asked() if asks_on else reply.body)
             status, said = await self.said(wire, "POST")
         else:
             await wire.write(head)

@@ -2,13 +2,13 @@
 names, and no others (`shapes`)."""
 import functools
 import json
-from typing import IO, Any, Callable, Dict, Iterable, Iterator, List, NoReturn, Optional, Sequence, Tuple
+from typing import IO, Any, Dict, Iterable, Iterator, List, NoReturn, Optional, Sequence, Tuple
 
 from .entries import Entry
 from .shapes import ANSWERS, CALLS, ENTRIES, MOST, PHASES, NotTrace, Shape, Shapes, shown
 
 LONGEST_LINE = 256 << 20  # bytes: two bodies of a script's longest line, each byte of them as an escape
-NEW: Callable[[Sequence[Any]], Entry] = functools.partial(tuple.__new__, Entry)
+NEW: Any = functools.partial(tuple.__new__, Entry)  # (which is made for each line)
 
 
 def made_of(given: object, shapes: Shapes, what: str) -> Any:
@@ -69,7 +69,8 @@ def entry_in(given: Any, line: bytes) -> Entry:
     if names != len(given) + len(call) + sum(map(len, answers)) + sum(map(len, phases)):
         raise NotTrace("an object has a member twice")
     released = tickets_of(made.released) if made.released else ()
-    return NEW((made[0], made[1], call_made, answers_made, phases_made, released, *made[6:]))
+    whole: Entry = NEW((made[0], made[1], call_made, answers_made, phases_made, released, *made[6:]))
+    return whole
 
 
 def tickets_of(given: Sequence[object]) -> Tuple[int, ...]:

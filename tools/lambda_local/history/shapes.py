@@ -101,9 +101,10 @@ def maker(kind: Type[Any], fields: Dict[str, str], names: Tuple[str, ...], shape
     known.update((f"change{place}", change) for place, change in shape.changes)
     values = {fields.get(name, name): f"v{place}" for place, name in enumerate(names)}
     made = [values.get(field, repr(kind._field_defaults.get(field))) for field in kind._fields]
-    exec("\n".join([f"def make(given):\n    {', '.join(values.values())}, = given.values()\n    if {' and '.join(wanted)}:",
-                    *(f"        v{place} = change{place}(v{place})" for place, _ in shape.changes),
-                    f"        return new(kind, ({', '.join(made)}))"]), known)
+    exec("\n    ".join(["def make(given):", f"{', '.join(values.values())}, = given.values()",
+                        f"if {' and '.join(wanted)}:",
+                        *(f"    v{place} = change{place}(v{place})" for place, _ in shape.changes),
+                        f"    return new(kind, ({', '.join(made)}))"]), known)
     make: Make = known["make"]
     return make
 
