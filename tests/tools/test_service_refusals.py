@@ -94,6 +94,29 @@ class ServiceRefusals(Case):
         finally:
             service.kill()
 
+    def test_the_log_tells_of_bodies_that_are_not_handed_over(self) -> None:
+        """At a port whose requests go to a handler, while one asks for them."""
+        service = Service(CONFIGURATION, handled={"an API": 0})
+        try:
+            port = service.handled["an API"]
+            handler = threading.Thread(target=ask, args=(service.port, "GET", "/_local/requests/next"),
+                                       kwargs={"timeout": PATIENCE})
+            handler.start()
+            end = time.monotonic() + PATIENCE
+            while sent(port, f"POST /x HTTP/1.1\r\n{TOO_LONG}").split(b" ")[1:2] == [b"503"]:  # (before it has asked)
+                self.check("the handler asks", time.monotonic() < end, True)
+            self.check("a body that is too long", told_first(service, 1),
+                       [f"413 POST /x at port {port}: the payload is longer than 6291456 bytes; send a shorter one"])
+            self.check("the status of one that is cut off", sent(port, f"POST /x HTTP/1.1\r\n{CUT}").split(b" ")[1:2],
+                       [b"400"])
+            self.check("one that is cut off", told_first(service, 2)[1:],
+                       [f"400 POST /x at port {port}: the body ended early, or is not chunked as HTTP has it; send as "
+                        "many bytes as Content-Length says"])
+            service.stop()
+            handler.join(PATIENCE)
+        finally:
+            service.kill()
+
     def test_what_the_log_shows_of_a_request_is_escaped(self) -> None:
         """What a client sent makes no line of its own, and no long one."""
         service = Service(CONFIGURATION)

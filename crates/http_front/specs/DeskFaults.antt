@@ -1,5 +1,5 @@
 -- The replies to requests that have no answer of a handler, and to handlers whose own requests are refused.
-use Rattle.std.specs.Prelude.{List, ℕ, codes, length, nat_lt, if◌then◌else◌}
+use Rattle.std.specs.Prelude.{List, ℕ, Option, Some, None, codes, length, nat_lt, if◌then◌else◌}
 use Rattle.arn_ids.specs.Limits.{longest_body}
 use Rattle.handler_desk.specs.declared.pipe.PipeFault.{PipeFault}
 use Rattle.handler_desk.specs.declared.pipe.PipeFault.TheVariants as pipe
@@ -17,6 +17,8 @@ use Rattle.long_poll.specs.declared.body_piece.PieceFault.{PieceFault}
 use Rattle.long_poll.specs.declared.body_piece.PieceFault.TheVariants as piece
 use Rattle.long_poll.specs.declared.exchange.fault.ExchangeFault.{ExchangeFault}
 use Rattle.long_poll.specs.declared.exchange.fault.ExchangeFault.TheVariants as exchange
+use Rattle.long_poll.specs.declared.rejections.rejection.Cause.{Cause}
+use Rattle.long_poll.specs.declared.rejections.rejection.Cause.TheVariants as cause
 use Rattle.http_front.specs.declared.at_desk.flowing.FlowFault.{FlowFault}
 use Rattle.http_front.specs.declared.at_desk.flowing.FlowFault.TheVariants as flow
 use Rattle.http_front.specs.declared.at_desk.fault.HandedFault.{HandedFault}
@@ -29,6 +31,15 @@ abbrev pub of_body : ExchangeFault → HandedFault
 of_body exchange.BodyFailed = handed.BodyFailed
 of_body exchange.OutOfMemory = handed.OutOfMemory
 of_body exchange.BellLost = handed.OutOfMemory
+
+-- Why the log counts a request as rejected that has no answer: because of its body, or not at all.
+abbrev pub cause_of : HandedFault → Option Cause
+cause_of handed.TooLong = Some cause.TooLong
+cause_of handed.BodyFailed = Some cause.BrokenBody
+cause_of handed.NoHandler = None
+cause_of handed.TooMany = None
+cause_of handed.Failed = None
+cause_of handed.OutOfMemory = None
 
 -- Why a post is refused whose body was not collected.
 abbrev pub of_posted_body : ExchangeFault → HandlerFault

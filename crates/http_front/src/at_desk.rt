@@ -24,7 +24,7 @@ pub use handed::Handed;
 use handler_desk::{Asked, Desk, Put, Request, read_asked};
 use handover::write_head;
 use http::request::Parts;
-use long_poll::OpenPoll;
+use long_poll::{Kind, OpenPoll, Rejections};
 pub use of_handler::OfHandler;
 pub use passed::{PassedBody, PassedFault};
 use std::alloc::{AllocError, Global};
@@ -43,7 +43,8 @@ pub(crate) enum Way {
 }
 
 /// What a connection needs to hand its requests over to handlers, and to serve one: the desk, and its number there; the
-/// port at which it came; and where it is noted that a handler is awaited.
+/// port at which it came; where it is noted that a handler is awaited; and where the requests are counted that are
+/// rejected.
 #[derive(Drop)]
 pub struct AtDesk<R> {
     pub(crate) rt: R,
@@ -51,6 +52,8 @@ pub struct AtDesk<R> {
     pub(crate) desk: Arc<Desk>,
     pub(crate) open: Arc<OpenPoll>,
     pub(crate) side: Arc<Side>,
+    // What the log tells of the requests that are rejected.
+    pub(crate) rejections: Arc<Rejections>,
     // The number of the port, as handlers get it.
     pub(crate) number: u16,
     // The number of the connection, by which it is known if it is a handler's.
@@ -145,5 +148,18 @@ impl<R: Wait + time::Clock + Drop> AtDesk<R> {
             Ok(put) => Ok(put),
             Err(fault) => Err(HandedFault::of_put(fault)),
         }
+    }
+
+    /// Counts a request with this head, for the log, that is not handed over because of its body.
+    pub(crate) fn note_refused(&self, parts: &Parts, fault: HandedFault) {
+        let Some(cause) = fault.cause() else {
+            return;
+        };
+        let kind = Kind {
+            cause,
+            is_of_environment: false,
+        };
+        self.rejections
+            .note(&self.rt, kind, self.number, Some(parts), None);
     }
 }

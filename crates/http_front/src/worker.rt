@@ -359,12 +359,14 @@ impl<
         let desk = Arc::try_clone(&self.common.desk)?;
         let open = Arc::try_clone(open)?;
         let side = Arc::try_clone(decider)?;
+        let rejections = Arc::try_clone(&self.common.shared.rejections)?;
         let at_desk = AtDesk {
             rt: self.rt,
             alloc: self.rt.alloc(),
             desk,
             open,
             side,
+            rejections,
             number,
             connection,
         };

@@ -10,7 +10,7 @@ use crate::at_desk::flowing::FlowFault;
 use handler_desk::{AnswerFault, NotPut, NotTaken};
 use http_routes::TOO_LONG;
 use lambda_wire::{InvokeFault, Reply, fault_reply, invoke_fault_reply};
-use long_poll::ExchangeFault;
+use long_poll::{Cause, ExchangeFault};
 use std::alloc::{AllocError, Global};
 
 /// Why a request that was to be handed over has no answer of a handler.
@@ -49,6 +49,20 @@ impl HandedFault {
             NotPut::NoHandler => HandedFault::NoHandler,
             NotPut::TooMany => HandedFault::TooMany,
             NotPut::OutOfMemory => HandedFault::OutOfMemory,
+        }
+    }
+
+    /// Returns why the log counts the request as rejected: because of its body, or not at all.
+    pub(crate) fn cause(self) -> Option<Cause>
+        ensures { result ≡ spec.cause_of self }
+    {
+        match self {
+            HandedFault::TooLong => Some(Cause::TooLong),
+            HandedFault::BodyFailed => Some(Cause::BrokenBody),
+            HandedFault::NoHandler
+            | HandedFault::TooMany
+            | HandedFault::Failed
+            | HandedFault::OutOfMemory => None,
         }
     }
 }

@@ -182,6 +182,9 @@ where
     fn poll(&mut self, cx: &mut Context<'_>) -> Poll<Self::Output> {
         let outcome = ready!(self.poll_outcome(cx));
         self.at_desk.open.note_awaited(false);
+        if let (HandedStage::Collecting { parts, .. }, Err(fault)) = (&self.stage, &outcome) {
+            self.at_desk.note_refused(parts, *fault);
+        }
         Poll::Ready(handed_response(
             self.at_desk.alloc,
             &self.at_desk.open,

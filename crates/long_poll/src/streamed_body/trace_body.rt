@@ -1,6 +1,6 @@
 //! The trace of a history as the body of a response.
 
-ghost use Rattle.std.specs.Prelude.{◌≡◌, ◌≢◌, true, None, IfOk};
+ghost use Rattle.std.specs.Prelude.{◌≡◌, ◌≢◌, ◌+◌, ◌/◌, min, true, None, IfOk};
 ghost use Rattle.std.specs.Arc.{arc_value};
 ghost use Rattle.futures.specs.Poll.{IfReady, OnPending};
 ghost use Rattle.futures.specs.Task.{Covers, Keeps};
@@ -26,8 +26,22 @@ use usage_ledger::{Keep, Ledgers, Tally};
 /// How many entries one poll passes at most, so that a long history does not keep other futures waiting.
 const PASSED_PER_POLL: u32 = 128;
 
-/// For how long a follower rests after a step before it looks.
+/// For how long a follower rests after a step before it looks, if little was shown since it rested last.
 const REST_MS: u64 = 1;
+
+/// For so many pieces of lines that were shown since it rested last, it rests a millisecond longer.
+const PIECES_PER_MS: u64 = 8;
+
+/// For how long it rests at most.
+const LONGEST_REST_MS: u64 = 10;
+
+/// Returns for how many milliseconds a follower rests that has shown so many pieces since it rested last: where much
+/// happens, it is woken less often, and shows more at once.
+fn rest_ms(shown: u64) -> u64
+    ensures { result ≡ min (1 + shown / 8) 10 }
+{
+    (REST_MS + shown / PIECES_PER_MS).min(LONGEST_REST_MS)
+}
 
 /// How far a trace has come.
 #[derive(Drop)]
@@ -71,8 +85,9 @@ pub struct TraceBody<R, S, T, K: Keep, L: Ledgers> {
     place: Option<FollowerPlace>,
     // What hears the next step after a look that found nothing.
     heard: Option<Heard>,
-    // Where its thread rests after a step.
+    // Where its thread rests after a step, and how many pieces it has shown since.
     parker: Parker,
+    shown: u64,
     is_ended: bool,
     of: PhantomData<Tally<K, L>>,
 }
@@ -116,6 +131,7 @@ impl<R: Wait + Drop, S: Service<K, Ledgers = L, Trail = T>, T: Drop, K: Keep, L:
             place,
             heard: None,
             parker: Parker::new(),
+            shown: 0,
             is_ended: false,
             of: PhantomData,
         })
@@ -219,8 +235,9 @@ impl<R: Wait + Drop, S: Service<K, Ledgers = L, Trail = T>, T: Drop, K: Keep, L:
             }
             Poll::Ready(()) => {
                 self.heard = None;
-                self.parker
-                    .park_timeout(&self.rt, Duration::from_millis(REST_MS));
+                let rest = Duration::from_millis(rest_ms(self.shown));
+                self.shown = 0;
+                self.parker.park_timeout(&self.rt, rest);
                 cx.yield_now()
             }
         }
@@ -279,7 +296,10 @@ impl<R: Wait + Drop, S: Service<K, Ledgers = L, Trail = T>, T: Drop, K: Keep, L:
                     self.is_ended = true;
                     return Poll::Ready(Some(Err(refused)));
                 }
-                Ok(Found::Piece(piece)) => return Poll::Ready(Some(Ok(piece))),
+                Ok(Found::Piece(piece)) => {
+                    self.shown = self.shown.saturating_add(1);
+                    return Poll::Ready(Some(Ok(piece)));
+                }
                 Ok(Found::Nothing) => return self.poll_on(cx),
                 Ok(Found::Passed) => {}
             }
