@@ -1,5 +1,6 @@
-"""The services that bench/serve/run and bench/serve/instructions measure, and their client: how they are built, started
-on free ports and on which processors, what the system counts of them, and that none outlives the run."""
+"""The services that bench/serve/{run,instructions,calls} measure, and their client: how they are built, started on free
+ports and on which processors, what the system counts of them, and that none outlives the run."""
+import argparse
 import ctypes
 import os
 import random
@@ -9,17 +10,45 @@ import shutil
 import signal
 import socket
 import subprocess
+import sys
 import tempfile
 import time
 import json
 
 HERE = os.path.dirname(os.path.abspath(__file__))
+ROOT = os.path.dirname(os.path.dirname(HERE))
 LISTENS = 20    # seconds until a service listens
 ANSWERS = 300   # seconds until its client has finished; the client gives up by itself after 60 without progress
 
 
 class Trouble(Exception):
     """What differs from what is wanted, in words."""
+
+
+def say(words):
+    print("bench:", words, file=sys.stderr, flush=True)
+
+
+def positive(text):
+    """A word of the command line that is a number from 1 on."""
+    if not text.isdigit() or int(text) < 1:
+        raise argparse.ArgumentTypeError(f"{text!r} is no number from 1 on")
+    return int(text)
+
+
+def program_of_these():
+    """The program that the launcher takes for these sources; without one, the script ends as the launcher does."""
+    path = subprocess.run([os.path.join(ROOT, "lambda_local"), "path"], stdout=subprocess.PIPE, text=True)
+    if path.returncode:
+        sys.exit(path.returncode)
+    return path.stdout.strip()
+
+
+def program_at(path):
+    """The whole path of a program; without one there, the script ends."""
+    if not os.access(path, os.X_OK) or os.path.isdir(path):
+        sys.exit(f"bench: no program at {path}: ./lambda_local build makes crates/lambda_local/out/lambda_local")
+    return os.path.abspath(path)
 
 
 def tail(file):
@@ -106,7 +135,7 @@ class Kind:
 
     def words(self, folder, port, environments):
         if not self.is_ours:
-            return [self.program, str(port), str(environments)]
+            return [*self.under, self.program, str(port), str(environments)]
         config = {"account": "123456789012", "region": "us-east-2", "invokePort": port, "maxEntries": 10_000_000,
                   "functions": [{"name": "f", "ports": list(range(port + 1, port + 1 + environments)), "timeout": 900}]}
         path = os.path.join(folder, "config.json")

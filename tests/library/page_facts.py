@@ -95,7 +95,8 @@ HELPS = {"docs/up_reference.md": ("./lambda_local up", "./lambda_local invoke"),
          "docs/conformance_service.md": ("./lambda_local conformance service",),
          "docs/checks.md": ("tests/hours", "tests/memory", "tests/newcomer", "tests/pages", "tests/release",
                             "tests/tools/run", "tools/release"),
-         "docs/proof_costs.md": ("tools/proof_costs",), "docs/speed.md": ("bench/serve/run", "bench/up/run")}
+         "docs/proof_costs.md": ("tools/proof_costs",),
+         "docs/speed.md": ("bench/serve/run", "bench/serve/calls", "bench/up/run")}
 
 
 def help_of(root, command):

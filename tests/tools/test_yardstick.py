@@ -1,9 +1,11 @@
 """Checks that bench/serve/plain.c, with which the service's speed is compared, does the same work: what bench/serve's
-load asks is answered with the same bytes by both, and what is refused is refused by both."""
+load asks is answered with the same bytes by both, and what is refused is refused by both. And that bench/serve/calls,
+which counts the system calls of both, counts what an invocation cannot do without, and says what is in its way."""
 import os
 import re
 import shutil
 import socket
+import subprocess
 import sys
 import tempfile
 import time
@@ -15,6 +17,7 @@ from tests.library.cases import Case
 ROOT = os.path.dirname(os.path.dirname(os.path.dirname(os.path.realpath(__file__))))
 sys.path.insert(0, os.path.join(ROOT, "bench", "serve"))
 import services  # type: ignore[import]
+import strace  # type: ignore[import]
 
 ANSWERS = 60  # seconds
 INVOKE = "POST /2015-03-31/functions/f/invocations"
@@ -164,7 +167,16 @@ def heads(run: Run) -> None:
         run.seen.append(("its connection ends", talk.socket.recv(100)))
 
 
-@unittest.skipUnless(any(map(shutil.which, ("cc", "gcc", "clang"))), "there is no C compiler")
+def is_traced() -> bool:
+    """Whether strace is here, and may trace a program."""
+    return bool(shutil.which("strace")) and not subprocess.run(["strace", "-o", os.devnull, "true"],
+                                                               stderr=subprocess.DEVNULL).returncode
+
+
+HAS_COMPILER = any(map(shutil.which, ("cc", "gcc", "clang")))
+
+
+@unittest.skipUnless(HAS_COMPILER, "there is no C compiler")
 class Yardstick(Case):
     folder: Any
     kinds: Dict[str, Any]
@@ -201,6 +213,75 @@ class Yardstick(Case):
 
     def test_heads_are_judged_as_by_the_service(self) -> None:
         self.both(heads, 1)
+
+
+# As strace's manual shows it, with a call that failed and two threads that were ended within a call.
+TITLES = "% time     seconds  usecs/call     calls    errors syscall\n"
+RULE = "------ ----------- ----------- --------- --------- ----------------\n"
+ROWS = (" 89.76    0.008016           4      1912           getdents64\n"
+        " 10.24    0.000914         304         3         1 newfstatat\n")
+SUM = "100.00    0.008930           4      1915         1 total\n"
+TABLE = TITLES + RULE + ROWS + RULE + SUM
+ENDED = "71 ???( <unfinished ...>\n70 futex(0x7f, FUTEX_WAIT, 2, NULL <detached ...>\n"
+UNLIKE = {"nothing": "", "no table": "strace: Process 7 attached\n", "cut short": TABLE[:-7],
+          "no sum": TABLE[:-len(SUM)], "no titles": RULE + ROWS + RULE + SUM,
+          "another column": TABLE.replace("errors", "faults"), "another sum": TABLE.replace("1915", "1916"),
+          "a call twice": TITLES + RULE + ROWS + ROWS + RULE + SUM,
+          "no number": TABLE.replace("1912", "19x2"), "a line behind it": TABLE + "more\n"}
+READS, SENDS = ("read", "readv", "recvfrom", "recvmsg"), ("write", "writev", "sendto", "sendmsg")
+
+
+def is_refused(text: str) -> bool:
+    try:
+        strace.read(text)
+    except strace.Unreadable:
+        return True
+    return False
+
+
+class Counting(Case):
+    def test_what_strace_writes_is_read_strictly(self) -> None:
+        older = TABLE.replace(SUM, "100.00    0.008930                  1915         1 total\n")
+        for what, text in (("a table", TABLE), ("a table behind threads that were ended", ENDED + TABLE),
+                           ("an older strace's, whose sum has no time for each call", older)):
+            self.check(what, strace.read(text), {"getdents64": 1912, "newfstatat": 3})
+        for what, text in UNLIKE.items():
+            self.check(f"{what}: it is refused", is_refused(text))
+
+    def counted(self, program: str, *options: str, **variables: str) -> "subprocess.CompletedProcess[str]":
+        """What bench/serve/calls prints and says."""
+        return subprocess.run([sys.executable, os.path.join(ROOT, "bench", "serve", "calls"), *options, program],
+                              stdout=subprocess.PIPE, stderr=subprocess.PIPE, text=True, timeout=300,
+                              env={**os.environ, **variables})
+
+    def test_without_strace_it_says_so(self) -> None:
+        made = self.counted(os.environ["LAMBDA_LOCAL_PROGRAM"], PATH="/nowhere")
+        self.check("status", made.returncode, 1)
+        self.check("what to install", "apt-get install strace" in made.stderr, shown=made.stderr)
+
+    @unittest.skipUnless(HAS_COMPILER and is_traced(), "there is no C compiler, or no strace that may trace")
+    def test_an_invocation_takes_a_read_and_a_send_for_each_request(self) -> None:
+        made = self.counted(os.environ["LAMBDA_LOCAL_PROGRAM"], "--quick", "--runs", "1")
+        self.check("status", made.returncode, 0, shown=made.stderr)
+        titles, _, *rows = [[it.strip(" `") for it in line.split("|")[1:-1]] for line in made.stdout.splitlines()]
+        names = titles[4:-1]
+        self.check("rows", [tuple(it[:3]) for it in rows],
+                   [(load, environments, service) for load in ("round", "closed") for environments in ("1", "8")
+                    for service in ("lambda_local", "plain C")])
+        for row in rows:
+            of_all, *each = map(float, row[3:])
+            self.check(f"{row[:3]}: the columns are all", abs(sum(each) - of_all) < 0.2, shown=row)
+            for what, kinds in (("reads", READS), ("sends", SENDS)):
+                # (the Next, the Invoke and the response)
+                found = sum(count for name, count in zip(names, each) if name in kinds)
+                self.check(f"{row[:3]}: three {what}, and no twice as many", 2.9 < found < 6, shown=row)
+
+    @unittest.skipUnless(HAS_COMPILER and is_traced(), "there is no C compiler, or no strace that may trace")
+    def test_a_program_that_ends_at_once_is_a_failure(self) -> None:
+        made = self.counted(shutil.which("false") or "", "--quick")
+        self.check("status", made.returncode, 1)
+        self.check("why", "lambda_local ended with status 1 before it listened" in made.stderr, shown=made.stderr)
+        self.check("no table", made.stdout, "")
 
 
 if __name__ == "__main__":
