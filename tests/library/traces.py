@@ -30,8 +30,9 @@ def one_by_one(lines: Sequence[bytes], environments: int) -> Tuple[List[Entry], 
 
 
 def all_at_once(lines: Sequence[bytes], environments: int) -> Tuple[List[Entry], str]:
-    """The same, as a task reads what has come."""
+    """The same, as a task reads what has come. Each line may be read by the form of one before it."""
     each = Reader(environments)
+    each.forms.misses = 1
     found: List[Entry] = []
     try:
         while len(found) < len(lines):

@@ -15,7 +15,7 @@ from lambda_local.history.shapes import NotTrace
 from lambda_local.history.words import Word
 from lambda_local.rerun.record import parsed
 from lambda_local.service import Fault, Service, ask
-from lambda_local.up.following import Following
+from lambda_local.up.following import Following, Pace
 from tests.library.cases import Case
 from tests.library.fake_trace import HEAD, LAST, Fake, chunks, failed, line
 from tests.library.timelines import PROGRAM
@@ -143,6 +143,25 @@ NOT_BESIDE_OTHERS = {
     "a flag": BARE.replace(b'"environment":1', b'"environment":true'), "two entries": BARE + b"," + OTHER,
     "5,000 digits": BARE.replace(b'"moment":0', b'"moment":' + b"1" * 5000), "depth": b"[" * 100_000}
 
+LIKE = BARE.replace(b'"environment":1,"kind":"next"', b'"bodyLength":2,"function":"f","kind":"invoke","qualified":'
+                    b'false,"trace":"Root=1"').replace(b"}", b'},"charged":0', 1).replace(
+    b'"released":[]', b'"place":1,"released":[3],"request":"' + REQUEST.encode() + b'"')
+AFTER = LIKE.replace(b'"ticket":0', b'"ticket":1')
+# What is another value in a line that is like the one before, and whether it is an entry.
+OTHER_VALUES = {
+    "a length": ((b":2,", b":18446744073709551615,"), True),
+    "one of 65 bits": ((b":2,", b":18446744073709551616,"), False),
+    "one with a zero before it": ((b":2,", b":02,"), False), "one that is not whole": ((b":2,", b":2e0,"), False),
+    "a flag": ((b":2,", b":true,"), False), "digits of another script": ((b":2,", ":\u0662,".encode()), False),
+    "a name": ((b'"f"', b'"1,2"'), True), "an escape": ((b'"f"', b'"\\u0041"'), True),
+    "a name of two lines": ((b'"f"', b'"\\n"'), False), "a name and a colon": ((b'"f"', b'":1,"'), False),
+    "a name that is none": ((b'"f"', b'"\x7f"'), False), "bytes": ((b'"f"', b'"\xff"'), False),
+    "a number for a name": ((b'"f"', b"1"), False), "two for one": ((b":2,", b':2,"environment":1,'), False),
+    "a trace": ((b"Root=1", b"Root=2;a:7,"), True), "no trace": ((b',"trace":"Root=1"', b""), True),
+    "tickets": ((b"[3]", b"[3,4]"), True), "a ticket below zero": ((b"[3]", b"[-3]"), False),
+    "an identifier": ((b"-8000-", b"-80ff-"), True), "one that is none": ((b"-8000-", b"-80FF-"), False),
+    "another place": ((b'"place":1', b'"place":2'), False), "a blank": ((b':2,', b": 2,"), True)}
+
 
 class History(Case):
     def test_the_lines_of_a_history_are_its_entries(self):
@@ -206,6 +225,39 @@ class History(Case):
                        ([0, 1], "entry 2 "))
         self.check("right ones are all read", all_at_once([BARE, OTHER, LAST_ONE], 1),
                    ([entry(0), entry(1), entry(2)], ""))
+
+    def test_a_line_like_one_before_is_read_as_strictly(self):
+        for name, ((old, new), is_entry) in OTHER_VALUES.items():
+            lines = [LIKE, AFTER.replace(old, new, 1)]
+            self.check(f"{name}: the edit fits", lines[1] != AFTER)
+            found, said = all_at_once(lines, 1)
+            self.check(f"{name}: as alone", (found, said), one_by_one(lines, 1))
+            self.check(f"{name}: whether it is an entry", (len(found) == 2, said == ""), (is_entry, is_entry))
+        self.check("it has the values of its own line", all_at_once(
+            [LIKE, AFTER.replace(b":2,", b":5,").replace(b"Root=1", b"R=9").replace(b"[3]", b"[7]")], 1)[0][1], Entry(
+                1, 0, Call("invoke", function="f", length=5, trace="R=9"), released=(7,), request=REQUEST, place=1,
+                charged=0))
+
+    def test_a_rest_fits_what_comes(self):
+        """It is short while few entries come, and longer while many do. Who is behind does not rest."""
+        pace = Pace()
+        for name, passed, size, wanted in (
+                ("the first", 100.0, 300, 0.01), ("few", 0.01, 300, 0.01), ("some", 0.05, 24 << 10, 0.05),
+                ("more", 0.05, 32 << 10, 0.0375), ("many", 0.01, 32 << 10, 0.01), ("less", 0.05, 15 << 10, 0.05),
+                ("few again", 0.05, 12 << 10, 0.01), ("much", 0.01, (40 << 10) + 1, 0.0)):
+            self.check(name, round(pace.rest(pace.since + passed, pace.size + size), 4), wanted)
+        count, rests = 20_000, []
+
+        async def wait(seconds):
+            rests.append(seconds)
+            await asyncio.sleep(seconds)
+        body = b"".join(map(line, range(count)))
+        with as_task(HEAD + chunks(body, 1000) + LAST, is_awaited=lambda: False) as (running, _):
+            running.hurry.wait = wait
+            entries, end = entries_of(running)
+            self.check("all come", (len(entries), end), (count, ""))
+            pieces = len(body) // (128 << 10)
+            self.check("not after a rest for each piece", len(rests) < pieces / 2, shown=(rests, pieces))
 
     def test_a_connection_that_breaks_goes_on_with_the_next_entry(self):
         with following(HEAD + chunks(line(0)), HEAD + chunks(line(1) + line(2)[:20]), HEAD + chunks(line(2)) + LAST

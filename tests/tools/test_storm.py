@@ -3,6 +3,7 @@ each kind, of lambda_local up and of handlers in a test's process; and who is sp
 LAMBDA_LOCAL_PROGRAM, else ./lambda_local."""
 import contextlib
 import io
+import json
 import re
 import subprocess
 import time
@@ -182,6 +183,20 @@ class OfUp(Case):
         self.check("no function", outcome(up, "h")[0], 404)
         self.check("one line", [one[1:] for one in told(up)][:1], [(1, told(up)[0][2], "throttle", True)])
         self.check("it ends", up.end()[1], [])
+
+    def test_a_web_page_is_refused_and_told_once(self):
+        """As at the service's own port: the first is told, by its method and path."""
+        up = self.started(storm="3:1")
+        path = INVOKE.format("f")
+        for name, headers in (("an Origin", {"Origin": "http://localhost:3000"}),
+                              ("a site", {"Sec-Fetch-Site": "cross-site"}), ("another path", {"Origin": "null"})):
+            status, body = posted(up.endpoint, path if name != "another path" else "/x?secret=1", b"{}", headers)
+            self.check(f"{name}: the refusal", (status, json.loads(body)["message"]),
+                       (403, "Web pages may not call this service"))
+        self.check("it is no invocation", told(up), [])
+        self.check("it ends", up.end()[1], [])
+        self.check("one line", [line.partition("] ")[2] for line in up.lines if "web page" in line.lower()],
+                   [f"invokePort: POST {path}: 403, web pages may not call this service; call it from a program"])
 
     def test_faults_of_the_option_are_told(self):
         for words, wanted in ((["--storm", "x"], "--storm: invalid SEED[:RATE]"),

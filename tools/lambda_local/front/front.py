@@ -122,7 +122,7 @@ class Front(threading.Thread):
         if self.gate:
             service.through = service.handled[STORM]
             service.endpoint_url = url_of(service.through)
-            ports[service.through] = StormPort(self.client, self.gate, management.aliases).handle
+            ports[service.through] = StormPort(self.client, self.gate, management.aliases, self.tell_of_page).handle
         if self.urls or self.api_urls:
             ports.update(self.gateways(identifiers, streams))
         environments = sum(len(one["ports"]) for one in configuration["functions"])
@@ -177,6 +177,10 @@ class Front(threading.Thread):
             self.last_told = {text: then for text, then in self.last_told.items() if now - then < BETWEEN_TELLS}
             self.last_told[what] = now
             self.log("up", f"the front: {what}", level="error")
+
+    def tell_of_page(self, text: str) -> None:
+        """Of a request to the port of a storm. (At others the service refuses it, and its log says so.)"""
+        self.log("up", f"{STORM}: {text}", level="error", kind="http")
 
     def tell_of_clock(self, text: str) -> None:
         self.log("up", text, level="error", kind="fault")

@@ -21,6 +21,7 @@ class Refusal(NamedTuple):
 
 MALFORMED_HOST = Refusal(400, "InvalidParameterValueException", "Host is malformed")
 FROM_PAGE = Refusal(403, "AccessDeniedException", "Web pages may not call this service")
+PAGE_ADVICE = "web pages may not call this service; call it from a program"  # (as in the service's log)
 FOREIGN_HOST = Refusal(403, "AccessDeniedException", f"Host is neither local nor in {VARIABLE}")
 FOREIGN_CODING = Refusal(501, "NotImplemented", "Transfer coding not supported")
 

@@ -1,7 +1,7 @@
 """The port of a storm, which is that of callers: each invocation passes the storm on its way to the service's own port.
 All is asked of the service in words of its own, and its answers go on as they come."""
 import contextlib
-from typing import AsyncIterator
+from typing import AsyncIterator, Callable
 
 from ..service import AGAIN
 from .aliases import Aliases
@@ -9,11 +9,12 @@ from .client import Client
 from .errors import of_user
 from .events import TRACE, TYPE
 from .http import Answer, Headers, Reply, Request, first
-from .origins import FROM_PAGE, is_from_page
+from .origins import FROM_PAGE, PAGE_ADVICE, is_from_page
 from .storm import Gate
 from .tail import LOG_TYPE
 
 LONGEST = 6 << 20  # bytes of a body that the service hands over
+LONGEST_PATH = 160  # letters, in a line
 
 
 def headers_to_send(headers: Headers) -> Headers:
@@ -24,14 +25,17 @@ def headers_to_send(headers: Headers) -> Headers:
 
 
 class StormPort:
-    """An invocation whose caller wants its log passes the storm once the service has handed it over."""
+    """An invocation whose caller wants its log passes the storm once the service has handed it over. `tell` gets a line
+    about the first request of a web page, as the service has one of what it refuses at its own port."""
 
-    def __init__(self, client: Client, gate: Gate, aliases: Aliases) -> None:
-        self.client, self.beside, self.aliases = client, gate.beside, aliases
+    def __init__(self, client: Client, gate: Gate, aliases: Aliases, tell: Callable[[str], None]) -> None:
+        self.client, self.beside, self.aliases, self.tell = client, gate.beside, aliases, tell
+        self.has_told = False
 
     async def handle(self, given: Request) -> Reply:
         """A Reply whose body is the service's, while it is read. What breaks off there breaks off here."""
         if is_from_page(given.headers):
+            self.tell_of_page(given)
             return of_user(FROM_PAGE.status, FROM_PAGE.kind, FROM_PAGE.message)
         request = self.aliases.without(given)
         client = self.beside if first(request.headers, LOG_TYPE) == "Tail" else self.client
@@ -44,6 +48,12 @@ class StormPort:
                 return Reply(answer.status, answer.headers, await answer.body.whole(answer.body.length or 0))
             reply = Reply(answer.status, answer.headers, pieces=Passed(answer, stack.pop_all()))
         return reply
+
+    def tell_of_page(self, request: Request) -> None:
+        if not self.has_told:
+            self.has_told, path = True, request.path
+            shown = path if len(path) <= LONGEST_PATH else f"{path[:LONGEST_PATH]}.."
+            self.tell(f"{request.method} {shown}: {FROM_PAGE.status}, {PAGE_ADVICE}")
 
 
 class Passed:

@@ -2,9 +2,10 @@
 names, and no others (`shapes`)."""
 import functools
 import json
-from typing import IO, Any, Dict, Iterable, Iterator, List, NoReturn, Optional, Sequence, Tuple
+from typing import IO, Any, Dict, Iterable, Iterator, List, NoReturn, Sequence, Tuple
 
 from .entries import Entry
+from .forms import Forms
 from .shapes import ANSWERS, CALLS, ENTRIES, MOST, PHASES, NotTrace, Shape, Shapes, shown
 
 LONGEST_LINE = 256 << 20  # bytes: two bodies of a script's longest line, each byte of them as an escape
@@ -54,11 +55,6 @@ def entry_of(line: bytes) -> Entry:
         raise NotTrace(f"it is not JSON: {fault}") from None
     if text[end:] not in ("", "\n"):
         raise NotTrace(f"after the object it goes on: {shown(text[end:])}")
-    return entry_in(given, line)
-
-
-def entry_in(given: Any, line: bytes) -> Entry:
-    """The entry that an object says, which is all of this line."""
     made: Entry = made_of(given, ENTRIES, "an entry")
     answers, phases, call = given["answers"], given["phases"], given["call"]
     answers_made = tuple([made_of(answer, ANSWERS, "an answer") for answer in answers]) if answers else ()
@@ -80,40 +76,25 @@ def tickets_of(given: Sequence[object]) -> Tuple[int, ...]:
     return found
 
 
-def entries_at_once(lines: Sequence[bytes]) -> Optional[List[Entry]]:
-    """The entries of these lines without their ends, which are read as one array; none if one of them may have a fault.
-
-    Between two lines there is a zero, with a line feed, which no string has. A line begins and ends with a brace: so if
-    one left an array open, that zero would be in it beside an object, and no array of an entry has both. If each second
-    value is a zero, and the others are entries, one for each line, then no line has more than its own."""
-    text, between = b",0,\n".join(lines), len(lines) - 1
-    if (text[:1], text[-1:]) != (b"{", b"}") or not text.count(b"\n") == text.count(b"},0,\n{") == between:
-        return None
-    try:
-        values = DECODER.decode(f"[{text.decode()}]")
-        if len(values) != len(lines) + between or values[1::2] != [0] * between:
-            return None
-        return [entry_in(given, line) for given, line in zip(values[::2], lines)]
-    except (ValueError, RecursionError):  # (NotTrace too: what is wrong is told of the line alone)
-        return None
-
-
 class Reader:
     """The entries of lines that come one after the other: tickets rise by one, and moments never fall."""
 
     def __init__(self, environments: int, first: int = 0, moment: int = 0) -> None:
         """The first entry has this ticket, and is not before this moment."""
         self.environments, self.next, self.moment = environments, first, moment
+        self.forms = Forms(entry_of)
 
     def take(self, line: bytes) -> Entry:
         """The entry of a line; NotTrace if it is not the next one."""
-        return self._take([], map(entry_of, (line, )))[0]
+        return self._take(map(entry_of, (line, )))[0]
 
     def take_all(self, lines: Sequence[bytes]) -> List[Entry]:
-        """The entries of lines without their ends, up to the first that is not the next one; NotTrace if none is."""
-        return self._take([], entries_at_once(lines) or map(entry_of, lines))
+        """The entries of lines without their ends, up to the first that is not the next one; NotTrace if none is.
+        (Those without bodies, of which most are like one before.)"""
+        return self._take(map(self.forms.entry_of, lines))
 
-    def _take(self, taken: List[Entry], entries: Iterable[Entry]) -> List[Entry]:
+    def _take(self, entries: Iterable[Entry]) -> List[Entry]:
+        taken: List[Entry] = []
         try:
             for entry in entries:
                 self._look_at(entry)

@@ -12,7 +12,12 @@ from ..history.running import MOST_SAID, MOST_TRIES, SILENCE, Lines, Lost, has_r
 from ..http1 import Data, request_head
 from .bell import Bell
 
-REST = 0.01  # seconds
+REST, LONGEST_REST = 0.01, 0.05  # seconds in which entries come together
+MANY = 64 << 10  # bytes of them in a second, some 75 invocations; if fewer come, a rest is REST
+TOGETHER = 24 << 10  # bytes that are to come in a rest, if many come
+# Bytes; if more have come, others may wait behind them, and no rest comes before these. (A connection that is not read
+# holds some 64 KiB.)
+MUCH = 40 << 10
 AT_ONCE = 64  # entries, after which others have their turn
 LONGEST_REFUSAL = 1 << 20  # bytes
 
@@ -28,6 +33,7 @@ class Trace:
         self.port, self.silence = port, silence
         self.split = Lines()
         self.lines: List[bytes] = []  # that have come, and were not taken
+        self.size = 0  # bytes of all that have come
         self.wire: Optional[ServiceWire] = None
         self.body: Optional[Body] = None  # while more of it is to come
         self.is_silent = False
@@ -80,6 +86,7 @@ class Trace:
             except Gone:
                 raise (Silent() if self.is_silent else self.broken()) from None
             if isinstance(event, Data):
+                self.size += len(event.data)
                 self.lines += self.split.feed(event.data)
             else:
                 self.body = None
@@ -99,6 +106,25 @@ class Trace:
             self.wire.abort()
 
 
+class Pace:
+    """How long one rests who follows, while nobody waits for an entry: many that come are to wake it few times. So an
+    entry is taken LONGEST_REST after it was made at the latest, or once those before it are."""
+
+    def __init__(self) -> None:
+        self.longest = LONGEST_REST
+        self.since, self.size = 0.0, 0  # when it was asked last, and how many bytes had come by then
+
+    def rest(self, now: float, size: int) -> float:
+        """For how many seconds, by what has come since it was asked last; 0 if more may be there already."""
+        came, passed = size - self.size, now - self.since
+        self.since, self.size = now, size
+        if came > MUCH:
+            return 0.0
+        if came < MANY * passed:
+            return REST
+        return min(max(passed * TOGETHER / came, REST), self.longest)
+
+
 class Following:
     """Of a service whose callers' port this is."""
 
@@ -111,7 +137,7 @@ class Following:
         self._read: List[Entry] = []  # those that were read, and not taken yet
         self._tries = 0  # to get the next entry with its report
         self._trace: Optional[Trace] = None
-        self.hurry, self.is_awaited = Bell(loop), is_awaited
+        self.hurry, self.is_awaited, self.pace = Bell(loop), is_awaited, Pace()
 
     async def entries(self) -> List[Entry]:
         """The next entries, once there are some; none once the service is Off. Lost if the service does not answer,
@@ -148,6 +174,7 @@ class Following:
         elif not self._trace.lines:
             await self._rest(self._trace)
         else:
+            self._trace.hold()
             await asyncio.sleep(0)
         lines = await self._trace.come()
         if not lines:
@@ -170,9 +197,14 @@ class Following:
     async def _rest(self, trace: Trace) -> None:
         """While nobody waits for an entry, those of some milliseconds come together, and not amid each invocation."""
         self.hurry.clear()
-        if not self.is_awaited():
-            trace.hold()
-            await self.hurry.wait(REST)
+        rest = self.pace.rest(asyncio.get_running_loop().time(), trace.size)
+        if self.is_awaited():
+            return
+        trace.hold()
+        if rest:
+            await self.hurry.wait(rest)
+        else:
+            await asyncio.sleep(0)
 
     async def _whole(self, entry: Entry) -> Entry:
         """The same entry with its bodies; without, if there is no memory for them."""

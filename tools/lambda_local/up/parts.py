@@ -23,6 +23,7 @@ from .attached import Attached
 from .bell import hear
 from .closer import Closer
 from .environments import Environment
+from .following import REST
 from .invocation_lines import Line, Printed
 from .invocation_log import Invocations, Tails
 from .invocation_report import InvocationReport
@@ -131,6 +132,8 @@ class Parts:
         self.watch.clock.share(self.clock_file)
         if any(function.debug for function in self.functions):
             self.watch.clock.pause()
+        if self.streaming or options.storm:  # (whose callers wait until an entry is taken)
+            self.watch.following.pace.longest = REST
         self.looks = Looks(self.watch)
         self.printed = {number: Printed() for number in self.watch.life.environments}
         self.invocations = self.make_invocations()
