@@ -14,6 +14,7 @@ HERE = os.path.dirname(os.path.abspath(__file__))
 READY = 120  # seconds until all environments are
 ANSWERS = 300  # seconds until the callers have finished; they give up by themselves after 60 without progress
 ENDS = 60
+LOOK, LITTLE = 0.2, 0.05  # seconds between two looks; the share of them that who has nothing left to do may take
 SAY = 'echo "$AWS_ENDPOINT_URL_LAMBDA" "$LAMBDA_LOCAL_URL_F"; read end; true'
 
 
@@ -71,6 +72,17 @@ class Measured:
         """Seconds of processor time so far, by group."""
         return {name: sum(map(seconds_of, found)) for name, found in self.processes.items()}
 
+    def used_at_rest(self):
+        """The same once `up` has read all of the trace: by then it takes hardly any."""
+        end, before, after = time.monotonic() + ANSWERS, None, self.used()
+        while after["up"] + after["relay"] and (
+                before is None or sum(after[it] - before[it] for it in ("up", "relay")) > LITTLE * LOOK):
+            if time.monotonic() > end:
+                raise Trouble(f"after {ANSWERS} s `up` still works, with no caller; it said: {self.tail()}")
+            time.sleep(LOOK)
+            before, after = after, self.used()
+        return after
+
     def measured(self, call, kind, callers, size, seconds):
         """Rate, microseconds of half and of 99% of the invocations, and those of processor time of each."""
         words = [call, str(self.ports[kind]), "f", str(callers), str(size), str(seconds), kind]
@@ -78,11 +90,11 @@ class Measured:
                                                                 stderr=said) as caller:
             try:
                 self.hear(caller, said)
-                before = self.used()
+                before = self.used_at_rest()
                 caller.stdin.write(b"\n")
                 caller.stdin.flush()
                 count, rate, half, most, throttles = map(float, self.hear(caller, said).split())
-                after = self.used()
+                after = self.used_at_rest()
             finally:
                 caller.kill()
         used = {name: 1e6 * (after[name] - before[name]) / count for name in after}
