@@ -13,8 +13,8 @@ use Rattle.call_types.specs.declared.call.Entry.{Entry}
 use Rattle.lambda_wire.specs.declared.reply.Reply.{Reply}
 use Rattle.long_poll.specs.Refusals.{refusal_reply}
 
--- The reply to a call in a history: this very call has a ticket there, and this is the reply that the definitions give
--- to that ticket.
+-- The reply to a call in a history: a call equal to this one has a ticket there, and this is the reply that the
+-- definitions give to that ticket.
 pub record IsReplyIn (config : Config) (salt : ℕ) (h : List Entry) (call : Call) (reply : Reply) : Type 0 where
   pub ticket : ℕ
   pub there : ticket < length h

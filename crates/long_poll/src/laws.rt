@@ -17,7 +17,7 @@ use account_lock::{Account, Identity};
 use decisions::Decide;
 use usage_ledger::{Keep, Token};
 
-/// What an exchange gives to a request that was decided to be a call: the exact reply text of that very call
+/// What an exchange gives to a request that was decided to be a call: the exact reply text of a call equal to that one,
 /// at its ticket, in the history that the outcome's token has seen, to which calls led; or the text of why it was
 /// refused there.
 pub fn replies<R, S: Identity + Drop, D: Decide, N: Clock, K: Keep>(

@@ -1,6 +1,6 @@
 //! The trace of a history as the body of a response.
 
-ghost use Rattle.std.specs.Prelude.{◌≡◌, ◌≢◌, ◌+◌, ◌/◌, min, true, None, IfOk};
+ghost use Rattle.std.specs.Prelude.{◌≡◌, ◌≢◌, ◌==◌, ◌+◌, ◌/◌, ◌%◌, min, true, None, IfOk};
 ghost use Rattle.std.specs.Arc.{arc_value};
 ghost use Rattle.futures.specs.Poll.{IfReady, OnPending};
 ghost use Rattle.futures.specs.Task.{Covers, Keeps};
@@ -41,6 +41,19 @@ fn rest_ms(shown: u64) -> u64
     ensures { result ≡ min (1 + shown / 8) 10 }
 {
     (REST_MS + shown / PIECES_PER_MS).min(LONGEST_REST_MS)
+}
+
+/// How many pieces a follower shows in a row before it gives way: each line of an entry takes the account's lock.
+const PIECES_IN_A_ROW: u64 = 16;
+
+/// For how many microseconds it gives way at least, so that a call that waits for the account gets it.
+const WAY_US: u64 = 50;
+
+/// Returns whether a follower gives way that has shown so many pieces since it rested last.
+fn gives_way(shown: u64) -> bool
+    ensures { result ≡ (shown % 16 == 0) }
+{
+    shown % PIECES_IN_A_ROW == 0
 }
 
 /// How far a trace has come.
@@ -243,6 +256,14 @@ impl<R: Wait + Drop, S: Service<K, Ledgers = L, Trail = T>, T: Drop, K: Keep, L:
         }
     }
 
+    /// Gives way to calls if it follows the history and has shown many pieces in a row.
+    fn give_way(&self) {
+        if self.course.follow && gives_way(self.shown) {
+            self.parker
+                .park_timeout(&self.rt, Duration::from_micros(WAY_US));
+        }
+    }
+
     /// Goes on where there is no further entry: ends, or waits for the next step.
     fn poll_on(&mut self, cx: &mut Context<'_>) -> Poll<Option<Result<Frame<Bytes>, AllocError>>>
         ensures value { IfReady result (Stops self.old.course) }
@@ -298,6 +319,7 @@ impl<R: Wait + Drop, S: Service<K, Ledgers = L, Trail = T>, T: Drop, K: Keep, L:
                 }
                 Ok(Found::Piece(piece)) => {
                     self.shown = self.shown.saturating_add(1);
+                    self.give_way();
                     return Poll::Ready(Some(Ok(piece)));
                 }
                 Ok(Found::Nothing) => return self.poll_on(cx),
