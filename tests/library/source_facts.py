@@ -12,6 +12,9 @@ FUNCTION = re.compile(r"^( *)(pub(?:\([a-z ]+\))? )?(?:const )?fn (\w+)", re.M)
 BLOCK = re.compile(r"^(?:impl|(?:pub(?:\([a-z]+\))? )?trait)\b([^{;]*)", re.M)
 GENERIC = re.compile(r"<(?:[^<>]|->)*>")
 CLAUSE = re.compile(r"^\s*(ensures|requires|ghost|×)")
+ENSURES = re.compile(r"\s*ensures\b")
+# A clause that says only that something stays as it was, which one that does nothing meets.
+STAYS = re.compile(r"\s*ensures (?:\w+ )?\{ (?:(\w+)\.new(\S*) ≡ \1\.old\2|Keeps cx\.old cx\.new) \}$")
 ROUTE = re.compile(r"^(?!\s*(?://|ensures|requires|ghost)).*\"/_local/", re.M)
 ROUTES = "crates/http_routes/src/routes.rt"
 OF_HANDLERS = "crates/handler_desk/src/asked.rt"  # the paths of handlers' own requests, which no route has
@@ -24,7 +27,7 @@ NOT_CLAIMED = "## What is not claimed"
 
 class Function(NamedTuple):
     """A function of a crate by its path: `Type::name`, or its name; whether it is public, has a contract of its own
-    that says what it gives, and is of a trait, whose contract it then has."""
+    that says more than what stays as it was, and is of a trait, whose contract it then has."""
     crate: str
     path: str
     is_public: bool
@@ -63,7 +66,7 @@ def functions(root: str, *crates: str) -> Iterator[Function]:
         for it in FUNCTION.finditer(text):
             above = [block for block in blocks if block.start() < it.start()] if it[1] else []
             name = type_of(above[-1][1].split("where")[0]) if above else ""
-            ensures = any(re.match(r"\s*ensures\b", line) for line in contract(text, it.start()))
+            ensures = any(ENSURES.match(line) and not STAYS.match(line) for line in contract(text, it.start()))
             yield Function(crate, f"{name}::{it[3]}" if name else it[3], it[2] == "pub ", ensures,
                            bool(above) and not name)
 

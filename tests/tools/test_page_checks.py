@@ -23,6 +23,18 @@ SOURCE = """impl<B: Bell> Rings<B> {
     {
         1
     }
+
+    fn rest(&mut self)
+        ensures { self.new ≡ self.old }
+        ensures kept { Keeps cx.old cx.new }
+    {
+    }
+
+    fn last(&mut self)
+        ensures same { self.new.first ≡ self.old.first }
+        ensures grown { self.new.count ≡ self.old.count + 1 }
+    {
+    }
 }
 
 impl Bell for Loud {
@@ -70,16 +82,17 @@ class PageChecks(Case):
         self.check("each with its type, whether it promises, and whose contract it has",
                    [(it.path, it.is_public, it.ensures, it.is_of_trait) for it in source_facts.functions(self.root)],
                    [("Rings::ring", True, False, False), ("Rings::first", False, True, False),
+                    ("Rings::rest", False, False, False), ("Rings::last", False, True, False),
                     ("ring", False, False, True), ("open", True, False, False), ("hidden", False, False, False)])
 
     def test_functions_that_promise_nothing(self) -> None:
         def faults(words: str) -> str:
             return "\n".join(source_facts.unlisted(self.root, LIST.format(words)))
         found = faults("nothing")
-        self.check("those that are nowhere", [name for name in ("ring", "first", "open", "hidden")
-                                              if f"::{name} promises nothing" in found], ["open", "hidden"])
+        self.check("those that are nowhere", [name for name in ("ring", "first", "rest", "last", "open", "hidden")
+                                              if f"::{name} promises nothing" in found], ["rest", "open", "hidden"])
         self.put(source_facts.NO_CLAUSE, "# a comment\na::hidden: it prints\n")
-        self.check("one in the list, one with a reason", faults("`open`"), "")
+        self.check("one in the list, one with a reason", faults("`open`, `Rings::rest`"), "")
         self.check("one in both", "a::hidden is in the list, and in" in faults("`open`, `hidden`"))
         self.put(source_facts.NO_CLAUSE, "a::hidden: it prints\na::Rings::first: it prints\na::open: \n")
         found = faults("nothing")
