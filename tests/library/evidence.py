@@ -139,6 +139,16 @@ def old_edits(root, oldest):
         f"stand on, as {old[0]}; each gate tries some, tests/must_fail/run all, and tests/gate --keep notes them here")
 
 
+def untwinned(root):
+    """The gate's edits of a function with a proof of its own that have no twin: only that shows that the proof does not
+    refuse each change of the function."""
+    for name in edits.names_of(root):
+        edit, crate = edits.path_of(root, name), name.split("/")[0]
+        place = edits.function_of(edit).replace("::", "/")
+        if place and not edits.has_twin(edit) and glob.glob(f"{root}/crates/{crate}/proofs/**/{place}", recursive=True):
+            yield f"{name}: {place.split('/')[-1]} has a proof of its own, and the edit no line `same`"
+
+
 def misnoted(root):
     """What is wrong with the table of edits that were refused."""
     try:

@@ -98,6 +98,16 @@ class MustFail(Case):
             write(path, lines.encode())
             self.check(f"what does not fit: {words}", words in edits.misfit(path, crate))
 
+    def test_an_edit_of_the_gate_has_a_twin_if_its_function_has_a_proof(self) -> None:
+        repository(self.root)
+        for crate, edit in (("a", EDIT), ("b", TWINNED), ("c", EDIT)):
+            write(f"{self.root}/tests/must_fail/{crate}/e.edit", f"gate: It::f\n{edit}".encode())
+            self.check(f"{crate} has no proof", [*evidence.untwinned(self.root)], [])
+        for crate in "ab":
+            write(f"{self.root}/crates/{crate}/proofs/lib/It/f/Answers.antt", b"")
+        self.check("one has no twin", [*evidence.untwinned(self.root)],
+                   ["a/e: f has a proof of its own, and the edit no line `same`"])
+
     def test_the_stalest_come_first(self) -> None:
         repository(self.root)
         first = head(self.root)
