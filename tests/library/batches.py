@@ -91,8 +91,9 @@ def tried(root: str, names: List[str], built: str, seconds: float,
     if members:
         made = trials.check(root, crate, functions, texts, built, seconds)
     share = made.seconds / len(names)
-    good = {it for it in names if made.status == 0} if twins else refused(crate, members, made.status, made.lines)
-    yield from ((it, Trial("", share)) for it in names if it in good)
+    good = (dict.fromkeys(names if made.status == 0 else (), "") if twins
+            else refused(crate, members, made.status, made.lines))
+    yield from ((it, Trial("", share, by=good[it])) for it in names if it in good)
     open_ones = [it for it in names if it not in good]
     halves = [open_ones] if good else [names[:len(names) // 2], names[len(names) // 2:]]
     for half in halves:
@@ -100,19 +101,20 @@ def tried(root: str, names: List[str], built: str, seconds: float,
             yield name, one._replace(seconds=one.seconds + share)
 
 
-def refused(crate: str, members: List[Member], status: Optional[int], lines: List[str]) -> "set[str]":
+def refused(crate: str, members: List[Member], status: Optional[int], lines: List[str]) -> Dict[str, str]:
     """Those of the members that a check of all has refused, each by what it said of the member's own file. If it says
     something of a file that is none of theirs, or did not come to its end, it tells of none."""
     if status != 1:
-        return set()
+        return {}
     owned: Dict[str, List[str]] = {it.name: [] for it in members}
     for line in lines:
         owner = owner_of(line, crate, members)
         if owner:
             owned[owner.name].append(line)
         elif is_told_against(line):
-            return set()
-    return {name for name, own in owned.items() if not trials.fault_of_edit(1, [*own, lines[-1]])}
+            return {}
+    return {name: trials.reason_of(own) for name, own in owned.items()
+            if not trials.fault_of_edit(1, [*own, lines[-1]])}
 
 
 def owner_of(line: str, crate: str, members: List[Member]) -> Optional[Member]:

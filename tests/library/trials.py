@@ -36,10 +36,12 @@ class Check(NamedTuple):
 
 
 class Trial(NamedTuple):
-    """Why an edit is not refused, or a twin is not proved; nothing if it is. If time ran out, it is not decided."""
+    """Why an edit is not refused, or a twin is not proved; nothing if it is. If time ran out, it is not decided. And by
+    what an edit is refused."""
     fault: str
     seconds: float
     is_decided: bool = True
+    by: str = ""
 
 
 class Works:
@@ -144,7 +146,7 @@ def trial_once(root: str, name: str, built: str, seconds: float, anew: bool) -> 
         return Trial(f"{NO_VERDICT} within {f'{CPU_SECONDS} CPU seconds' if is_costly else f'{seconds} s'}",
                      made.seconds, is_costly)
     fault = fault_of_twin(made.status, made.lines) if is_twin else fault_of_edit(made.status, made.lines)
-    return Trial(fault, made.seconds)
+    return Trial(fault, made.seconds, by="" if fault or is_twin else reason_of(made.lines))
 
 
 def fault_of_edit(status: int, lines: List[str]) -> str:
@@ -162,6 +164,12 @@ def fault_of_edit(status: int, lines: List[str]) -> str:
         return (f"{BY_NAMES}: a hand-written proof names what the edit takes away, which says nothing of the promise; "
                 f"change a value and keep the names: {told[0][:160]}")
     return ""
+
+
+def reason_of(lines: List[str]) -> str:
+    """By what an edit is refused: what is first told of a promise, else of a function."""
+    told = [it for it in lines if TOLD.match(it) and not NAMES.match(it)]
+    return next(iter(told + [it for it in lines if REFUSED.search(it)]), "")[:160]
 
 
 def fault_of_twin(status: int, lines: List[str]) -> str:

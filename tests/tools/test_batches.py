@@ -72,6 +72,7 @@ class Batches(Case):
         with mock.patch.object(trials, "check", check):
             made = dict(batches.tried(self.root, [*names], os.devnull, 60))
         self.seconds = sum(it.seconds for it in made.values())
+        self.by = {name: it.by for name, it in made.items()}
         return {name: it.fault for name, it in made.items()}
 
     def test_each_is_judged_by_its_own_file(self) -> None:
@@ -79,6 +80,7 @@ class Batches(Case):
         self.check("both are refused", self.tried(both, BOTH_REFUSED), {it: "" for it in both})
         self.check("by one check of their functions", self.checked, [(["A::g", "h"], ["src/a.rt", "src/b.rt"])])
         self.check("whose time they share", self.seconds, 10.0)
+        self.check("each by what is told of its own", self.by, dict(zip(both, BOTH_REFUSED)))
 
     def test_what_is_not_refused_is_tried_alone(self) -> None:
         proved = ["fn x::b::h: proved", "all proved"]

@@ -73,6 +73,8 @@ class MustFail(Case):
                 ("a limit of the prover", 3, ["antt ran out of stack", "only=3 proved=2"], "status 3")):
             fault = trials.fault_of_edit(status, lines)
             self.check(f"an edit: {what}", bool(fault) == bool(words) and words in fault, shown=fault)
+        for lines, at in ((BY_PROMISE, 0), (PARTLY, 1), (BY_SEARCH, 0)):
+            self.check("by what it is refused", trials.reason_of(lines), lines[at])
         self.check("a twin that is proved", trials.fault_of_twin(0, ["only=3 proved=3"]), "")
         fault = trials.fault_of_twin(1, NAMES_ALONE)
         self.check("a twin that is not", "changes nothing, and is not proved" in fault and NAMES_ALONE[0] in fault)
