@@ -17,7 +17,8 @@ from lambda_local.front.http import Reply, Request
 from lambda_local.service import Service, ask
 from tests.library.cases import Case
 from tests.library.events_kit import READY, Caller, caller_of, invoke_path
-from tests.library.failing_service import answer, head_in
+from tests.library.failing_service import answer
+from tests.library.hostile_service import Deaf, Hostile
 from tests.library.up_kit import Up, until
 
 PATIENCE = 60  # seconds, on a machine that does much else
@@ -43,63 +44,6 @@ WRONG: Tuple[Tuple[bytes, str], ...] = (
     *((line_of(method=one), "method") for one in ("", "a b", "a\r\nb", 7, None)),
     *((line_of(target=one), "target") for one in ("a b", "/a b", "/\r\nX: y", "/\0", "//a/\ud800", 7, None, "/a<b")),
     *((line_of(headers=one), "headers") for one in BAD_HEADERS))
-
-
-class Hostile(threading.Thread):
-    """A service that does these deeds, one on each connection: it sends this to a `next`, this to the post, and closes
-    the connection. What it was sent is kept."""
-    reads = 1  # how often it reads on after it has said that
-
-    def __init__(self, *deeds: Tuple[bytes, bytes]) -> None:
-        super().__init__(daemon=True)
-        self.deeds, self.posts, self.connections, self.open = list(deeds), [b""] * 0, 0, 0
-        self.listener, self.is_over = socket.create_server(("127.0.0.1", 0)), threading.Event()
-        self.port = self.listener.getsockname()[1]
-        self.start()
-
-    def run(self) -> None:
-        with contextlib.suppress(OSError):
-            while True:
-                peer, _ = self.listener.accept()
-                self.connections += 1
-                threading.Thread(target=self.serve, args=(peer, ), daemon=True).start()
-
-    def serve(self, peer: socket.socket) -> None:
-        with peer, peer.makefile("rb") as stream, contextlib.suppress(OSError):
-            if handlers.HERE.encode() in head_in(stream):
-                return peer.sendall(answer(204, b""))
-            given, said = self.deeds.pop(0) if self.deeds else (b"", b"")
-            if not given:
-                peer.recv(1)  # (it waits)
-                return
-            peer.sendall(given)
-            self.posts.append(head_in(stream))
-            peer.sendall(said)
-            for _ in range(self.reads if said else 0):
-                self.posts.append(stream.read1(1 << 16))
-
-    def close(self) -> None:
-        self.listener.shutdown(socket.SHUT_RDWR)
-        self.listener.close()
-
-
-class Deaf(Hostile):
-    """One that reads no post."""
-
-    def __init__(self, *deeds: Tuple[bytes, bytes]) -> None:
-        super().__init__(*deeds)
-        self.listener.setsockopt(socket.SOL_SOCKET, socket.SO_RCVBUF, 4096)
-
-    def serve(self, peer: socket.socket) -> None:
-        with peer, peer.makefile("rb") as stream, contextlib.suppress(OSError):
-            if handlers.HERE.encode() in head_in(stream):
-                return peer.sendall(answer(204, b""))
-            peer.sendall(self.deeds.pop(0)[0] if self.deeds else b"")
-            self.is_over.wait(PATIENCE)
-
-    def close(self) -> None:
-        self.is_over.set()
-        super().close()
 
 
 class Running:
@@ -301,6 +245,22 @@ class FrontHandler(Case):
             self.check("then few connections stay", until(lambda: len(running.handler.tasks) <= handlers.SPARE, 10),
                        shown=len(running.handler.tasks))
             self.check("which answer", ask(service.port, "GET", "/short", timeout=PATIENCE)[0], 200)
+
+    def test_superfluous_connections_that_ask_end(self) -> None:
+        """So many may have asked for a request with their last answers. No one's request is needed to end them."""
+        with real() as service, Running(service.port, ok) as running:
+            async def begin() -> int:
+                for _ in range(2 * handlers.SPARE):
+                    running.handler.begin()
+                return running.handler.asking
+            asking = asyncio.run_coroutine_threadsafe(begin(), running.loop).result(PATIENCE)
+            self.check("there are more than are spare", asking > handlers.SPARE)
+            self.check("then no more than are", until(lambda: len(running.handler.tasks) <= handlers.SPARE, 10),
+                       shown=len(running.handler.tasks))
+            self.check("all of which ask", until(lambda: running.handler.asking == handlers.SPARE, 10),
+                       shown=running.handler.asking)
+            self.check("nothing is told", running.told, [])
+            self.check("and a request is answered", ask(service.port, "GET", "/x", timeout=PATIENCE)[0], 200)
 
     def test_no_more_than_the_most_are_at_work(self) -> None:
         held = threading.Semaphore(0)

@@ -62,6 +62,7 @@ class Handler:
         self.ahead: Set[ServiceWire] = set()  # connections that have asked for a request with their last answer
         self.tasks: "Set[asyncio.Task[None]]" = set()
         self.asking = self.held = 0  # connections that ask; bytes of the bodies of requests that are answered
+        self.fewest = 0  # how many asked all the time since the last look
         self.rooms: "List[asyncio.Future[None]]" = []  # those that wait until there is room for a body
         self.last_told = self.last_broken = -BETWEEN_TELLS
         self.is_known = threading.Event()  # the service hands over, or has ended
@@ -147,6 +148,7 @@ class Handler:
             return False
         size = len(handed.request.content)
         self.asking, self.held = self.asking - 1, self.held + size
+        self.fewest = min(self.fewest, self.asking)
         if not self.asking and len(self.tasks) < self.most:
             self.begin()
         try:
@@ -284,16 +286,30 @@ class Handler:
 
     async def look(self) -> None:
         while True:
+            self.fewest = self.asking
             await asyncio.sleep(BETWEEN_LOOKS)
-            now, size, count = time.monotonic(), sum(self.unread.values()), 0
-            for wire in sorted(self.unread, key=lambda wire: wire.full_since):
-                if size > MOST_UNREAD and wire.untaken(now) >= SLOW_SECONDS:
-                    size, count = size - self.unread.pop(wire), count + 1
-                    wire.abort()
-            if count and now - self.last_broken > BETWEEN_TELLS:
-                self.last_broken = now
-                self.tell(f"{several(count, 'answer')} broken off: more than {MOST_UNREAD >> 20} MiB of answers wait, "
-                          "and their readers take nothing")
+            self.break_off()
+            with contextlib.suppress(Gone, asyncio.TimeoutError):
+                await asyncio.wait_for(self.end_spare(self.fewest - SPARE), BETWEEN_LOOKS)
+
+    def break_off(self) -> None:
+        """Breaks off answers that are not read, if too much of them waits."""
+        now, size, count = time.monotonic(), sum(self.unread.values()), 0
+        for wire in sorted(self.unread, key=lambda wire: wire.full_since):
+            if size > MOST_UNREAD and wire.untaken(now) >= SLOW_SECONDS:
+                size, count = size - self.unread.pop(wire), count + 1
+                wire.abort()
+        if count and now - self.last_broken > BETWEEN_TELLS:
+            self.last_broken = now
+            self.tell(f"{several(count, 'answer')} broken off: more than {MOST_UNREAD >> 20} MiB of answers wait, "
+                      "and their readers take nothing")
+
+    async def end_spare(self, count: int) -> None:
+        """Ends so many of the connections that ask. None of them can be closed, since a request may be on its way to
+        it. So it makes as many requests: whichever connection has answered one is superfluous, and ends."""
+        with contextlib.closing(Client(self.service)) as client:
+            for _ in range(count):
+                await client.ask("GET", HERE)
 
     async def said_of_pieces(self, wire: ServiceWire, pieces: Pieces, length: Optional[int]) -> Tuple[int, bytes]:
         """Sends a body as it comes. If the service answers before its end, it takes no more of it. What breaks off, or
