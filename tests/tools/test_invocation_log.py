@@ -24,6 +24,7 @@ from lambda_local.up.output import MarkedSplitter
 from lambda_local.up.tasks import Tasks
 from tests import ROOT
 from tests.library.cases import Case
+from tests.library.speaking import AT_ONCE, OF_NODE, SPEAKING_EXTENSION, SPEAKS
 from tests.library.up_kit import Up, until
 
 APP = r'''import os, sys, time
@@ -86,42 +87,6 @@ class Load:
         for process in self.spinning:
             process.kill()
             process.wait()
-
-
-SPEAKS = r"""import http.client, json, os, sys
-connection = http.client.HTTPConnection(os.environ["AWS_LAMBDA_RUNTIME_API"])
-def ask(method, path, body=None):
-    connection.request(method, "/2018-06-01/runtime/invocation/" + path, body)
-    reply = connection.getresponse()
-    return reply.status, reply.headers, reply.read()
-while True:
-    status, headers, body = ask("GET", "next")
-    if status != 200: break
-    event = json.loads(body)
-    for number in range(event["count"]): print(f"{event['name']} line {number}", flush=True)
-    sys.stdout.write(f"{event['name']} ends"); sys.stdout.flush()
-    ask("POST", headers["Lambda-Runtime-Aws-Request-Id"] + "/response", "1")
-"""
-OF_NODE = """export const run = async (event) => {
-  for (let number = 0; number < event.count; number += 1) process.stdout.write(`${event.name} line ${number}\n`);
-  process.stdout.write(`${event.name} ends`);
-};
-"""
-AT_ONCE = """import sys
-def run(event, context):
-    for number in range(event["count"]): print(f"{event['name']} line {number}")
-    sys.stdout.write(f"{event['name']} ends"); sys.stdout.flush()
-"""
-SPEAKING_EXTENSION = r"""import json, os, urllib.request
-base = f"http://{os.environ['AWS_LAMBDA_RUNTIME_API']}/2020-01-01/extension/"
-def ask(path, body, headers):
-    return urllib.request.urlopen(urllib.request.Request(base + path, body, headers))
-me = {"Lambda-Extension-Identifier": ask("register", b'{"events":["INVOKE"]}', {"Lambda-Extension-Name": "x"})
-      .headers["Lambda-Extension-Identifier"]}
-while True:
-    event = json.loads(ask("event/next", None, me).read())
-    print(f"extension {event['requestId']}", flush=True)
-"""
 
 
 class Part:
@@ -370,6 +335,30 @@ class InvocationLog(Case):
         printed.take("f/1", "of the next generation")
         self.check("the next generation's are nobody's", (of("b"), [line.text for line in printed.lines][-1]),
                    (["b 1"], "of the next generation"))
+
+    def test_what_one_has_begun_beyond_a_mark_is_of_the_invocation_of_that_mark(self):
+        """A runtime may have come to the next invocation, and an extension's pipe may have been read just before."""
+        printed = Printed()
+        runtime, extension = Part(printed), Part(printed)
+        extension.name = "f/1 x"
+        for process in (extension, runtime):
+            printed.add(process)
+            printed.passing.add(process.name)
+        for process in (extension, runtime):
+            printed.passing.passes(process.name, "a")
+        printed.passing.take("f/1", "a 1")
+        extension.left = "x of a"
+        until = printed.settle()
+        printed.passing.passes("f/1", "b")
+        printed.passing.take("f/1", "b 1")
+        runtime.left = "b 2"
+        later = printed.settle()
+        of = lambda identifier, until: [line.text for line in printed.of_invocation(identifier, until)]
+        self.check("before it", of("a", until), ["a 1", "x of a"])
+        self.check("beyond it", of("a", later), ["a 1", "x of a"])
+        extension.left = ""
+        printed.passing.passes("f/1 x", "b")
+        self.check("once all have come to it", of("b", printed.settle()), ["b 1", "b 2"])
 
     def test_what_an_early_process_prints_is_taken(self):
         """A process may have answered its first invocation before the thread that starts it goes on."""

@@ -145,9 +145,11 @@ class Printed:
         return list(itertools.islice(self.lines, max(0, place - self.count + len(self.lines)), None))
 
     def settle(self, cuts: bool = False) -> Settled:
-        """Takes all that the processes have written by now. If it cuts, also what is not whole."""
+        """Takes all that the processes have written by now. If it cuts, also what is not whole. (While one is held, it
+        has come to the lines of a later invocation than those that come.)"""
         begun = [(process.name, *process.settle(cuts)) for process in self.processes]
-        unfinished = [Line(1000 * since, name, text) for name, since, text in begun if text]
+        unfinished = [Line(1000 * since, name, text) for name, since, text in begun
+                      if text and not self.passing.holds(name)]
         return Settled(self.count, self.divisions[-1].identifier if self.divisions else "", unfinished)
 
     # ---- the invocations ---------------------------------------------------------------------------------------------

@@ -47,6 +47,10 @@ class Passing:
         while self.size > MOST_HELD:
             self._force(max(self.held, key=lambda each: len(self.held[each])))
 
+    def holds(self, name: str) -> bool:
+        """Whether this one has come to a mark to which another has not."""
+        return bool(self.held.get(name))
+
     def passes(self, name: str, identifier: str) -> None:
         """What this one prints from now on is this invocation's."""
         mark, held = Mark(identifier), self.held.setdefault(name, deque())
