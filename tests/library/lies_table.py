@@ -1,6 +1,7 @@
 """For each file of tests a deliberate fault at which it has to fail: its own words (pieces of the names of the tests
 that are run, else all, and variables), the file with the fault, what stands there, and the fault."""
 import ast
+import hashlib
 import os
 import re
 from typing import Dict, Iterator, Tuple
@@ -199,23 +200,40 @@ LIES: Dict[str, Tuple[str, str, str, str]] = {
 }
 
 
-def notes(root: str) -> Dict[str, str]:
-    """The lies that were found, each with the commit."""
+def text_of(root: str, path: str) -> str:
+    """Nothing if it is not there."""
     try:
-        with open(os.path.join(root, NOTED), encoding="utf-8") as file:
-            return dict(line.split() for line in file)
+        with open(os.path.join(root, path), encoding="utf-8") as file:
+            return file.read()
     except OSError:
-        return {}
+        return ""
+
+
+def sum_of(root: str, name: str) -> str:
+    """A sum of what a lie is found by: its words, its file of tests and the file with the fault. (Not the commit, which
+    git does not know any more once it is one with others.)"""
+    paths = tool_tests.files(root)[name].replace(".", "/") + ".py", LIES[name][1]
+    found_by = [*LIES[name], *(text_of(root, path) for path in paths)]
+    return hashlib.sha256("\0".join(found_by).encode()).hexdigest()[:16]
+
+
+def notes(root: str) -> Dict[str, str]:
+    """The lies that were found, each with the sum at that time."""
+    return dict(line.split() for line in text_of(root, NOTED).splitlines())
 
 
 def untried(root: str) -> Iterator[str]:
-    """What files of tests have no lie, or one that was not found yet."""
-    found = notes(root)
+    """What files of tests have no lie, or one that was not found yet, or not since what it is found by has changed."""
+    found, changed = notes(root), []
     for name, module in tool_tests.files(root).items():
         if name not in LIES:
             yield f"{module} has no lie in tests/library/lies_table.py"
         elif name not in found:
             yield f"the lie of {module} was not found yet: tests/lies {name}"
+        elif found[name] != sum_of(root, name):
+            changed.append(name)
+    if changed:
+        yield f"lies whose tests, or whose files, have changed since they were found: tests/lies {' '.join(changed)}"
 
 
 TABLE = re.compile(r'^    "(\w+)": \("[^"]*",\s+(?:(OF_\w+) \+ )?"([^"]*)",\s+'

@@ -8,7 +8,7 @@ import unittest
 from typing import Iterator, List
 from unittest import mock
 
-from tests.library import changes, evidence, lint, source_facts, speeds
+from tests.library import changes, evidence, lies_table, lint, source_facts, speeds
 from tests.library.cases import Case
 from tests.library.trees import commit, write
 
@@ -170,6 +170,32 @@ class PageChecks(Case):
         write(os.path.join(self.root, "bin", name), f"#!/bin/sh\n{script}\n".encode(), 0o755)
         with mock.patch.dict(os.environ, {"PATH": f"{self.root}/bin:/usr/bin:/bin"}):
             yield
+
+    def test_lies_that_are_not_found_since_something_changed(self) -> None:
+        """By the lie, its tests and the file with the fault, whatever the commit."""
+        lies = {name: ("", f"tools/{name}.py", "old", "new") for name in "ab"}
+        for name in "abc":
+            self.put(f"tests/tools/test_{name}.py", "tests")
+            self.put(f"tools/{name}.py", "old")
+        no_lie = "tests.tools.test_c has no lie in tests/library/lies_table.py"
+        with mock.patch.dict(lies_table.LIES, lies, clear=True):
+            self.check("none was found yet", list(lies_table.untried(self.root)), [
+                *(f"the lie of tests.tools.test_{name} was not found yet: tests/lies {name}" for name in "ab"), no_lie])
+            self.put(lies_table.NOTED, "".join(f"{name} {lies_table.sum_of(self.root, name)}\n" for name in lies))
+            self.check("each was found by what is there", list(lies_table.untried(self.root)), [no_lie])
+
+            def seen() -> str:
+                return next(lies_table.untried(self.root), "").partition(": tests/lies ")[2]
+            os.remove(os.path.join(self.root, "tests/tools/test_c.py"))
+            for path, name in (("tests/tools/test_a.py", "a"), ("tools/b.py", "b")):
+                with open(os.path.join(self.root, path), encoding="utf-8") as file:
+                    before = file.read()
+                self.put(path, before + " and more")
+                self.check(f"{path} has changed", seen(), name)
+                self.put(path, before)
+                self.check("as it was", seen(), "")
+            lies_table.LIES["b"] = ("", "tools/b.py", "old", "newer")
+            self.check("another lie", seen(), "b")
 
     def test_linters_that_do_not_judge(self) -> None:
         for version, wanted in (("pyflakes3 2.4.0 Python 3.9", True), ("2.5.0 Python 3.11.2", False), ("3.2", False),
