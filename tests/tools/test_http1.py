@@ -226,12 +226,36 @@ class Http1(Case):
         self.check("17 KiB of zeros before a size, which the service takes",
                    own_outcome(chunked + b"0" * 17000 + b"1\r\nx\r\n0\r\n\r\n"), [BROKEN])
 
+    def test_chunks_that_are_lines_are_those_that_come_byte_by_byte(self):
+        """Also with a chunk among them that is written in another way, is none, or has line ends in it."""
+        head = b"HTTP/1.1 200 OK\r\nTransfer-Encoding: chunked\r\n\r\n"
+        lines = [b"x" * count + b"\n" for count in (98, 200, 449)]
+        whole = [b"%x\r\n%s\r\n" % (len(line), line) for line in lines]
+        body, last = b"".join(lines), b"0\r\n\r\n"
+        for name, other, wanted in (
+                ("none", b"", body * 2),
+                ("an upper-case size", b"4F\r\n" + b"y" * 79 + b"\r\n", body + b"y" * 79 + body),
+                ("a zero before it", b"03\r\nyyy\r\n", body + b"yyy" + body),
+                ("an extension", b"3;a=b\r\nyyy\r\n", body + b"yyy" + body),
+                ("line ends", b"9\r\n\r\n3\r\nab\r\n\r\n", body + b"\r\n3\r\nab\r\n" + body),
+                ("what looks like two", b"b\r\n3\r\nabc\r\n3\r\n\r\n", body + b"3\r\nabc\r\n3\r\n" + body),
+                ("the last one", last, body),
+                ("one too short", b"4\r\nyyy\r\n", None), ("one too long", b"2\r\nyyy\r\n", None),
+                ("no size", b"\r\nyyy\r\n", None), ("a blank before a size", b" 3\r\nyyy\r\n", None),
+                ("an underscore", b"0_3\r\nyyy\r\n", None), ("a prefix", b"0x3\r\nyyy\r\n", None)):
+            data = head + b"".join(whole) + other + b"".join(whole) + last
+            seen = [read_response("GET", data, size) for size in (1, 7, 500, 1 << 20)]
+            self.check(f"{name}: in pieces of any size", seen[1:], seen[:1] * 3)
+            self.check(f"{name}: its body", seen[0], "malformed" if wanted is None else (200, wanted, True))
+
     def test_four_times_as_much_takes_some_four_times_as_long(self):
         """Four times as much takes some four times as long, whatever comes, and in the smallest pieces."""
         chunked = b"POST /x HTTP/1.1\r\nHost: a\r\nTransfer-Encoding: chunked\r\n\r\n"
         for name, made, count, size in (
                 ("chunks of one byte", lambda count: chunked + b"1\r\nx\r\n" * count, 50_000, 65536),
                 ("chunks of one and two bytes", lambda count: chunked + b"1\r\nx\r\n2\r\nyy\r\n" * count, 3_000, 65536),
+                ("chunks with an extension by turns", lambda count: chunked + (
+                    b"c8\r\n" + b"x" * 200 + b"\r\nc8;a\r\n" + b"x" * 200 + b"\r\n") * count, 300, 65536),
                 ("chunks that come byte by byte", lambda count: chunked + b"1\r\nx\r\n" * count, 500, 1),
                 ("a long header byte by byte", lambda count: b"GET / HTTP/1.1\r\nX: " + b"x" * count, 3_000, 1),
                 ("empty headers byte by byte", lambda count: b"GET / HTTP/1.1\r\n" + b"a:\r\n" * count, 24, 1),

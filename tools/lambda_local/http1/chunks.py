@@ -11,6 +11,7 @@ MOST_DIGITS = 16  # without leading zeros
 AT_ONCE = 128 << 10  # bytes of a body that are read before others have their turn
 SMALL = 16  # bytes of a chunk; of these a run is read at once
 LEAST_RUN = 4
+LEAST_MEAN = 64  # bytes between two CR LF, if chunks are read all at once
 
 
 class Chunks:
@@ -27,11 +28,12 @@ class Chunks:
         needed."""
         parts: List[bytes] = []
         with memoryview(buffer) as view:
-            text, at, begun = bytes(view[:AT_ONCE]), 0, -1
+            text, at, begun, has_tried = bytes(view[:AT_ONCE]), 0, -1, False
         while at > begun and not self.is_over:
             begun = at
             if self.left is None:
-                at = self._plain(text, at, parts)
+                at = self._plain(text, at if has_tried else all_at_once(text, at, parts), parts)
+                has_tried = True
                 at = self._size(text, at, len(buffer) > len(text))
             elif self.left:
                 data = text[at:at + self.left]
@@ -90,6 +92,21 @@ class Chunks:
             return at
         self.left = None
         return at + 2
+
+
+def all_at_once(text: bytes, at: int, parts: List[bytes]) -> int:
+    """Takes the whole chunks from here on, if none of them has CR LF in its data and the lines are what most servers
+    write: so a text that comes line by line takes half of the time. Returns the place after them."""
+    if LEAST_MEAN * text.count(b"\r\n", at) > len(text) - at:
+        return at
+    pieces = text[at:].split(b"\r\n")  # a size, its data, and so on
+    data = pieces[1:-1:2]
+    count = 2 * len(data)
+    sizes = " ".join(map(hex, map(len, data))).encode()
+    if b"" in data or sizes != b"0x" + b" 0x".join(pieces[:count:2]):
+        return at
+    parts += data
+    return len(text) - len(b"\r\n".join(pieces[count:]))
 
 
 def run_of_equal(text: bytes, at: int, width: int, size: int, parts: List[bytes]) -> int:
