@@ -33,6 +33,8 @@ def _escaped(found: "re.Match[str]") -> str:
 
 def printable(text: str) -> str:
     """A text for a person, in one line: it begins no line of its own, and does nothing to a terminal."""
+    if text.isprintable():
+        return text  # (no character of which is unsafe)
     return UNSAFE.sub(_escaped, text)
 
 
