@@ -137,6 +137,8 @@ LIES: Dict[str, Tuple[str, str, str, str]] = {
                          '**handled, "LAMBDA_LOCAL_HOSTS": "evil.example.com"}'),
     "shop": ("the_shop", OF_TOOLS + "from_template/services.py", "{sqs}/{account}/{name}",
              "{sqs}/{account}/of-{name}"),
+    "short_entries": ("what_goes_on", OF_TOOLS + "history/generations.py",
+                      "        environment.becomes(environment.idle)\n", "        pass\n"),
     "six_projects": ("each_of_six", OF_TOOLS + "from_template/stacks.py",
                      "return dict(assets_in(", "return dict(() and assets_in("),
     "sources": ("a_batch_that_fails_stays", OF_TOOLS + "up/queues.py",

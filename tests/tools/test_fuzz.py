@@ -35,7 +35,7 @@ from tests import ROOT
 from tests.library import given_fuzz, http_fuzz, identity_fuzz, strategies
 from tests.library.cases import Case
 from tests.library.given_fuzz import CONTROL, is_a_line
-from tests.library.traces import all_at_once, one_by_one
+from tests.library.traces import all_at_once, one_by_one, whole
 
 try:
     from hypothesis import HealthCheck, Phase, given, seed, settings
@@ -131,7 +131,10 @@ def of_traces(data):
             for event in life.take(entry):
                 str(event)
     lines, count = data.split(b"\n"), len(life.environments)
-    assert all_at_once(lines, count) == one_by_one(lines, count)
+    entries, fault = one_by_one(lines, count)
+    assert all_at_once(lines, count) == (entries, fault)
+    taken, end = all_at_once(lines, count, in_short=True)
+    assert (list(map(whole, taken, entries)), len(taken), end) == (entries, len(entries), fault)
 
 
 def of_templates(data):

@@ -13,6 +13,7 @@ import urllib.request
 from typing import List, Union
 from unittest import mock
 
+from lambda_local.life import Throttled
 from lambda_local.service import Fault, Service, ask
 from lambda_local.up.surroundings import Clients
 from lambda_local.up.watch import Watch
@@ -325,7 +326,7 @@ class UpEdge(Case):
         def follow(event):
             time.sleep(0.3)
             seen.append(type(event).__name__)
-        watch.followers.append(follow)
+        watch.give(follow, Throttled)
         watching.begin()
         ask(service.port, "PUT", "/2017-10-31/functions/f/concurrency", '{"ReservedConcurrentExecutions":0}')
         for count in (1, 2):

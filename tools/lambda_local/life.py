@@ -8,16 +8,19 @@ that close (docs/semantics.md).
 
 The events are an invocation that a runtime was given, one that ended, one that was throttled, and an environment that
 closes."""
-from typing import Dict, List, NamedTuple, Optional, Union
+from typing import Dict, List, NamedTuple, Optional, Tuple, Type, Union
 
 from .configuration import Members
 from .history import generations
-from .history.entries import Answer, Entry
+from .history.entries import Entry
 from .history.generations import Extension as Extension, Generation as Generation, Generations
+from .history.short import Asked, Delivered, Responded, Taken
 from .history.words import ENDINGS, FAILURES, INIT_FAILURE, INVOKE, Word
 
 
 class Invocation:
+    __slots__ = ("function", "identifier", "moment", "environment", "delivered", "asked", "is_over")
+
     def __init__(self, function: str, identifier: str, moment: int, environment: Optional["Environment"]) -> None:
         self.function, self.identifier, self.moment = function, identifier, moment
         self.environment = environment  # where it was placed
@@ -94,6 +97,7 @@ class Closes(NamedTuple):
 
 Reporter = Union[int, str]  # an environment's runtime, by the environment's number, or an extension, by its identifier
 Event = Union[Begun, Ended, Throttled, Closes]
+KINDS: Tuple[Type[Event], ...] = (Begun, Ended, Throttled, Closes)
 
 
 class Life:
@@ -107,9 +111,25 @@ class Life:
                 self.environments[here.number] = Environment(here, function["name"], place,
                                                              function.get("extensions", []))
         self.invocations: Dict[int, Invocation] = {}  # those without an answer, by ticket
+        self.tells_begun = True  # whether there are events of deliveries
 
-    def take(self, entry: Entry) -> List[Event]:
+    def take(self, entry: Taken) -> List[Event]:
         """The events of an entry."""
+        if isinstance(entry, Responded):
+            if entry.invoke in self.generations.polls:
+                self.generations.answered(entry.invoke, Word.OUTPUT)
+            return self._answered(entry.invoke, Word.OUTPUT, entry.moment, None, entry.length)
+        if isinstance(entry, Asked):
+            self.generations.asked(entry)
+            return []
+        if isinstance(entry, Delivered):
+            here = self.environments[entry.environment]
+            self.invocations[entry.ticket] = one = Invocation(entry.function, entry.request, entry.moment, here)
+            self.generations.delivered(entry)
+            return self._given(one, entry.moment)
+        return self._take(entry)
+
+    def _take(self, entry: Entry) -> List[Event]:
         events: List[Event] = []
         if entry.call.kind == INVOKE:
             self._invoked(entry, events)
@@ -117,9 +137,11 @@ class Life:
         turns = self.generations.take(entry)
         for answer in entry.answers:
             if answer.word is Word.DELIVER:
-                self._delivered(entry, answer, events)
+                invocation = self.invocations.get(-1 if answer.source is None else answer.source)
+                events += self._given(invocation, entry.moment)
             elif answer.word in ENDINGS:
-                self._ended(entry, answer, events)
+                length = answer.length if answer.body is None else len(answer.body)
+                events += self._answered(answer.ticket, answer.word, entry.moment, answer.body, length)
         for turn in turns:
             if turn.closes:
                 events.append(Closes(entry.moment, self.environments[turn.environment.number], turn.generation,
@@ -146,18 +168,19 @@ class Life:
         environment = self.environments.get(entry.call.environment or 0)
         return environment.generation.extensions.get(entry.call.extension or 0) if environment else None
 
-    def _delivered(self, entry: Entry, answer: Answer, events: List[Event]) -> None:
-        invocation = self.invocations.get(-1 if answer.source is None else answer.source)
-        if invocation and invocation.environment:
-            generation = invocation.environment.generation
-            invocation.delivered = entry.moment
-            invocation.asked = generation.asked if generation.deliveries == 1 else None
-            events.append(Begun(entry.moment, invocation, invocation.environment))
+    def _given(self, invocation: Optional[Invocation], moment: int) -> List[Event]:
+        """A runtime was given an invocation."""
+        if invocation is None or invocation.environment is None:
+            return []
+        generation = invocation.environment.generation
+        invocation.delivered = moment
+        invocation.asked = generation.asked if generation.deliveries == 1 else None
+        return [Begun(moment, invocation, invocation.environment)] if self.tells_begun else []
 
-    def _ended(self, entry: Entry, answer: Answer, events: List[Event]) -> None:
-        invocation = self.invocations.pop(answer.ticket, None)
+    def _answered(self, ticket: int, word: Word, moment: int, body: Optional[bytes],
+                  length: Optional[int]) -> List[Event]:
+        invocation = self.invocations.pop(ticket, None)
         if invocation is None:
-            return  # (the answer to another call: a reservation after a stop)
+            return []  # (the answer to another call: a reservation after a stop)
         invocation.is_over = True
-        length = answer.length if answer.body is None else len(answer.body)
-        events.append(Ended(entry.moment, invocation, invocation.environment, answer.word, answer.body, length))
+        return [Ended(moment, invocation, invocation.environment, word, body, length)]

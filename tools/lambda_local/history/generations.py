@@ -8,9 +8,11 @@ a trace say it.
 from typing import Dict, Iterable, List, NamedTuple, Optional, Sequence, Tuple, Union
 
 from .entries import Entry, Phase, count_in
+from .short import Asked, Delivered
 from .words import (BUSY, CLOSING, EXPIRE, EXT_NEXT, FAILURES, IDLE, NEXT, OFF, REGISTER, SPINDOWN, STARTING, STOP,
                     Word)
 
+new = tuple.__new__  # (for what is made again and again)
 MAY_END = (*FAILURES, STOP, EXPIRE, SPINDOWN)  # the calls that may end a generation
 
 
@@ -67,6 +69,18 @@ class Environment:
         self.phase = Phase(number, STARTING)
         self.generation = Generation(1)
         self.before: Optional[Generation] = None
+        self.idle = Phase(number, IDLE)
+
+    def becomes(self, now: Phase, closes: bool = False) -> bool:
+        """Its phase after an entry, with which its generation may begin to close; whether that is over."""
+        generation, was, self.phase = self.generation, self.phase, now
+        if (closes or was.name == CLOSING) and now.name != CLOSING:
+            generation.is_over = True
+            self.before, self.generation = generation, Generation(generation.number + (now.name != OFF))
+            return True
+        if not closes and not generation.is_ready:
+            generation.is_ready = now.name in (IDLE, BUSY)
+        return False
 
     def of(self, identifier: str) -> Optional[Generation]:
         """The generation in which this extension is registered: the present one, or that before it."""
@@ -90,6 +104,19 @@ class Generations:
         self.environments = {number: Environment(number) for number in range(1, environments + 1)}
         self.polls: Dict[int, Tuple[Generation, Poller]] = {}  # by ticket: whose they are
 
+    def delivered(self, entry: Delivered) -> None:
+        """Follows an Invoke in short."""
+        if entry.poll in self.polls:
+            self.answered(entry.poll, Word.DELIVER)
+        self.environments[entry.environment].becomes(
+            new(Phase, (entry.environment, BUSY, entry.deadline, None, entry.ticket, None)))
+
+    def asked(self, entry: Asked) -> None:
+        """Follows a Next in short."""
+        environment = self.environments[entry.environment]
+        self._asks(environment.generation, entry.ticket, entry.moment)
+        environment.becomes(environment.idle)
+
     def take(self, entry: Entry) -> List[Turn]:
         """Follows an entry. Returns what it made of those environments that it changed, by rising number."""
         environment = self.environments.get(entry.call.environment or 0)
@@ -105,12 +132,10 @@ class Generations:
         call, own = entry.call, entry.own
         if call.kind == NEXT:
             if own is None:
-                generation.poll = entry.ticket
-                self.polls[entry.ticket] = generation, generation
-            is_given = own is not None and own.word is Word.DELIVER
-            if generation.asked is None and (own is None or is_given):
-                generation.asked = entry.moment
-            generation.deliveries += is_given
+                self._asks(generation, entry.ticket, entry.moment)
+            elif own.word is Word.DELIVER:
+                generation.asked = entry.moment if generation.asked is None else generation.asked
+                generation.deliveries += 1
             return
         if call.kind == REGISTER and own and own.word is Word.REGISTERED:
             identifier = own.extension or ""
@@ -129,15 +154,25 @@ class Generations:
     def _answered(self, entry: Entry) -> None:
         """Notes the polls that wait no more."""
         for answer in entry.answers:
-            if answer.ticket not in self.polls:
-                continue
-            generation, member = self.polls.pop(answer.ticket)
-            if member.poll == answer.ticket:
-                member.poll = None
-            if isinstance(member, Extension):
-                member.told = member.told or answer.word is Word.SHUTDOWN
-            elif answer.word is Word.DELIVER:
-                generation.deliveries += 1
+            if answer.ticket in self.polls:
+                self.answered(answer.ticket, answer.word)
+
+    def _asks(self, generation: Generation, ticket: int, moment: int) -> None:
+        """Its runtime waits."""
+        generation.poll = ticket
+        self.polls[ticket] = generation, generation
+        if generation.asked is None:
+            generation.asked = moment
+
+    def answered(self, ticket: int, word: Word) -> None:
+        """The poll with this ticket waits no more."""
+        generation, member = self.polls.pop(ticket)
+        if member.poll == ticket:
+            member.poll = None
+        if isinstance(member, Extension):
+            member.told = member.told or word is Word.SHUTDOWN
+        elif word is Word.DELIVER:
+            generation.deliveries += 1
 
     def _turns(self, entry: Entry, named: Optional[Environment], may_end: bool) -> List[Turn]:
         turns, after = [], {phase.environment: phase for phase in entry.phases}
@@ -149,9 +184,11 @@ class Generations:
             was, generation = environment.phase, environment.generation
             now = after.get(number, was)
             closes = self._reason(entry, was, now) if may_end or now.name == CLOSING else None
-            is_over = (closes is not None or was.name == CLOSING) and now.name != CLOSING
-            if closes or is_over or now is not was:
-                self._change(environment, now, entry, closes, is_over)
+            if closes:
+                generation.closes = True
+                generation.report = entry.call.body if entry.call.kind in FAILURES else None
+            if closes or now is not was:
+                is_over = environment.becomes(now, closes is not None)
                 turns.append(Turn(environment, generation, was, now, closes, is_over))
         return turns
 
@@ -171,16 +208,3 @@ class Generations:
         if kind not in (SPINDOWN, *FAILURES) or not entry.has(Word.ACCEPTED):
             return None
         return "SPINDOWN" if kind == SPINDOWN else "FAILURE"
-
-    @staticmethod
-    def _change(environment: Environment, now: Phase, entry: Entry, closes: Optional[str], is_over: bool) -> None:
-        generation = environment.generation
-        environment.phase = now
-        generation.is_ready = generation.is_ready or not (closes or is_over) and now.name in (IDLE, BUSY)
-        if closes:
-            generation.closes = True
-            generation.report = entry.call.body if entry.call.kind in FAILURES else None
-        if is_over:
-            generation.is_over = True
-            environment.before = generation
-            environment.generation = Generation(generation.number + (now.name != OFF))

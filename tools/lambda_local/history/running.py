@@ -43,15 +43,19 @@ class Lines:
 
     def feed(self, piece: bytes) -> List[bytes]:
         """Those that this piece ends; NotTrace if one is too long."""
-        first, *others = piece.split(b"\n")
-        self.held.append(first)
-        self.size += len(first)
-        if self.size > LONGEST_LINE:
+        return self.whole(piece).split(b"\n")[:-1]
+
+    def whole(self, piece: bytes) -> bytes:
+        """The same, each with its end."""
+        end = piece.rfind(b"\n") + 1
+        if self.size + (piece.find(b"\n") if end else len(piece)) > LONGEST_LINE:
             raise NotTrace(f"a line is longer than {LONGEST_LINE:,} bytes")
-        if not others:
-            return []
-        whole = [b"".join(self.held), *others[:-1]]
-        self.held, self.size = others[-1:], len(others[-1])
+        if not end:
+            self.held.append(piece)
+            self.size += len(piece)
+            return b""
+        whole = b"".join([*self.held, piece[:end]])
+        self.held, self.size = [piece[end:]], len(piece) - end
         return whole
 
     def end(self) -> None:

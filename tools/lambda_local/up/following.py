@@ -9,6 +9,7 @@ from ..front.wire import Gone
 from ..history.entries import Entry
 from ..history.reader import Reader
 from ..history.running import MOST_SAID, MOST_TRIES, SILENCE, Lines, Lost, has_report, lost
+from ..history.short import Taken
 from ..http1 import Data, request_head
 from .bell import Bell
 
@@ -18,7 +19,7 @@ TOGETHER = 24 << 10  # bytes that are to come in a rest, if many come
 # Bytes; if more have come, others may wait behind them, and no rest comes before these. (A connection that is not read
 # holds some 64 KiB.)
 MUCH = 40 << 10
-AT_ONCE = 64  # entries, after which others have their turn
+AT_ONCE = 32 << 10  # bytes, some 120 entries, after which others have their turn
 LONGEST_REFUSAL = 1 << 20  # bytes
 
 
@@ -32,7 +33,7 @@ class Trace:
     def __init__(self, port: int, silence: float) -> None:
         self.port, self.silence = port, silence
         self.split = Lines()
-        self.lines: List[bytes] = []  # that have come, and were not taken
+        self.lines = b""  # that have come, each with its end, and were not taken
         self.size = 0  # bytes of all that have come
         self.wire: Optional[ServiceWire] = None
         self.body: Optional[Body] = None  # while more of it is to come
@@ -76,9 +77,9 @@ class Trace:
         fault = self.wire.responses.fault if self.wire else None
         return lost(fault) if fault else Lost("it has closed the connection")
 
-    async def come(self) -> List[bytes]:
-        """Those that have come, once there are some; none after the last. Silent if nothing comes for long, Lost if it
-        breaks off, NotTrace if it ends within a line."""
+    async def come(self) -> bytes:
+        """Some of those that have come, once there are some; none after the last. Silent if nothing comes for long,
+        Lost if it breaks off, NotTrace if it ends within a line."""
         while not self.lines and self.body is not None:
             try:
                 assert self.wire is not None
@@ -87,11 +88,17 @@ class Trace:
                 raise (Silent() if self.is_silent else self.broken()) from None
             if isinstance(event, Data):
                 self.size += len(event.data)
-                self.lines += self.split.feed(event.data)
+                self.lines += self.split.whole(event.data)
             else:
                 self.body = None
                 self.split.end()
-        return self.lines
+        end = self.lines.rfind(b"\n", 0, AT_ONCE) + 1 or self.lines.find(b"\n") + 1
+        return self.lines[:end]
+
+    def take(self, lines: bytes, count: int) -> None:
+        """So many of these lines, with which they begin, were taken."""
+        is_all = count == lines.count(b"\n")
+        self.lines = self.lines[len(lines) if is_all else len(b"\n".join(lines.split(b"\n")[:count])) + 1:]
 
     def hold(self) -> None:
         """Nothing more is read until the next line is asked for."""
@@ -129,17 +136,19 @@ class Following:
     """Of a service whose callers' port this is."""
 
     def __init__(self, port: int, environments: int, loop: asyncio.AbstractEventLoop, silence: float = SILENCE,
-                 is_awaited: Callable[[], bool] = lambda: True) -> None:
-        """If it `is_awaited`, somebody waits for the next entry; who begins to rings `hurry`."""
+                 is_awaited: Callable[[], bool] = lambda: True, in_short: bool = False) -> None:
+        """If it `is_awaited`, somebody waits for the next entry; who begins to rings `hurry`. Most entries are given
+        in short if that is asked."""
         self.port, self.silence, self.environments = port, silence, environments
         self.next = self.moment = 0  # the ticket of the first entry that was not taken, and the moment of that before
-        self._reader = Reader(environments)
-        self._read: List[Entry] = []  # those that were read, and not taken yet
+        self.in_short = in_short
+        self._reader = Reader(environments, in_short=in_short)
+        self._read: List[Taken] = []  # those that were read, and not taken yet
         self._tries = 0  # to get the next entry with its report
         self._trace: Optional[Trace] = None
         self.hurry, self.is_awaited, self.pace = Bell(loop), is_awaited, Pace()
 
-    async def entries(self) -> List[Entry]:
+    async def entries(self) -> List[Taken]:
         """The next entries, once there are some; none once the service is Off. Lost if the service does not answer,
         NotTrace if its answer is none: it may be asked again, and goes on with the same one."""
         while True:
@@ -157,16 +166,17 @@ class Following:
                 self.close()
                 raise
 
-    async def _entries(self) -> List[Entry]:
+    async def _entries(self) -> List[Taken]:
         if not self._read:
             self._read = await self._some()
-        without = next((count for count, entry in enumerate(self._read) if has_report(entry)), len(self._read))
+        without = next((count for count, entry in enumerate(self._read)
+                        if isinstance(entry, Entry) and has_report(entry)), len(self._read))
         if self._read and not without:
             return [await self._reported()]
         found, self._read = self._read[:without], self._read[without:]
         return found
 
-    async def _some(self) -> List[Entry]:
+    async def _some(self) -> List[Taken]:
         """Some that have come, without bodies; none after the last."""
         if self._trace is None:
             self._trace = Trace(self.port, self.silence)
@@ -180,13 +190,14 @@ class Following:
         if not lines:
             self.close()
             return []
-        found = self._reader.take_all(lines[:AT_ONCE])
-        del lines[:len(found)]
+        found = self._reader.take_all(lines)
+        self._trace.take(lines, len(found))
         return found
 
     async def _reported(self) -> Entry:
         """The next one, which has a report, with its bodies; after some tries without."""
         entry = self._read[0]
+        assert isinstance(entry, Entry)
         if self._tries < MOST_TRIES:
             self._tries += 1
             entry = await self._whole(entry)
@@ -214,15 +225,20 @@ class Following:
             lines = await trace.come()
             if not lines:
                 raise Lost(f"it does not give entry {entry.ticket} again")
-            return Reader(self.environments, entry.ticket, entry.moment).take(lines[0])
+            return Reader(self.environments, entry.ticket, entry.moment).take(lines[:lines.index(b"\n")])
         except MemoryError:
             return entry
         finally:
             trace.close()
 
+    def give_whole(self) -> None:
+        """Gives no entry in short from now on."""
+        self.in_short = False
+        self.close()
+
     def close(self) -> None:
         """Ends the connection, if there is one. What was not taken is asked for again."""
-        self._reader, self._read = Reader(self.environments, self.next, self.moment), []
+        self._reader, self._read = Reader(self.environments, self.next, self.moment, self.in_short), []
         if self._trace:
             self._trace.close()
             self._trace = None

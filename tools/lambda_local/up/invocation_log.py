@@ -93,7 +93,7 @@ class Invocations:
     def take(self, event: Event) -> None:
         """From a watch, event by event."""
         if isinstance(event, Ended):
-            self.ended[event.invocation.identifier] = remembered(event)
+            self.ended[event.invocation.identifier] = event if event.body is None else remembered(event)
             if len(self.ended) > MOST_REMEMBERED:
                 self.ended.popitem(last=False)
 
@@ -154,8 +154,6 @@ def error_of(event: Ended) -> str:
 def remembered(event: Ended) -> Ended:
     """An event with no more of its body than the end of its log may have: of an error that no handler has raised, the
     ends of its type and its message."""
-    if event.body is None:
-        return event
     kind = error_of(event)
     if event.kind is not Word.ERROR or not kind:
         return event._replace(body=None)

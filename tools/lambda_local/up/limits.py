@@ -39,6 +39,8 @@ class Limits:
     def __init__(self, functions: Sequence[Function], streaming: Set[str], watch: Watch, printed: Mapping[int, Printed],
                  log: Log, patience: float = 1) -> None:
         self.functions = {function.name: function for function in functions}
+        # By function: from how many milliseconds on an invocation is nearly too long
+        self.long = {name: NEARLY * 1000 * function.part.get("timeout", 3) for name, function in self.functions.items()}
         self.streaming, self.watch, self.printed, self.log, self.patience = streaming, watch, printed, log, patience
         self.told: Set[Tuple[str, str]] = set()
         self.quiet: Dict[int, Quiet] = {}
@@ -61,13 +63,13 @@ class Limits:
         """From the watch, event by event."""
         if not isinstance(event, Ended) or event.invocation.delivered is None or event.kind not in ANSWERED:
             return
-        function, took = self.functions[event.invocation.function], event.moment - event.invocation.delivered
+        name, took = event.invocation.function, event.moment - event.invocation.delivered
         if event.kind is Word.OUTPUT:
-            self._look_at_length(function.name, event.length or 0)
-        timeout = function.part.get("timeout", 3)
-        if took >= NEARLY * 1000 * timeout:
-            self.warn(function.name, "timeout", f"an invocation took {took / 1000:.2f} s of its {timeout} s, at which "
-                      "Lambda ends it: write a longer \"timeout\"", event.environment)
+            self._look_at_length(name, event.length or 0)
+        if took >= self.long[name]:
+            timeout = self.functions[name].part.get("timeout", 3)
+            self.warn(name, "timeout", f"an invocation took {took / 1000:.2f} s of its {timeout} s, at which Lambda "
+                      "ends it: write a longer \"timeout\"", event.environment)
 
     def _look_at_length(self, function: str, length: int) -> None:
         if length >= NEARLY * MOST_OUTPUT and function not in self.streaming:

@@ -28,12 +28,13 @@ class Lines:
         # By function: since when, and how often for which reason
         self.throttled: Dict[str, Tuple[float, Counts[str]]] = {}
         self.failed: Dict[str, str] = {}  # how the last Init of a function failed
+        self.tells_outputs = True
 
     def take(self, event: Event) -> None:
-        if isinstance(event, Throttled):
-            self.throttled.setdefault(event.function, (time.monotonic(), Counter()))[1][event.reason] += 1
-        elif isinstance(event, Ended):
+        if isinstance(event, Ended):
             self._ended(event)
+        elif isinstance(event, Throttled):
+            self.throttled.setdefault(event.function, (time.monotonic(), Counter()))[1][event.reason] += 1
         elif isinstance(event, Closes) and not event.was_ready:
             self._init_failed(event)
 
@@ -41,6 +42,8 @@ class Lines:
         self.log(where, text, level, kind, False, **members)
 
     def _ended(self, event: Ended) -> None:
+        if event.kind is Word.OUTPUT and not self.tells_outputs:
+            return
         invocation, function = event.invocation, self.functions[event.invocation.function]
         where = event.environment.name if event.environment else function.name
         duration = None if invocation.delivered is None else event.moment - invocation.delivered

@@ -16,6 +16,7 @@ from ..front import asynchronous
 from ..front.front import Front
 from ..front.outbox import Outbox
 from ..guard import GUARD, Channel
+from ..life import Begun, Ended, Throttled
 from ..service import Fault, Service
 from ..telemetry.sidecars import Sidecars
 from . import patience, surroundings
@@ -137,11 +138,13 @@ class Parts:
         self.looks = Looks(self.watch)
         self.printed = {number: Printed() for number in self.watch.life.environments}
         self.invocations = self.make_invocations()
-        self.watch.followers.append(self.invocations.take)
+        self.watch.life.tells_begun = bool(options.report)  # (else trouble alone needs that)
+        self.watch.give(self.invocations.take, Ended)
         self.report = self.make_report(self.invocations) if options.report else None
         self.watch.lines = Lines(log, self.functions, self.printed)
+        self.watch.lines.tells_outputs = not log.quiet
         self.limits = Limits(self.functions, self.streaming, self.watch, self.printed, log, options.patient)
-        self.watch.followers.append(self.limits.take)
+        self.watch.give(self.limits.take, Ended)
         self.looks.hooks.append(Hook("look at the limits of functions", self.limits.look))
         if self.report:
             self.watch.lines.log = self.report.tell
@@ -154,7 +157,9 @@ class Parts:
         self.front.serve(self.service, Tails(self.invocations, self.watch, self.closer),
                          self.sidecars.serve(self.service.configuration, self.printed), self.sidecars.streams,
                          self.watch.clock, (storm, self.troubles) if storm else None)
-        self.watch.takers.append(self.sidecars.pairing(self.front.call).take)
+        if self.streaming:
+            self.watch.takers.append(self.sidecars.pairing(self.front.call).take)
+            self.watch.following.give_whole()
         self.refused = RefusedCalls(self.service.configuration, self.sidecars, self.sidecars.tell)
         self.watch.takers.append(self.refused.take)
         self.rejected = Rejected(self.service, self.sidecars, self.watch.life.environments, self.log)
@@ -167,7 +172,7 @@ class Parts:
         if gate := self.front.gate:
             troubles.still, troubles.sent = functools.partial(gate.still, self.loop), gate.unanswered
         self.front.port.trouble = troubles.order
-        self.watch.followers.append(troubles.take)
+        self.watch.give(troubles.take, Begun, Ended, Throttled)
         self.closer.environments += self.environments
         unnamed = Unnamed(self.watch.life.environments.values(),
                           lambda name, line: self.log(name, f"-- {line}", level="warning", kind="init"))
@@ -226,7 +231,7 @@ class Parts:
         report = InvocationReport(invocations, self.log, self.loop)
         for number, here in self.watch.life.environments.items():
             report.hold(number, here.name, here.function, here.place, self.printed[number])
-        self.watch.followers.append(report.take)
+        self.watch.give(report.take, Begun, Ended)
         self.watch.readers.append(report.know)
         return report
 

@@ -123,6 +123,7 @@ class Troubles:
             time.sleep(REST)
 
     def _arrange(self, order: Order) -> None:
+        self.watch.life.tells_begun = True
         self.watch.refresh()
         with self.lock:
             if order.function in self.orders:

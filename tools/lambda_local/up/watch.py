@@ -3,13 +3,14 @@ themselves."""
 import asyncio
 import concurrent.futures
 import contextlib
-from typing import Awaitable, Callable, List, Optional, Set
+from typing import Awaitable, Callable, Dict, List, Optional, Set, Type
 
 from ..history.entries import Entry
 from ..history.running import Lost, NoDescriptor
 from ..history.shapes import NotTrace
+from ..history.short import Taken, kind_of
 from ..history.words import FAILURES
-from ..life import Begun, Closes, Ended, Environment, Event, Generation, Life, Reporter
+from ..life import KINDS, Begun, Closes, Ended, Environment, Event, Generation, Life, Reporter, Throttled
 from ..service import Service
 from .asking import Answered, entries_of
 from .bell import Bell, call_soon, called, done_within, first_of, settle
@@ -44,7 +45,7 @@ class Watch:
         self.clock = LoopClock(service.port, lambda text: log("up", text, level="error", kind="fault"), loop)
         self.life = Life(service.configuration)
         self.following = Following(service.port, len(self.life.environments), loop,
-                                   is_awaited=lambda: bool(self.waiting))
+                                   is_awaited=lambda: bool(self.waiting), in_short=True)
         self.taken = 0  # entries, of all that followers were given
         self.has_news = Bell(loop)  # an entry has come, for those who look again and again
         self.waiting: "List[asyncio.Future[None]]" = []  # the same, for those who wait for one
@@ -52,12 +53,18 @@ class Watch:
         self.is_lost = False  # the service does not answer: it is asked again
         self.warnings: Set[str] = set()
         self.own: Set[Reporter] = set()  # in whose names this tool reports a failure next, which it says elsewhere
-        self.takers: List[Callable[[Entry], None]] = []  # that are given each entry, before its events
-        self.followers: List[Callable[[Event], None]] = []  # that are given each event
+        self.takers: List[Callable[[Entry], None]] = []  # that are given each entry that is whole, before its events
+        self.followers: Dict[Type[Event], List[Callable[[Event], None]]] = {kind: [] for kind in KINDS}  # of events
         self.readers: List[Callable[[], None]] = []  # that are notified once all events of some entries were given
+
+    def give(self, take: Callable[[Event], None], *kinds: Type[Event]) -> None:
+        """Has each event of these kinds given to this."""
+        for kind in kinds:
+            self.followers[kind].append(take)
 
     async def follow(self) -> None:
         in_vain = 0
+        self.give(self.lines.take, Ended, Throttled, Closes)  # (after all others)
         while True:
             before, self.is_lost = self.following.next, False
             try:
@@ -72,15 +79,16 @@ class Watch:
                 break
         self._lose(None, 0)
 
-    def _come(self, entries: List[Entry]) -> None:
+    def _come(self, entries: List[Taken]) -> None:
         self.clock.note(entries[-1].moment)
-        takers = (*self.takers, self._take)
         for entry in entries:
-            for take in takers:
-                try:
-                    take(entry)
-                except Exception as fault:
-                    self._tell(fault, f"could not follow entry {entry.ticket} of the history, {entry.call.kind}")
+            try:
+                events = self._take(entry) if isinstance(entry, Entry) else self.life.take(entry)
+            except Exception as fault:
+                self._tell_of(entry, fault)
+                continue
+            for event in events:
+                self._report(event)
         for reader in self.readers:
             reader()
         self.taken = entries[-1].ticket + 1
@@ -114,16 +122,25 @@ class Watch:
         """A fault in one event, which is reported with it: the next one is taken."""
         self.log("up", f"{what}: {told(fault)}", level="error", kind="fault")
 
-    def _take(self, entry: Entry) -> None:
+    def _tell_of(self, entry: Taken, fault: BaseException) -> None:
+        self._tell(fault, f"could not follow entry {entry.ticket} of the history, {kind_of(entry)}")
+
+    def _take(self, entry: Entry) -> List[Event]:
+        """The events of an entry, of which something is to be told."""
+        for take in self.takers:
+            try:
+                take(entry)
+            except Exception as fault:
+                self._tell_of(entry, fault)
         reporter = self.life.reporter(entry) if entry.call.kind in FAILURES else None
-        for event in self.life.take(entry):
-            if not (isinstance(event, Closes) and reporter in self.own):
-                self._report(event)
-        if reporter is not None:
+        events = self.life.take(entry)
+        if reporter in self.own:
             self.own.discard(reporter)
+            return [event for event in events if not isinstance(event, Closes)]
+        return events
 
     def _report(self, event: Event) -> None:
-        for take in (*self.followers, self.lines.take):
+        for take in self.followers[type(event)]:
             try:
                 take(event)
             except Exception as fault:
