@@ -243,7 +243,7 @@ class History(Case):
         pace = Pace()
         for name, passed, size, wanted in (
                 ("the first", 100.0, 300, 0.01), ("few", 0.01, 300, 0.01), ("some", 0.05, 24 << 10, 0.05),
-                ("more", 0.05, 32 << 10, 0.0375), ("many", 0.01, 32 << 10, 0.01), ("less", 0.05, 4 << 10, 0.05),
+                ("more", 0.05, 32 << 10, 0.1), ("many", 0.01, 32 << 10, 0.1), ("less", 0.05, 4 << 10, 0.05),
                 ("few again", 0.05, 3 << 10, 0.01), ("much", 0.01, (40 << 10) + 1, 0.0)):
             self.check(name, round(pace.rest(pace.since + passed, pace.size + size), 4), wanted)
         count, rests = 20_000, []

@@ -13,9 +13,10 @@ from ..history.short import Taken
 from ..http1 import Data, request_head
 from .bell import Bell
 
-REST, LONGEST_REST = 0.01, 0.05  # seconds in which entries come together
-MANY = 64 << 10  # bytes of them in a second, some 75 invocations; if fewer come, a rest is REST
-TOGETHER = 24 << 10  # bytes that are to come in a rest, if many come
+REST = 0.01  # seconds in which entries come together
+# From so many bytes of them in a second on, some 600 invocations or 75, these seconds. (Where much happens, what runs
+# for some milliseconds of each ten holds up who shares its processor, far more than what runs and rests for longer.)
+LONG_RESTS = ((512 << 10, 0.1), (64 << 10, 0.05))
 # Bytes; if more have come, others may wait behind them, and no rest comes before these. (A connection that is not read
 # holds some 64 KiB.)
 MUCH = 40 << 10
@@ -115,10 +116,9 @@ class Trace:
 
 class Pace:
     """How long one rests who follows, while nobody waits for an entry: many that come are to wake it few times. So an
-    entry is taken LONGEST_REST after it was made at the latest, or once those before it are."""
+    entry is taken after the longest of these rests at the latest, or once those before it are."""
 
     def __init__(self) -> None:
-        self.longest = LONGEST_REST
         self.since, self.size = 0.0, 0  # when it was asked last, and how many bytes had come by then
 
     def rest(self, now: float, size: int) -> float:
@@ -127,9 +127,7 @@ class Pace:
         self.since, self.size = now, size
         if came > MUCH:
             return 0.0
-        if came < MANY * passed:
-            return REST
-        return min(max(passed * TOGETHER / came, REST), self.longest)
+        return next((rest for many, rest in LONG_RESTS if came >= many * passed), REST)
 
 
 class Following:
