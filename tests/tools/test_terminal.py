@@ -40,7 +40,7 @@ class Odd(http.server.BaseHTTPRequestHandler):
         answer = ODD.encode()
         self.send_response(429 if self.path.split("/")[3] == "refused" else 200)
         self.send_header("Content-Length", str(len(answer)))
-        self.send_header("x-amzn-ErrorType", "\x1b[2J")
+        self.send_header("x-amzn-ErrorType", "\x9b2J")  # (a header may have this byte, and none below a blank)
         self.send_header("X-Amz-Log-Result", base64.b64encode(f"a\n{ODD}\n\x1b[31mred\x1b[0m".encode()).decode())
         self.end_headers()
         self.wfile.write(answer)
