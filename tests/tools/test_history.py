@@ -246,6 +246,8 @@ class History(Case):
                 ("more", 0.05, 32 << 10, 0.1), ("many", 0.01, 32 << 10, 0.1), ("less", 0.05, 4 << 10, 0.05),
                 ("few again", 0.05, 3 << 10, 0.01), ("much", 0.01, (40 << 10) + 1, 0.0)):
             self.check(name, round(pace.rest(pace.since + passed, pace.size + size), 4), wanted)
+        pace.longest = 0.02
+        self.check("some, no longer than it may", pace.rest(pace.since + 0.05, pace.size + (24 << 10)), 0.02)
         count, rests = 20_000, []
 
         async def wait(seconds):

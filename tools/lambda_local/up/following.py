@@ -116,9 +116,10 @@ class Trace:
 
 class Pace:
     """How long one rests who follows, while nobody waits for an entry: many that come are to wake it few times. So an
-    entry is taken after the longest of these rests at the latest, or once those before it are."""
+    entry is taken `longest` after it was made at the latest, or once those before it are."""
 
     def __init__(self) -> None:
+        self.longest = max(rest for _, rest in LONG_RESTS)
         self.since, self.size = 0.0, 0  # when it was asked last, and how many bytes had come by then
 
     def rest(self, now: float, size: int) -> float:
@@ -127,7 +128,7 @@ class Pace:
         self.since, self.size = now, size
         if came > MUCH:
             return 0.0
-        return next((rest for many, rest in LONG_RESTS if came >= many * passed), REST)
+        return min(next((rest for many, rest in LONG_RESTS if came >= many * passed), REST), self.longest)
 
 
 class Following:
