@@ -18,7 +18,7 @@ class Silent(Log):
     """Says nothing of what lambda_local up says."""
 
     def __init__(self) -> None:
-        self.form = "text"
+        self.form, self.quiet = "text", True
 
     def __call__(self, who: str, text: str, level: str = "info", kind: str = "up", always: bool = False,
                  **members: object) -> None:
