@@ -286,7 +286,7 @@ fn run<R: Wait + Threads + Clock + Sync, S: Identity + Send + Sync>(
             if turns >= 1 << 32 {
                 return None;
             }
-            let mut desk = account.into_desk();
+            let (mut desk, _) = account.into_desk();
             let mut tally = tally;
             if !park(&mut desk, &mut tally, parked) {
                 return None;

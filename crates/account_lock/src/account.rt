@@ -25,7 +25,7 @@ ghost use Rattle.account_lock.specs.Desks.{at_rest};
 ghost use Rattle.account_lock.specs.Gathered.{counts_in, keeps_nothing};
 ghost use Rattle.account_lock.specs.Looks.{look_of};
 ghost use Rattle.account_lock.specs.Settlement.{IsSettled, IsFault};
-ghost use Rattle.account_lock.specs.Shown.{IsTextOf, Sees};
+ghost use Rattle.account_lock.specs.Shown.{IsTextOf, Sees, book_of};
 ghost use Rattle.account_lock.specs.Submits.{IsNotTaken, IsTurnedAway, Took};
 ghost use Rattle.account_lock.specs.declared.settle.fault.SettleFault.TheVariants.{TallyMissing};
 
@@ -392,11 +392,15 @@ impl<S: Identity, B: Bell> Account<S, B> {
         }
     }
 
-    /// Returns the desk.
-    pub fn into_desk(self) -> Desk<B, S>
-        ensures { result.book.config ≡ S.config }
+    /// Returns the desk, and a token that has seen the whole history of its book.
+    pub fn into_desk(self) -> (Desk<B, S>, Token<S>)
+        ensures book { result.0.book ≡ book_of S.config S.salt S.most result.1 }
+        ensures seen { Sees S.config S.most [] result.1 }
     {
-        let Locked { desk, .. } = self.locked.into_inner();
-        desk
+        let Account { locked, spine } = self;
+        let Locked { desk, mut pen } = locked.into_inner();
+        desk.facts();
+        let token = pen.token(&spine);
+        (desk, token)
     }
 }

@@ -108,7 +108,8 @@ fn settle_desk<S: Identity, K: Keep>(
     account: Account<S, Numbered>,
     tallies: Vec<Tally<K, S>>,
 ) -> Result<(Stats, u64), SettleFault> {
-    match account.into_desk().settle(tallies) {
+    let (desk, _) = account.into_desk();
+    match desk.settle(tallies) {
         Ok(settled) => Ok(counts_of(&settled)),
         Err(fault) => Err(fault),
     }
