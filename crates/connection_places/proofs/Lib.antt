@@ -1,1 +1,3 @@
+mod Changes
 mod Fullest
+mod Standings

@@ -9,17 +9,11 @@ use std::time::{Clock, Duration};
 /// How many seconds a thread waits for its next connection before it ends.
 const KEPT: u64 = 10;
 
-/// The note that the connection of a place has ended, and whether its thread has left the place.
-#[derive(Clone, Copy, Drop)]
-pub(crate) struct End {
-    pub(crate) at: usize,
-    pub(crate) has_left: bool,
-}
-
 /// What threads and the keeper of the places tell each other.
 #[derive(Drop)]
 struct Notes {
-    ends: Vec<End>,
+    // The places whose connections have ended.
+    ends: Vec<usize>,
     // Whether the keeper waits for the next one.
     is_awaited: bool,
 }
@@ -51,9 +45,9 @@ impl Ended {
 
     /// Notes that a connection has ended, and wakes the keeper if it waits for that. (There is room for
     /// the note.)
-    fn push(&self, rt: &impl Wait, end: End) {
+    fn push(&self, rt: &impl Wait, at: usize) {
         let mut notes = self.notes.lock(rt);
-        let _ = notes.ends.push(end);
+        let _ = notes.ends.push(at);
         let is_awaited = notes.is_awaited;
         drop(notes);
         if is_awaited {
@@ -61,8 +55,8 @@ impl Ended {
         }
     }
 
-    /// Takes out the note of a connection that has ended.
-    pub(crate) fn pop(&self, rt: &impl Wait) -> Option<End> {
+    /// Takes out the note of a connection that has ended, which is its place.
+    pub(crate) fn pop(&self, rt: &impl Wait) -> Option<usize> {
         self.notes.lock(rt).ends.pop()
     }
 
@@ -90,26 +84,17 @@ pub struct Post<Y, V> {
 }
 
 impl<Y, V: Drop> Post<Y, V> {
-    /// Notes that the connection of the place has ended, and whether the thread leaves.
-    fn tell(&self, rt: &impl Wait, has_left: bool) {
-        let end = End {
-            at: self.at,
-            has_left,
-        };
-        self.ended.push(rt, end);
-    }
-
     /// Notes that the connection of the place has ended, and waits for the next one. If it returns
     /// `None`, the thread has to end.
     pub fn next<R: Wait + Clock>(&self, rt: &R) -> Option<V> {
-        self.tell(rt, false);
+        self.ended.push(rt, self.at);
         self.mailbox.take(rt, Duration::from_secs(KEPT))
     }
 
     /// Notes that the connection of the place has ended, and that the thread leaves.
     pub fn leave(&self, rt: &impl Wait) {
         self.mailbox.close(rt);
-        self.tell(rt, true);
+        self.ended.push(rt, self.at);
     }
 }
 

@@ -1,11 +1,14 @@
 //! Places for the open connections, up to a limit.
 
-ghost use Rattle.std.specs.Prelude.{◌≡◌, ◌+◌, ◌<◌, nat_lt, vec_len, IfOk, IfErr};
-ghost use Rattle.connection_places.specs.Places.{Places};
+ghost use Rattle.std.specs.Prelude.{◌≡◌, ◌+◌, ◌<◌, ◌++◌, ◌∷◌, [], length, map, nat_lt, position, vec_len};
+ghost use Rattle.std.specs.Prelude.{IfOk, IfErr, IfSome, MatchOption};
+ghost use Rattle.std.specs.List.{list_all};
+ghost use Rattle.connection_places.specs.Places.{Becomes, Either, Places, SomeBecome, next_free, is_free, is_free_with_thread};
+ghost use Rattle.connection_places.specs.Places.{added, closed, filled, given_back, is_vacant, staffed, standing, taken, unstaffed};
 
 use crate::choice::{admits, place_for, reserve_of};
 use crate::mailbox::Mailbox;
-use crate::post::{End, Ended, Post, WorkerThread};
+use crate::post::{Ended, Post, WorkerThread};
 use crate::running::Running;
 use service_port::Port;
 use std::alloc::{AllocError, Global};
@@ -20,15 +23,67 @@ use std::time::{Clock, Duration};
 #[derive(Drop)]
 pub(crate) struct Slot<Y, V> {
     tally: Arc<Mutex<Y>>,
+    // Whether it was given to a connection, which may not have begun yet.
+    is_taken: bool,
     worker: Option<WorkerThread<V>>,
     pub(crate) running: Option<Running>,
 }
 
 impl<Y, V: Drop> Slot<Y, V> {
+    /// Returns whether the place may be given to a connection.
+    fn is_free(&self) -> bool
+        ensures { result ≡ is_free (standing self.now) }
+    {
+        !self.is_taken && self.running.is_none()
+    }
+
+    /// Returns whether the place may be given to a connection, and has a thread, which may wait for it.
+    fn is_free_with_thread(&self) -> bool
+        ensures { result ≡ is_free_with_thread (standing self.now) }
+    {
+        self.is_free() && self.worker.is_some()
+    }
+
+    /// Returns whether the place has neither a connection nor a thread.
+    fn is_vacant(&self) -> bool
+        ensures { result ≡ is_vacant (standing self.now) }
+    {
+        self.running.is_none() && self.worker.is_none()
+    }
+
+    /// Gives it to a connection.
+    fn take(&mut self)
+        ensures { standing self.new ≡ taken (standing self.old) }
+    {
+        self.is_taken = true;
+    }
+
+    /// Takes it back from a connection that has not begun.
+    fn give_back(&mut self)
+        ensures { standing self.new ≡ given_back (standing self.old) }
+    {
+        self.is_taken = false;
+    }
+
+    /// Gives it to a thread.
+    fn employ(&mut self, worker: WorkerThread<V>)
+        ensures { standing self.new ≡ staffed (standing self.old) }
+    {
+        self.worker = Some(worker);
+    }
+
+    /// Notes its connection.
+    fn fill(&mut self, running: Running)
+        ensures { standing self.new ≡ filled (standing self.old) }
+    {
+        self.running = Some(running);
+    }
+
     /// Gives a connection to the thread that waits for one. If none waits, returns the connection,
     /// and joins a thread that has ended.
     fn offer<R: Wait + Threads>(&mut self, rt: &R, visit: V) -> Result<(), V>
-        ensures { IfErr result (λ back. back ≡ visit) }
+        ensures given { IfOk result (λ _. standing self.new ≡ standing self.old) }
+        ensures back { IfErr result (λ back. (back ≡ visit) × (standing self.new ≡ unstaffed (standing self.old))) }
     {
         let Some(worker) = self.worker.take() else {
             return Err(visit);
@@ -45,8 +100,19 @@ impl<Y, V: Drop> Slot<Y, V> {
         }
     }
 
+    /// Removes the connection, if there is one: the place is free.
+    fn see_out(&mut self)
+        ensures { standing self.new ≡ closed (standing self.old) }
+    {
+        if self.running.take().is_some() {
+            self.is_taken = false;
+        }
+    }
+
     /// Joins the thread if it has ended.
-    fn join_if_ended<R: Wait + Threads>(&mut self, rt: &R) {
+    fn join_if_ended<R: Wait + Threads>(&mut self, rt: &R)
+        ensures { Either unstaffed (standing self.old) (standing self.new) }
+    {
         let Some(worker) = self.worker.take() else {
             return;
         };
@@ -56,32 +122,117 @@ impl<Y, V: Drop> Slot<Y, V> {
             self.worker = Some(worker);
         }
     }
+
+    /// Joins the thread, if there is one.
+    fn join(&mut self, rt: &impl Threads)
+        ensures { standing self.new ≡ unstaffed (standing self.old) }
+    {
+        if let Some(worker) = self.worker.take() {
+            worker.join(rt);
+        }
+    }
+
+    /// Signals the connection to end, if there is one: after its exchange, or at once.
+    fn tell(&mut self, at_once: bool)
+        ensures { standing self.new ≡ standing self.old }
+    {
+        if let Some(running) = &mut self.running {
+            running.tell(at_once);
+        }
+    }
+
+    /// Looks at the connection, if there is one, and ends it at once unless it lingers and has got something since
+    /// the last look.
+    fn end_if_still(&mut self)
+        ensures { standing self.new ≡ standing self.old }
+    {
+        if let Some(running) = &mut self.running {
+            running.end_if_still();
+        }
+    }
+
+    /// Looks at the connection, if there is one, and ends it at once if it has reached one of its limits.
+    fn end_if_idle(&mut self)
+        ensures { standing self.new ≡ standing self.old }
+    {
+        if let Some(running) = &mut self.running {
+            running.look(1);
+            if running.seen.has_outstayed() {
+                running.tell(true);
+            }
+        }
+    }
+
+    /// Looks at the connection, if there is one, without counting this as a look.
+    fn look_again(&mut self)
+        ensures { standing self.new ≡ standing self.old }
+    {
+        if let Some(running) = &mut self.running {
+            running.look(0);
+        }
+    }
+
+    /// Asks the connection to make room, if there is one.
+    fn ask_for_room(&mut self)
+        ensures { standing self.new ≡ standing self.old }
+    {
+        if let Some(running) = &mut self.running {
+            running.ask_for_room();
+        }
+    }
+}
+
+/// Returns the first free place that has a thread.
+fn first_free_with_thread<Y, V: Drop>(slots: &[Slot<Y, V>]) -> Option<usize>
+    ensures { result ≡ position (λ slot. is_free_with_thread (standing slot)) slots.now }
+{
+    slots.iter().position(|slot| slot.is_free_with_thread())
+}
+
+/// Returns the first free place.
+fn first_free<Y, V: Drop>(slots: &[Slot<Y, V>]) -> Option<usize>
+    ensures { result ≡ position (λ slot. is_free (standing slot)) slots.now }
+{
+    slots.iter().position(|slot| slot.is_free())
+}
+
+/// Returns whether each place is free.
+fn are_free<Y, V: Drop>(slots: &[Slot<Y, V>]) -> bool
+    ensures { result ≡ list_all (λ slot. is_free (standing slot)) slots.now }
+{
+    slots.iter().all(|slot| slot.is_free())
+}
+
+/// Returns whether no place has a connection or a thread.
+fn are_vacant<Y, V: Drop>(slots: &[Slot<Y, V>]) -> bool
+    ensures { result ≡ list_all (λ slot. is_vacant (standing slot)) slots.now }
+{
+    slots.iter().all(|slot| slot.is_vacant())
 }
 
 /// The error that a thread still has the tally of its place.
 #[derive(Clone, Copy, Debug, PartialEq, Eq)]
 pub struct StillShared;
 
-/// The places: by their type never more than `most`. `free` has the places without a connection;
-/// the last of these is taken next. `free` and `ended` have room for every place, and `gathered`
-/// for the tallies of all places and two more, so that the end of the service allocates nothing.
+/// The places: by their type never more than `most`. `ended` has room for every place, and `gathered`
+/// for the tallies of all places and two more, so that the end of the service allocates nothing. Contracts see of each
+/// place whether it is taken, and whether it has a connection and a thread.
 #[derive(Drop)]
 pub struct Slots<Y, V> {
     alloc: Global,
     most: usize,
     slots: Vec<Slot<Y, V>>,
-    free: Vec<usize>,
     ended: Arc<Ended>,
     gathered: Vec<Y>,
 }
 
 impl<Y, V> Model for Slots<Y, V> {
-    ghost use Rattle.std.specs.Prelude.{◌≡◌, ◌+◌, ◌≤◌, length, vec_len, vec_capacity};
-    ghost use Rattle.connection_places.specs.Places.{Places};
+    ghost use Rattle.std.specs.Prelude.{◌≡◌, ◌+◌, ◌≤◌, length, map, vec_len, vec_capacity};
+    ghost use Rattle.connection_places.specs.Places.{Places, standing};
 
     ghost Value = { Places };
 
-    ghost view = { λ s. record { most = s.most; made = length s.slots.items } };
+    ghost view = { λ s. record { most = s.most; places = map standing s.slots.items } };
 
     ghost invariant = { λ s. (length s.slots.items ≤ s.most) × (vec_len s.gathered ≡ 0)
         × (length s.slots.items + 2 ≤ vec_capacity s.gathered) };
@@ -91,29 +242,39 @@ impl<Y: Drop, V: Drop> Slots<Y, V> {
     /// Makes an empty list of places, of which there may be `most`. It fails only if an allocation
     /// fails.
     pub fn new(alloc: Global, most: u32) -> Result<Slots<Y, V>, AllocError>
-        ensures { IfOk result (λ slots. slots ≡ record { most = most; made = 0 }) }
+        ensures { IfOk result (λ slots. slots ≡ record { most = most; places = [] }) }
     {
         Ok(Slots {
             alloc,
             most: most as usize,
             slots: Vec::new(alloc),
-            free: Vec::new(alloc),
             ended: Arc::new(alloc, Ended::new(alloc))?,
             gathered: Vec::with_capacity(alloc, 2)?,
         })
     }
 
-    /// Takes a free place: the one that was given back last, whose thread is the most likely to be
-    /// still waiting.
-    pub fn take(&mut self) -> Option<usize>
-        ensures { self.new ≡ self.old }
+    /// Returns the first free place that has a thread, which may be waiting; or otherwise the first free one.
+    fn next_free(&self) -> Option<usize>
+        ensures { result ≡ next_free self.now.places }
     {
-        self.free.pop()
+        let slots = self.slots.as_slice();
+        first_free_with_thread(slots).or(first_free(slots))
+    }
+
+    /// Takes a free place, which no connection has: the first one with a thread, or otherwise the first. Returns `None`
+    /// exactly if none is free.
+    pub fn take(&mut self) -> Option<usize>
+        ensures place { result ≡ next_free self.old.places }
+        ensures taken { MatchOption result (self.new ≡ self.old) (λ at. Becomes taken at self.old self.new) }
+    {
+        let at = self.next_free()?;
+        self.slots[at].take();
+        Some(at)
     }
 
     /// Returns whether another place can be made.
     pub fn has_room(&self) -> bool
-        ensures { result ≡ nat_lt self.now.made self.now.most }
+        ensures { result ≡ nat_lt (length self.now.places) self.now.most }
     {
         self.slots.len() < self.most
     }
@@ -123,9 +284,9 @@ impl<Y: Drop, V: Drop> Slots<Y, V> {
     /// # Errors
     /// If an allocation fails, the tally is returned, and no place is made.
     pub fn add(&mut self, rt: &impl Wait, tally: Y) -> Result<usize, Y>
-        requires { self.old.made < self.old.most }
-        ensures added { IfOk result
-            (λ at. (at ≡ self.old.made) × (self.new ≡ record self.old { made = self.old.made + 1 })) }
+        requires { length self.old.places < self.old.most }
+        ensures added { IfOk result (λ at. (at ≡ length self.old.places)
+            × (self.new ≡ record self.old { places = self.old.places ++ added ∷ [] })) }
         ensures refused { IfErr result (λ _. self.new ≡ self.old) }
     {
         let at = self.slots.len();
@@ -134,7 +295,6 @@ impl<Y: Drop, V: Drop> Slots<Y, V> {
             return Err(tally);
         };
         if self.slots.reserve(1).is_err()
-            || self.free.reserve(room).is_err()
             || self.ended.reserve(rt, room).is_err()
             || self.gathered.reserve(tallies).is_err()
         {
@@ -144,6 +304,7 @@ impl<Y: Drop, V: Drop> Slots<Y, V> {
             Ok(tally) => {
                 self.slots.push_reserved(Slot {
                     tally,
+                    is_taken: true,
                     worker: None,
                     running: None,
                 });
@@ -170,72 +331,66 @@ impl<Y: Drop, V: Drop> Slots<Y, V> {
     }
 
     /// Gives a connection to the thread that waits for one at a place. If none waits, or there is
-    /// no place of this number, returns the connection.
+    /// no place of this number, returns the connection; the place has no thread then.
     pub fn offer<R: Wait + Threads>(&mut self, rt: &R, at: usize, visit: V) -> Result<(), V>
-        ensures same { self.new ≡ self.old }
-        ensures back { IfErr result (λ back. back ≡ visit) }
+        ensures given { IfOk result (λ _. self.new ≡ self.old) }
+        ensures back { IfErr result (λ back. (back ≡ visit) × Becomes unstaffed at self.old self.new) }
     {
-        match self.slots.get_mut(at) {
-            Some(slot) => slot.offer(rt, visit),
-            None => Err(visit),
+        if at < self.slots.len() {
+            self.slots[at].offer(rt, visit)
+        } else {
+            Err(visit)
         }
     }
 
     /// Gives a place to a thread. If there is no place of this number, the thread is dropped, and
     /// nothing changes.
     pub fn employ(&mut self, at: usize, worker: WorkerThread<V>)
-        ensures { self.new ≡ self.old }
+        ensures { Becomes staffed at self.old self.new }
     {
-        if let Some(slot) = self.slots.get_mut(at) {
-            slot.worker = Some(worker);
+        if at < self.slots.len() {
+            self.slots[at].employ(worker);
         }
     }
 
     /// Notes the connection of a place that was taken. If there is no place of this number, nothing
     /// changes.
     pub fn fill(&mut self, at: usize, running: Running)
-        ensures { self.new ≡ self.old }
+        ensures { Becomes filled at self.old self.new }
     {
-        if let Some(slot) = self.slots.get_mut(at) {
-            slot.running = Some(running);
+        if at < self.slots.len() {
+            self.slots[at].fill(running);
         }
     }
 
-    /// Gives back a place without a thread. It is taken after those at which a thread waits, which
-    /// need neither memory nor descriptors for another connection.
+    /// Gives back a place that was taken, and whose connection has not begun. If there is no place of this number,
+    /// nothing changes.
     pub fn give_back(&mut self, at: usize)
-        ensures { self.new ≡ self.old }
+        ensures { Becomes given_back at self.old self.new }
     {
-        let _ = self.free.insert(0, at);
+        if at < self.slots.len() {
+            self.slots[at].give_back();
+        }
     }
 
-    /// Removes a connection that has ended: its place is free.
-    fn see_out(&mut self, end: End)
-        ensures { self.new ≡ self.old }
+    /// Removes the connection of a place, which has ended: the place is free.
+    fn see_out(&mut self, at: usize)
+        ensures { Becomes closed at self.old self.new }
     {
-        let End { at, has_left } = end;
-        let Some(slot) = self.slots.get_mut(at) else {
-            return;
-        };
-        if slot.running.take().is_none() {
-            return;
-        }
-        if has_left {
-            self.give_back(at);
-        } else {
-            let _ = self.free.push(at);
+        if at < self.slots.len() {
+            self.slots[at].see_out();
         }
     }
 
     /// Removes the connections that have ended.
     pub fn reap(&mut self, rt: &impl Wait)
-        ensures { self.new ≡ self.old }
+        ensures { SomeBecome closed self.old self.new }
     {
         for _ in 0..self.slots.len() {
-            let Some(end) = self.ended.pop(rt) else {
+            let Some(at) = self.ended.pop(rt) else {
                 return;
             };
-            self.see_out(end);
+            self.see_out(at);
         }
     }
 
@@ -246,7 +401,7 @@ impl<Y: Drop, V: Drop> Slots<Y, V> {
 
     /// Joins the threads that have ended because no connection came.
     pub fn join_the_ended<R: Wait + Threads>(&mut self, rt: &R)
-        ensures { self.new ≡ self.old }
+        ensures { SomeBecome unstaffed self.old self.new }
     {
         for slot in self.slots.iter_mut() {
             slot.join_if_ended(rt);
@@ -264,28 +419,25 @@ impl<Y: Drop, V: Drop> Slots<Y, V> {
 
     /// Joins all threads, after they were signalled to end.
     pub fn join_all(&mut self, rt: &impl Threads)
-        ensures { self.new ≡ self.old }
+        ensures { self.new ≡ record self.old { places = map unstaffed self.old.places } }
     {
         for slot in self.slots.iter_mut() {
-            if let Some(worker) = slot.worker.take() {
-                worker.join(rt);
-            }
+            slot.join(rt);
         }
     }
 
-    /// Returns whether no place is taken.
-    pub fn is_idle(&self) -> bool {
-        self.free.len() >= self.slots.len()
+    /// Returns whether every place is free.
+    pub fn is_idle(&self) -> bool
+        ensures { result ≡ list_all is_free self.now.places }
+    {
+        are_free(self.slots.as_slice())
     }
 
     /// Returns whether no place has a connection or a thread.
-    pub fn is_vacant(&self) -> bool {
-        for slot in &self.slots {
-            if slot.running.is_some() || slot.worker.is_some() {
-                return false;
-            }
-        }
-        true
+    pub fn is_vacant(&self) -> bool
+        ensures { result ≡ list_all is_vacant self.now.places }
+    {
+        are_vacant(self.slots.as_slice())
     }
 
     /// Signals each connection to end: after its exchange, or at once. A signal that was sent
@@ -294,9 +446,7 @@ impl<Y: Drop, V: Drop> Slots<Y, V> {
         ensures { self.new ≡ self.old }
     {
         for slot in self.slots.iter_mut() {
-            if let Some(running) = &mut slot.running {
-                running.tell(at_once);
-            }
+            slot.tell(at_once);
         }
     }
 
@@ -306,9 +456,7 @@ impl<Y: Drop, V: Drop> Slots<Y, V> {
         ensures { self.new ≡ self.old }
     {
         for slot in self.slots.iter_mut() {
-            if let Some(running) = &mut slot.running {
-                running.end_if_still();
-            }
+            slot.end_if_still();
         }
     }
 
@@ -318,12 +466,7 @@ impl<Y: Drop, V: Drop> Slots<Y, V> {
         ensures { self.new ≡ self.old }
     {
         for slot in self.slots.iter_mut() {
-            if let Some(running) = &mut slot.running {
-                running.look(1);
-                if running.seen.has_outstayed() {
-                    running.tell(true);
-                }
-            }
+            slot.end_if_idle();
         }
     }
 
@@ -338,9 +481,7 @@ impl<Y: Drop, V: Drop> Slots<Y, V> {
         ensures { self.new ≡ self.old }
     {
         for slot in self.slots.iter_mut() {
-            if let Some(running) = &mut slot.running {
-                running.look(0);
-            }
+            slot.look_again();
         }
     }
 
@@ -361,10 +502,8 @@ impl<Y: Drop, V: Drop> Slots<Y, V> {
         let Some(at) = place_for(self.most, port, self.slots.as_slice()) else {
             return false;
         };
-        if let Some(slot) = self.slots.get_mut(at)
-            && let Some(running) = &mut slot.running
-        {
-            running.ask_for_room();
+        if at < self.slots.len() {
+            self.slots[at].ask_for_room();
         }
         true
     }
@@ -374,7 +513,7 @@ impl<Y: Drop, V: Drop> Slots<Y, V> {
     /// # Errors
     /// `StillShared` if a thread still has one; the tallies are then dropped.
     pub fn into_tallies(self, one: Y, other: Y) -> Result<Vec<Y>, StillShared>
-        ensures all { IfOk result (λ tallies. vec_len tallies ≡ self.made + 2) }
+        ensures all { IfOk result (λ tallies. vec_len tallies ≡ length self.places + 2) }
     {
         let Slots {
             slots,

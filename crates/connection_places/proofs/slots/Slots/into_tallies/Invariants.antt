@@ -1,10 +1,10 @@
-use Rattle.std.proofs.Common.{◌≡◌, ◌+◌, ◌≤◌, vec_len, vec_capacity}
+use Rattle.std.proofs.Common.{◌≡◌, ◌+◌, ◌≤◌, length, vec_len, vec_capacity}
 use Rattle.connection_places.proofs.slots.Slots.into_tallies.Given as goal
 
 -- none is lost, and there is room for the tallies of the places that are left
 abbrev pub invariant-loop-slot : goal.invariant-loop-slot
 invariant-loop-slot g l = record {
-  all : vec_len l.tallies + vec_len l.slots ≡ l.fn.self.made + 2;
+  all : vec_len l.tallies + vec_len l.slots ≡ length l.fn.self.places + 2;
   room : vec_len l.tallies + vec_len l.slots ≤ vec_capacity l.tallies;
 }
 

@@ -1,5 +1,5 @@
-use Rattle.std.proofs.Common.{◌≡◌}
+use Rattle.connection_places.specs.Places.{SomeBecome, closed}
 use Rattle.connection_places.proofs.slots.Slots.reap.Given as goal
 
 abbrev pub invariant-loop : goal.invariant-loop
-invariant-loop g l = l.self ≡ l.fn.self
+invariant-loop g l = SomeBecome closed l.fn.self l.self

@@ -1,0 +1,12 @@
+use Rattle.std.proofs.Common.{◌∙◌, ap, sym}
+use Rattle.std.specs.List.{list_all}
+use Rattle.std.proofs.lemmas.List.Folds.{list_all-map}
+use Rattle.connection_places.specs.Places.{Places, is_vacant, standing}
+use Rattle.connection_places.proofs.slots.Slots.is_vacant.Goals as goal
+
+pub returns : goal.returns
+returns g c =
+    c.are_vacant.ensures
+    ∙ ap (list_all (λ slot. is_vacant (standing slot))) c.as_slice.ensures.value
+    ∙ sym (list_all-map is_vacant standing c.self.inside.slots.items)
+    ∙ ap (λ (p : Places). list_all is_vacant p.places) c.self.view_is
