@@ -1,0 +1,2 @@
+mod Claiming
+mod Waiting

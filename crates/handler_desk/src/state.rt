@@ -1,15 +1,12 @@
 //! The requests that wait for a handler, those that handlers have taken, and whether a handler is here.
 
 ghost use Rattle.std.specs.Prelude.{◌≡◌, ◌&&◌, not, true, false, IfOk, OnOk, IfErr, OnErr, MatchResult, None, Some};
-ghost use Rattle.std.specs.Prelude.{[], is_some, option_map, IsSomeAnd};
-ghost use Rattle.std.specs.BTreeMap.{is_at};
-ghost use Rattle.std.specs.Map.{lookup};
-ghost use Rattle.std.specs.Ordering.{nat_cmp};
-ghost use Rattle.futures.specs.Channel.{canceled_source, completed_source};
+ghost use Rattle.std.specs.Prelude.{ℕ, [], is_some};
 ghost use Rattle.handover.specs.Counters.{bytes_of, opened, refusal, first_of, with_request, taken_by, given_up, answered};
 ghost use Rattle.handover.specs.Counters.{withdrawn, without_handler};
 ghost use Rattle.handover.specs.Stages.{stage, denial};
 ghost use Rattle.handover.specs.Presence.{with_handler, ended_at, is_attended};
+ghost use Rattle.handler_desk.specs.Seats.{seat_of, sender_of, LeadsTo, KeepsOthers};
 ghost use Rattle.handler_desk.specs.States.{limits, grace, IsRefused};
 ghost use Rattle.handler_desk.specs.declared.state.NotPut.TheVariants.{OutOfMemory};
 
@@ -55,14 +52,11 @@ impl From<AllocError> for NotPut {
     }
 }
 
-/// A request that waits for a handler: its identifier, and what will be given for it. That is never, if the sender is
-/// dropped: once its handler has ended, or no handler comes back.
+/// The identifier of a request that waits for a handler, and what will be given for it.
 #[derive(Drop)]
-pub struct Put {
-    /// The identifier.
-    pub id: u64,
-    /// What will be given.
-    pub given: Receiver<Given>,
+pub(crate) struct Waits {
+    pub(crate) id: u64,
+    pub(crate) given: Receiver<Given>,
 }
 
 /// What is kept behind the lock.
@@ -121,10 +115,12 @@ impl State {
     /// # Errors
     /// If none is, if there is no room, or if memory is refused, in this order. What waits, and what handlers have taken, is
     /// then as it was.
-    pub(crate) fn put(&mut self, now: u64, request: Request) -> Result<Put, NotPut>
+    pub(crate) fn put(&mut self, now: u64, request: Request) -> Result<Waits, NotPut>
         ensures attended { OnOk result ((not self.old.is_over && is_attended now self.old.attendance) ≡ true) }
-        ensures id { IfOk result (λ put. put.id ≡ self.old.requests.next_id) }
+        ensures id { IfOk result (λ waits. waits.id ≡ self.old.requests.next_id) }
         ensures waits { OnOk result (self.new.requests ≡ with_request request self.old.requests) }
+        ensures seat { IfOk result (λ waits. LeadsTo waits.given (seat_of waits.id self.new.seats.entries)) }
+        ensures others { IfOk result (λ waits. KeepsOthers waits.id self.old.seats.entries self.new.seats.entries) }
         ensures refused { IfErr result (IsRefused (not self.old.is_over && is_attended now self.old.attendance)
             (refusal (bytes_of request) self.old.requests)) }
         ensures same { OnErr result (self.new.requests ≡ self.old.requests) }
@@ -146,7 +142,7 @@ impl State {
             return Err(NotPut::OutOfMemory);
         }
         match self.requests.put(request) {
-            Ok(id) => Ok(Put { id, given }),
+            Ok(id) => Ok(Waits { id, given }),
             Err(_refused) => {
                 let _ = self.seats.remove(&id);
                 Err(NotPut::OutOfMemory)
@@ -162,6 +158,7 @@ impl State {
         ensures here { OnOk result (self.new.attendance ≡ with_handler handler self.old.attendance) }
         ensures same { OnErr result (self.new.attendance ≡ self.old.attendance) }
         ensures requests { self.new.requests ≡ self.old.requests }
+        ensures seats { self.new.seats.entries ≡ self.old.seats.entries }
     {
         self.attendance.asked(handler)
     }
@@ -174,6 +171,7 @@ impl State {
         ensures first { IfOk result (λ taken. taken ≡ first_of self.old.requests.waiting) }
         ensures state { OnOk result (self.new.requests ≡ taken_by handler self.old.requests) }
         ensures same { OnErr result (self.new.requests ≡ self.old.requests) }
+        ensures senders { (id : ℕ) → sender_of id self.new.seats.entries ≡ sender_of id self.old.seats.entries }
     {
         let taken = self.requests.take(handler)?;
         if let Some((id, _)) = &taken
@@ -194,7 +192,9 @@ impl State {
 
     /// Removes a request for whose answer no one waits.
     pub(crate) fn withdraw(&mut self, id: u64)
-        ensures { self.new.requests ≡ withdrawn id self.old.requests }
+        ensures requests { self.new.requests ≡ withdrawn id self.old.requests }
+        ensures seat { seat_of id self.new.seats.entries ≡ None }
+        ensures others { KeepsOthers id self.old.seats.entries self.new.seats.entries }
     {
         let _ = self.requests.requester_ended(id);
         let _ = self.seats.remove(&id);
@@ -241,8 +241,10 @@ impl State {
             (λ e. denial handler (stage id self.old.requests) ≡ Some e) }
         ensures state { OnOk result (self.new.requests ≡ answered id self.old.requests) }
         ensures same { OnErr result (self.new.requests ≡ self.old.requests) }
-        ensures sender { IfOk result (λ sender.
-            sender ≡ option_map (λ seat. seat.sender) (lookup (is_at (nat_cmp id)) self.old.seats.entries)) }
+        ensures sender { IfOk result (λ sender. sender ≡ sender_of id self.old.seats.entries) }
+        ensures over { OnOk result (seat_of id self.new.seats.entries ≡ None) }
+        ensures others { KeepsOthers id self.old.seats.entries self.new.seats.entries }
+        ensures unanswered { OnErr result (self.new.seats.entries ≡ self.old.seats.entries) }
     {
         if let Err(fault) = self.requests.answer(id, handler) {
             return Err(fault);
