@@ -1,2 +1,3 @@
 mod Claiming
 mod Waiting
+mod Seating

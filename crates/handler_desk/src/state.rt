@@ -6,7 +6,8 @@ ghost use Rattle.handover.specs.Counters.{bytes_of, opened, refusal, first_of, w
 ghost use Rattle.handover.specs.Counters.{withdrawn, without_handler};
 ghost use Rattle.handover.specs.Stages.{stage, denial};
 ghost use Rattle.handover.specs.Presence.{with_handler, ended_at, is_attended};
-ghost use Rattle.handler_desk.specs.Seats.{seat_of, sender_of, LeadsTo, KeepsOthers};
+ghost use Rattle.handler_desk.specs.Seats.{seat_of, sender_of, is_at_handler, without_seats_of};
+ghost use Rattle.handler_desk.specs.Seats.{LeadsTo, KeepsOthers, Vacates, OnlyLoses};
 ghost use Rattle.handler_desk.specs.States.{limits, grace, IsRefused};
 ghost use Rattle.handler_desk.specs.declared.state.NotPut.TheVariants.{OutOfMemory};
 
@@ -31,6 +32,18 @@ const GRACE_MS: u64 = 5_000;
 pub(crate) struct Seat {
     sender: Sender<Given>,
     handler: Option<u64>,
+}
+
+impl Seat {
+    /// Returns whether this handler has taken the request.
+    fn is_at(&self, handler: u64) -> bool
+        ensures { result ≡ is_at_handler handler self.now.handler }
+    {
+        match self.handler {
+            Some(other) => other == handler,
+            None => false,
+        }
+    }
 }
 
 /// Why a request does not wait for a handler.
@@ -193,8 +206,7 @@ impl State {
     /// Removes a request for whose answer no one waits.
     pub(crate) fn withdraw(&mut self, id: u64)
         ensures requests { self.new.requests ≡ withdrawn id self.old.requests }
-        ensures seat { seat_of id self.new.seats.entries ≡ None }
-        ensures others { KeepsOthers id self.old.seats.entries self.new.seats.entries }
+        ensures seats { Vacates id self.old.seats.entries self.new.seats.entries }
     {
         let _ = self.requests.requester_ended(id);
         let _ = self.seats.remove(&id);
@@ -212,7 +224,9 @@ impl State {
 
     /// Removes the requests for whose answers no one waits, so that they take no one's room: those that wait, and those
     /// at handlers that do not answer. It visits all, so it is for when there is no room.
-    pub(crate) fn make_room(&mut self) {
+    pub(crate) fn make_room(&mut self)
+        ensures { OnlyLoses self.old.seats.entries self.new.seats.entries }
+    {
         for _ in 0..LIMITS.most {
             match self.forsaken() {
                 Some(id) => self.withdraw(id),
@@ -242,8 +256,7 @@ impl State {
         ensures state { OnOk result (self.new.requests ≡ answered id self.old.requests) }
         ensures same { OnErr result (self.new.requests ≡ self.old.requests) }
         ensures sender { IfOk result (λ sender. sender ≡ sender_of id self.old.seats.entries) }
-        ensures over { OnOk result (seat_of id self.new.seats.entries ≡ None) }
-        ensures others { KeepsOthers id self.old.seats.entries self.new.seats.entries }
+        ensures over { OnOk result (Vacates id self.old.seats.entries self.new.seats.entries) }
         ensures unanswered { OnErr result (self.new.seats.entries ≡ self.old.seats.entries) }
     {
         if let Err(fault) = self.requests.answer(id, handler) {
@@ -259,14 +272,17 @@ impl State {
     pub(crate) fn ended(&mut self, handler: u64, now: u64)
         ensures attendance { self.new.attendance ≡ ended_at handler now self.old.attendance }
         ensures failed { self.new.requests ≡ without_handler handler self.old.requests }
+        ensures seats { self.new.seats.entries ≡ without_seats_of handler self.old.seats.entries }
     {
         self.attendance.ended(handler, now);
-        self.seats.retain(|_, seat| seat.handler != Some(handler));
+        self.seats.retain(|_, seat| !seat.is_at(handler));
         self.requests.end_handler(handler);
     }
 
     /// Gives up all requests that wait.
-    pub(crate) fn give_up(&mut self) {
+    pub(crate) fn give_up(&mut self)
+        ensures { OnlyLoses self.old.seats.entries self.new.seats.entries }
+    {
         for _ in 0..LIMITS.most {
             match self.requests.give_up() {
                 Some((id, _)) => {
@@ -278,17 +294,21 @@ impl State {
     }
 
     /// Notes that the service is over: no request waits, and what handlers have taken has failed.
-    pub(crate) fn end(&mut self) {
+    pub(crate) fn end(&mut self)
+        ensures { self.new.seats.entries ≡ [] }
+    {
         self.is_over = true;
         self.give_up();
-        self.seats.retain(|_, _| false);
+        self.seats.clear();
     }
 
     /// Returns a future that is ready after the next request has come. The bells of handlers that are gone are dropped.
     ///
     /// # Errors
     /// If an allocation fails.
-    pub(crate) fn listen(&mut self) -> Result<Receiver<()>, AllocError> {
+    pub(crate) fn listen(&mut self) -> Result<Receiver<()>, AllocError>
+        ensures { self.new.seats.entries ≡ self.old.seats.entries }
+    {
         let (bell, heard) = channel(self.alloc)?;
         self.bells.retain(|bell| !bell.is_canceled());
         self.bells.push(bell).map_err(AllocError::from)?;
@@ -296,7 +316,9 @@ impl State {
     }
 
     /// Takes out the bells of all handlers that wait.
-    pub(crate) fn take_bells(&mut self) -> Vec<Sender<()>> {
+    pub(crate) fn take_bells(&mut self) -> Vec<Sender<()>>
+        ensures { self.new.seats.entries ≡ self.old.seats.entries }
+    {
         mem::replace(&mut self.bells, Vec::new(self.alloc))
     }
 }
