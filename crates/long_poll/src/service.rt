@@ -25,7 +25,7 @@ use lambda_wire::Reply;
 use script::Draft;
 use std::alloc::{AllocError, Global};
 use std::sync::Wait;
-use usage_ledger::{Keep, Ledgers, Tally, Token};
+use usage_ledger::{Anchor, Keep, Ledgers, Tally, Token};
 
 /// An account that connections share. For each method there is a relation of its arguments and its
 /// result, which the implementation names. The type parameter is what a tally keeps. A token has seen a
@@ -130,6 +130,18 @@ pub trait Service<K: Keep>: Drop {
     /// Makes a token that has seen the history as it is.
     fn token<R: Wait>(&self, rt: &R) -> Token<Self::Ledgers>
         ensures { shows self.now result };
+
+    /// Returns an anchor at what a token has seen.
+    fn anchor(&self, token: &mut Token<Self::Ledgers>) -> Anchor<Self::Ledgers>
+        ensures { (result ≡ token.old) × (token.new ≡ token.old) };
+
+    /// Returns a token that has seen what an anchor is at.
+    fn from_anchor<R: Wait>(
+        &self,
+        rt: &R,
+        anchor: &Anchor<Self::Ledgers>,
+    ) -> Token<Self::Ledgers>
+        ensures { result ≡ anchor.now };
 
     /// Returns another token, which has seen as much.
     fn again(&self, token: &mut Token<Self::Ledgers>) -> Token<Self::Ledgers>

@@ -14,7 +14,7 @@ use lambda_wire::Reply;
 use script::Draft;
 use std::alloc::{AllocError, Global};
 use std::sync::Wait;
-use usage_ledger::{Keep, Tally, Token};
+use usage_ledger::{Anchor, Keep, Tally, Token};
 
 // A submit returns a token that has seen the history that the call made. What is read with this token is
 // of a history that extends that one.
@@ -79,6 +79,14 @@ impl<S: Identity + Drop, K: Keep> Service<K> for Account<S, OneShotBell> {
 
     fn token<R: Wait>(&self, rt: &R) -> Token<S> {
         Account::token(self, rt)
+    }
+
+    fn anchor(&self, token: &mut Token<S>) -> Anchor<S> {
+        Account::anchor(self, token)
+    }
+
+    fn from_anchor<R: Wait>(&self, rt: &R, anchor: &Anchor<S>) -> Token<S> {
+        Account::from_anchor(self, rt, anchor)
     }
 
     fn again(&self, token: &mut Token<S>) -> Token<S> {
