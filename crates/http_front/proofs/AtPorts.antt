@@ -176,7 +176,7 @@ module _ {R S D N K L B P E T : Type 0} {service : Service.Ghosts S K L T} {deci
 
   module _ (hosts : List ℕ) (head : Parts) (response : Response (Either SentBody H)) where
     abbrev shows : Shown → H → Type 0
-    shows = IsStreamOf service (service_of connection)
+    shows = IsStreamOf service (service_of connection) since
 
     abbrev Exchanged : Port → Type 0
     Exchanged at =
@@ -221,7 +221,7 @@ module _ {R S D N K L B P E T : Type 0} {service : Service.Ghosts S K L T} {deci
     own_at_port : (account : S) → service_of connection ≡ account
         → (it : N) → clock_of connection ≡ it → (began : List Entry) → since ≡ began → front.port ≡ served.port
         → arc_value front.hosts ≡ hosts → IsOwnAnswer clock yields has front head response
-        → IsItsOwn L (IsStreamOf service account) (clock.reads it) served most began yields has hosts head response
+        → IsItsOwn L (IsStreamOf service account began) (clock.reads it) served most began yields has hosts head response
     own_at_port account same it is began then at listed x =
         let of_hosts : MatchOption (refusal_of front.port hosts head) (IsRefusal front.port (declares_too_long head) refused.OutOfMemory response ⊎ Exchanged front.port)
         (λ refusal. IsRefusal front.port (declares_too_long head) refusal response)
@@ -234,8 +234,8 @@ module _ {R S D N K L B P E T : Type 0} {service : Service.Ghosts S K L T} {deci
         = subst (λ a. MatchOption (refusal_of a hosts head)
         (IsRefusal a (declares_too_long head) refused.OutOfMemory response ⊎ Exchanged a) (λ refusal. IsRefusal a (declares_too_long head) refusal response))
         at of_hosts in
-        subst (λ s. IsItsOwn L (IsStreamOf service account) (clock.reads it) served most s yields has hosts head response) then
-        (subst (λ a. IsItsOwn L (IsStreamOf service a) (clock.reads it) served most since yields has hosts head response) same
+        subst (λ s. IsItsOwn L (IsStreamOf service account s) (clock.reads it) served most s yields has hosts head response) then
+        (subst (λ a. IsItsOwn L (IsStreamOf service a since) (clock.reads it) served most since yields has hosts head response) same
         (subst (λ c. IsItsOwn L shows (clock.reads c) served most since yields has hosts head response) is
         (guarded (refusal_of served.port hosts head) of_api)))
 
@@ -243,7 +243,7 @@ module _ {R S D N K L B P E T : Type 0} {service : Service.Ghosts S K L T} {deci
         → (it : N) → clock_of connection ≡ it → (began : List Entry) → since ≡ began → front.port ≡ served.port
         → arc_value front.hosts ≡ hosts → arc_value (arc_value front.at_desk).side ≡ served
         → IsAnswer clock yields has front head response
-        → IsAnswerAt L (IsStreamOf service account) (clock.reads it) served most began yields has hosts head response
+        → IsAnswerAt L (IsStreamOf service account began) (clock.reads it) served most began yields has hosts head response
     at_port account same it is began then at listed sided (inl x) =
         inl (own_at_port account same it is began then at listed x)
     at_port account same it is began then at listed sided (inr x) =

@@ -34,7 +34,8 @@ module _ {R S N K L T B P X E : Type 0} (service : Service.Ghosts (Account S One
   -- connection began. Or it was closed before anything was written to it.
   abbrev pub IsServed : Result (Ended Wire) Unused → Type 0
   IsServed (Ok ended) = (name_of ended.io ≡ name) × Written sends has
-      (IsAnswerAt L (IsStreamOf service (arc_value (arc_value common.shared).service)) (clock.reads (arc_value common.shared).clock)
+      (IsAnswerAt L (IsStreamOf service (arc_value (arc_value common.shared).service) since)
+      (clock.reads (arc_value common.shared).clock)
       served most since yields has (arc_value common.hosts))
       ended.io (outcome_of ended.outcome)
   IsServed (Err unused) = name_of_unused unused ≡ name

@@ -335,10 +335,10 @@ impl<
         &self,
         from: Option<Ticket>,
     ) -> Result<Box<HistoryBody<R, S, K, S::Ledgers>>, AllocError>
-        ensures { IfOk result (λ body. ShowsFrom (service_of self.now) from body.value) }
+        ensures { IfOk result (λ body. ShowsFrom (service_of self.now) self.now.anchor from body.value) }
     {
         let service = Arc::try_clone(&self.shared.service)?;
-        let body = HistoryBody::new(self.rt, service, from);
+        let body = HistoryBody::new(self.rt, service, self.token(), from);
         Box::new(self.alloc(), body).map_err(AllocError::from)
     }
 
