@@ -36,7 +36,7 @@ module _ {R S K L T : Type 0} (service : Service.Ghosts S K L T) (s : S) (since 
   IsStreamOf (shown.History from) (streamed.History body) = ShowsFrom s since from body.value
   IsStreamOf (shown.History from) (streamed.Trace body) = ⊥
   IsStreamOf (shown.Trace query) (streamed.History body) = ⊥
-  IsStreamOf (shown.Trace query) (streamed.Trace body) = IsTraceFrom service s query body.value
+  IsStreamOf (shown.Trace query) (streamed.Trace body) = IsTraceFrom service s since query body.value
   IsStreamOf shown.Stats body = ⊥
   IsStreamOf shown.Environments body = ⊥
   IsStreamOf (shown.Reservation f) body = ⊥

@@ -64,8 +64,8 @@ pub trait Service<K: Keep>: Drop {
     /// afterwards.
     ghost tells: { Self → List Entry → ℕ → Option (List ℕ) → List Entry → Type 0 };
 
-    /// A trail that has passed no entry.
-    ghost begins: { Self → Self.Trail → Type 0 };
+    /// Relates what was seen of the history, and a trail that has passed no entry.
+    ghost begins: { Self → List Entry → Self.Trail → Type 0 };
 
     /// Relates a trail, whether bodies are shown, the line of the entry that comes next, `None` past the end, and the
     /// trail afterwards, which has passed the entry.
@@ -177,8 +177,13 @@ pub trait Service<K: Keep>: Drop {
         ensures { IfOk result (λ text. tells self.now token.old ticket text token.new) };
 
     /// Makes a trail that has passed no entry. The only error is `AllocError`.
-    fn trail<R: Wait>(&self, rt: &R, alloc: Global) -> Result<Self::Trail, AllocError>
-        ensures { IfOk result (begins self.now) };
+    fn trail<R: Wait>(
+        &self,
+        rt: &R,
+        alloc: Global,
+        token: Token<Self::Ledgers>,
+    ) -> Result<Self::Trail, AllocError>
+        ensures { IfOk result (begins self.now token) };
 
     /// Returns the line of the trace for the entry that comes next on a trail, which passes the entry; `None` past
     /// the end. The only error is `AllocError`.

@@ -349,12 +349,13 @@ impl<
         place: Option<FollowerPlace>,
         query: TraceQuery,
     ) -> Result<Box<TraceBody<R, S, S::Trail, K, S::Ledgers>>, AllocError>
-        ensures { IfOk result (λ body. IsTraceFrom S.Service (service_of self.now) query body.value) }
+        ensures { IfOk result (λ body. IsTraceFrom S.Service (service_of self.now) self.now.anchor query body.value) }
     {
         let service = Arc::try_clone(&self.shared.service)?;
         let open = Arc::try_clone(&self.open)?;
         let beat = Arc::try_clone(&self.shared.beat)?;
-        let body = TraceBody::new(self.rt, self.alloc(), service, open, beat, place, query)?;
+        let token = self.token();
+        let body = TraceBody::new(self.rt, self.alloc(), service, token, open, beat, place, query)?;
         Box::new(self.alloc(), body).map_err(AllocError::from)
     }
 

@@ -119,8 +119,13 @@ impl<S: Identity + Drop, K: Keep> Service<K> for Account<S, OneShotBell> {
         Account::history(self, rt, token, ticket)
     }
 
-    fn trail<R: Wait>(&self, rt: &R, alloc: Global) -> Result<Trail<S>, AllocError> {
-        Account::trail(self, rt, alloc)
+    fn trail<R: Wait>(
+        &self,
+        rt: &R,
+        alloc: Global,
+        token: Token<S>,
+    ) -> Result<Trail<S>, AllocError> {
+        Account::trail(self, rt, alloc, token)
     }
 
     fn trace<R: Wait>(
