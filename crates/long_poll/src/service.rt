@@ -47,9 +47,6 @@ pub trait Service<K: Keep>: Drop {
     /// that its token has seen.
     ghost submits: { Self → List Entry → Held → ℕ → Called → Option Rings → CameBack → List Entry → Held → Type 0 };
 
-    /// What is seen of the history.
-    ghost shows: { Self → List Entry → Type 0 };
-
     /// Relates what was seen of the history, the ticket, what is known of it, and what is seen
     /// afterwards.
     ghost looks: { Self → List Entry → ℕ → Seen → List Entry → Type 0 };
@@ -126,10 +123,6 @@ pub trait Service<K: Keep>: Drop {
         requires within { IsWithin (serves self.now) call }
         ensures { UnlessPremature (submits self.now) token.old tally.old.held now call bell result token.new
             tally.new.held };
-
-    /// Makes a token that has seen the history as it is.
-    fn token<R: Wait>(&self, rt: &R) -> Token<Self::Ledgers>
-        ensures { shows self.now result };
 
     /// Returns an anchor at what a token has seen.
     fn anchor(&self, token: &mut Token<Self::Ledgers>) -> Anchor<Self::Ledgers>

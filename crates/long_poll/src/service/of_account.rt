@@ -1,7 +1,5 @@
 //! An account is a service.
 
-ghost use Rattle.std.specs.Prelude.{[]};
-ghost use Rattle.account_lock.specs.Shown.{Sees};
 ghost use Rattle.long_poll.specs.Reads.{Looks, Renders, Tells, Opens, Counts, Reserves};
 ghost use Rattle.long_poll.specs.Reads.{Begins, Closes, Lists, Passes, Traces};
 ghost use Rattle.long_poll.specs.Submits.{Submits};
@@ -26,8 +24,6 @@ impl<S: Identity + Drop, K: Keep> Service<K> for Account<S, OneShotBell> {
     ghost serves = { λ _. S.config };
 
     ghost submits = { λ _. Submits S.config S.most K.notes K.makes };
-
-    ghost shows = { λ _. Sees S.config S.most [] };
 
     ghost looks = { λ _. Looks S.config S.most };
 
@@ -75,10 +71,6 @@ impl<S: Identity + Drop, K: Keep> Service<K> for Account<S, OneShotBell> {
         ringer: &impl Ringer<OneShotBell>,
     ) -> Result<(Ticket, Token<S>), NotTaken<OneShotBell>> {
         Account::submit_unless_premature(self, rt, tally, token, now, call, bell, ringer)
-    }
-
-    fn token<R: Wait>(&self, rt: &R) -> Token<S> {
-        Account::token(self, rt)
     }
 
     fn anchor(&self, token: &mut Token<S>) -> Anchor<S> {
