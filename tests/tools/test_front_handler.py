@@ -262,6 +262,21 @@ class FrontHandler(Case):
             self.check("nothing is told", running.told, [])
             self.check("and a request is answered", ask(service.port, "GET", "/x", timeout=PATIENCE)[0], 200)
 
+    def test_nothing_is_asked_while_no_connection_is_superfluous(self) -> None:
+        self.addCleanup(setattr, handlers, "BETWEEN_LOOKS", handlers.BETWEEN_LOOKS)
+        handlers.BETWEEN_LOOKS = 0.001
+        looks: List[int] = []
+        ended: List[int] = []
+
+        async def end_spare(count: int) -> None:
+            ended.append(count)
+        with real() as service, Running(service.port, ok) as running:
+            setattr(running.handler, "end_spare", end_spare)
+            setattr(running.handler, "break_off", lambda: looks.append(running.handler.fewest))
+            self.check("it looks", until(lambda: len(looks) > 20, PATIENCE))
+            self.check("and no more ask than are spare", max(looks) <= handlers.SPARE, shown=looks[:20])
+            self.check("so none is ended", ended, [])
+
     def test_no_more_than_the_most_are_at_work(self) -> None:
         held = threading.Semaphore(0)
         now, highest = [0], [0]

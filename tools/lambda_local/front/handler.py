@@ -289,8 +289,9 @@ class Handler:
             self.fewest = self.asking
             await asyncio.sleep(BETWEEN_LOOKS)
             self.break_off()
-            with contextlib.suppress(Gone, asyncio.TimeoutError):
-                await asyncio.wait_for(self.end_spare(self.fewest - SPARE), BETWEEN_LOOKS)
+            if self.fewest > SPARE:
+                with contextlib.suppress(Gone, asyncio.TimeoutError):
+                    await asyncio.wait_for(self.end_spare(self.fewest - SPARE), BETWEEN_LOOKS)
 
     def break_off(self) -> None:
         """Breaks off answers that are not read, if too much of them waits."""
