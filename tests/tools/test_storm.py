@@ -13,9 +13,11 @@ from lambda_local.front.storm import root_of
 from lambda_local.in_process import FunctionError, LambdaLocal
 from lambda_local.in_storm import InMaker
 from lambda_local.storm import INIT, KINDS, SPARED, THROTTLE, Course, Storm, storm_of
+from lambda_local.up.following import REST
 from tests.library.cases import Case
 from tests.library.clock_kit import EVENT, INVOKE, posted
 from tests.library.events_kit import READY, READY_SECONDS
+from tests.library.paces import longest_rests
 from tests.library.threads import together
 from tests.library.up_kit import LAUNCHER, Up, until
 
@@ -197,6 +199,10 @@ class OfUp(Case):
         self.check("it ends", up.end()[1], [])
         self.check("one line", [line.partition("] ")[2] for line in up.lines if "web page" in line.lower()],
                    [f"invokePort: POST {path}: 403, web pages may not call this service; call it from a program"])
+
+    def test_callers_in_a_storm_wait_for_no_long_rest(self):
+        """They wait until an entry is taken, also while many come."""
+        self.check("the longest rest", longest_rests("--storm", "7"), [REST])
 
     def test_faults_of_the_option_are_told(self):
         for words, wanted in ((["--storm", "x"], "--storm: invalid SEED[:RATE]"),

@@ -13,7 +13,9 @@ import time
 import zlib
 
 from lambda_local.streaming import frames
+from lambda_local.up.following import LONG_RESTS, REST
 from tests.library.cases import Case
+from tests.library.paces import longest_rests
 from tests.library.telemetry_kit import PROBE, events, function, probe
 from tests.library.threads import together
 from tests.library.up_kit import Up, until
@@ -244,6 +246,11 @@ class Streaming(Case):
         self.check("four callers", [each.seen for each in got],
                    [(200, letter.encode() * 5, True) for letter in "abcd"])
         self.check("it ends", up.end(), (0, []))
+
+    def test_callers_of_a_stream_wait_for_no_long_rest(self):
+        """They wait until an entry is taken, also while many come. No one else does."""
+        self.check("functions that stream", longest_rests(url={"invoke": "RESPONSE_STREAM"}), [REST])
+        self.check("others", longest_rests(url=True), [LONG_RESTS[0][1]])
 
     def test_messages_are_framed_as_AWS_does(self):
         self.check("a checksum of AWS's test suite", f"{zlib.crc32(bytes.fromhex('0000001000000000')):08x}", "05c248eb")
