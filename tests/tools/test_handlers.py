@@ -15,6 +15,7 @@ from tests.library.handler_kit import (CONFIGURATION, INVOKE, LONGEST, NEXT, PAT
 
 EVENT = {"X-Amz-Invocation-Type": "Event"}
 MANY, HANDLERS = 60, 3
+MOST_BYTES = 64 << 20  # of bodies that wait for a handler
 # What is answered as ever, whether a handler is here or not.
 OWN: Tuple[Tuple[str, str, Dict[str, str], Optional[str]], ...] = (
     ("GET", "/_local/version", {}, None),
@@ -176,6 +177,29 @@ class Handlers(WithService):
         self.check("a body that is too long", handler.answer(head, bytes(LONGEST + 1)), (413, "RequestEntityTooLarge"))
         handler.close()
         other.close()
+
+    def test_the_bytes_that_wait_are_bounded(self) -> None:
+        """What is at a handler does not count among them. Then there is room again."""
+        handler = self.handler()
+        handler.ask()
+        first = Requester(self.service, "POST", "/first", {}, bytes(LONGEST))
+        head, _ = handler.taken()
+        count = MOST_BYTES // LONGEST
+        waiting = [Requester(self.service, "POST", f"/{number}", {}, bytes(LONGEST)) for number in range(count + 1)]
+        end = time.monotonic() + PATIENCE
+        while all(one.is_alive() for one in waiting) and time.monotonic() < end:
+            time.sleep(0.02)
+        refused = [one for one in waiting if not one.is_alive()]
+        self.check("one is refused at once", [fault_of(one.answer()) for one in refused],
+                   [(503, "ServiceException", "Too many requests wait for a handler")])
+        self.check("the handler goes on", (handler.answer(head), first.answer()[0]), ((202, ""), 200))
+        for _ in range(count):
+            handler.answer(handler.next()[0])
+        self.check("all others are answered", [one.answer()[0] for one in waiting if one not in refused], [200] * count)
+        again = Requester(self.service, "POST", "/again", {}, bytes(LONGEST))
+        handler.answer(handler.next()[0])
+        self.check("and a further one", again.answer()[0], 200)
+        handler.close()
 
     def test_a_handler_that_dies_fails_what_it_has_taken(self) -> None:
         handler, other = self.handler(), Handler(self.service)
