@@ -16,7 +16,7 @@ from typing import Dict, List, Union
 
 from lambda_local.json_reader import NotJson, is_deeper, read_json
 from lambda_local.outgoing import header_value, printable, printable_output
-from lambda_local.up.output import LONGEST_LINE, Pace, Reader, Splitter, read_lines
+from lambda_local.up.output import LONGEST_LINE, PIECE, SLICE, Pace, Reader, Splitter, read_lines
 from lambda_local.reports import Report, kind_in
 from tests.library.cases import Case
 from tests.library.pipe_log import pipe_log
@@ -233,6 +233,38 @@ class UpOutput(Case):
         log.stream.close()
         reader.join(20)
         self.check("a slow reader gets each line that a process prints", len(lines), 60_000)
+
+    def test_what_takes_little_is_taken_at_once_and_what_takes_much_in_turns(self):
+        moment, step, pauses, taken = [100.0], [SLICE / 100], [], []
+
+        def passes():  # (each look at the time is a step later than the one before)
+            moment[0] += step[0]
+            return moment[0]
+
+        async def take():
+            loop = asyncio.get_running_loop()
+            setattr(loop, "time", passes)
+            setattr(loop, "call_later", lambda seconds, _: pauses.append(seconds))
+            pace, pipes = Pace(), [os.pipe() for _ in range(9)]
+            readers = [Reader(reading, Splitter(taken.append), lambda: False, pace) for reading, _ in pipes]
+            for _, writing in pipes:
+                os.write(writing, b"a line\n")
+            for _ in range(5):
+                await asyncio.sleep(0)
+            self.check("a line of each of nine processes", (taken, pauses), (["a line"] * 9, []))
+            step[0] = SLICE
+            for _, writing in pipes[:2]:
+                os.write(writing, b"a line\n" * (PIECE // 7))
+            for _ in range(5):
+                await asyncio.sleep(0)
+            self.check("who has more waits, and so does the next", len(pauses), 2)
+            self.check("for as long as it took", [seconds > 0.9 * SLICE for seconds in pauses], [True, True],
+                       shown=pauses)
+            for reader, (_, writing) in zip(readers, pipes):
+                loop.remove_reader(reader.descriptor)
+                os.close(reader.descriptor)
+                os.close(writing)
+        asyncio.run(take())
 
     def test_a_line_of_300_MB_comes_in_parts(self):
         sizes = []

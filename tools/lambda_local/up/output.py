@@ -35,9 +35,11 @@ class Splitter:
         self.parts: List[str] = []
         self.length = 0
         self.since = 0.0  # when the first part came, by the time of day
+        self.ends = True  # whether the last byte was a line's end, so that nothing of a line is kept
 
     def feed(self, data: bytes) -> None:
         """Nothing is the end."""
+        self.ends = data[-1:] in (b"\n", b"")
         *whole, rest = self.decoder.decode(data, not data).split("\n")
         for line in whole:
             self.take(self._joined(line).rstrip("\r"))
@@ -62,7 +64,8 @@ class Splitter:
 
     def cut(self) -> None:
         """What has come of a line whose end has not is a line."""
-        Splitter.feed(self, b"")
+        if not self.ends:
+            Splitter.feed(self, b"")
 
 
 class MarkedSplitter(Splitter):
@@ -75,21 +78,21 @@ class MarkedSplitter(Splitter):
         self.held = b""  # what may be the beginning of a mark
 
     def feed(self, data: bytes) -> None:
-        rest, self.held = self.held + data, b""
-        while True:
-            before, mark, after = rest.partition(self.mark)
-            if not mark or len(after) <= OF_IDENTIFIER:
-                break
-            self._pass(before)
+        rest, *begun = (self.held + data).split(self.mark)
+        self.held = self.mark + begun.pop() if begun and len(begun[-1]) <= OF_IDENTIFIER else b""
+        for each in begun:
+            self._pass(rest)
             self.cut()
-            self.divide(after[:OF_IDENTIFIER].decode("ascii", "replace"))
-            rest = after[OF_IDENTIFIER + 1:]
-        if data:
-            whole = len(before) if mark else self._before_half_a_mark(rest)
+            self.divide(each[:OF_IDENTIFIER].decode("ascii", "replace"))
+            rest = each[OF_IDENTIFIER + 1:]
+        if not data:
+            self._pass(rest + self.held)
+            self.held = b""
+            return self.cut()
+        if rest and not self.held:
+            whole = self._before_half_a_mark(rest)
             rest, self.held = rest[:whole], rest[whole:]
         self._pass(rest)
-        if not data:
-            self.cut()
 
     def _pass(self, data: bytes) -> None:
         if data:
@@ -113,7 +116,7 @@ class Pace:
     """Of all readers of a loop: what is printed takes up to half of its time, in turns of SLICE seconds."""
 
     def __init__(self) -> None:
-        self.free = 0.0  # from when on the next may take its turn
+        self.free = 0.0  # when as long has passed again as what was printed has taken
 
 
 class Reader:
@@ -131,17 +134,19 @@ class Reader:
 
     def _come(self) -> None:
         now = self.loop.time()
-        if (rest := max(self.pace.free - now, BETWEEN_LOOKS if self._waits(now) else 0.0)) > 0:
-            return self._pause(rest)
+        debt = self.pace.free - now
+        if (waits := self._waits(now)) or debt > SLICE / 2:
+            return self._pause(max(debt, BETWEEN_LOOKS if waits else 0.0))
         if not self.ahead and self._read() == 0:
             self.splitter.feed(b"")
             self.loop.remove_reader(self.descriptor)
             os.close(self.descriptor)
             return settle(self.over, None)
-        while self.ahead and self.loop.time() - now < SLICE:
+        took = 0.0
+        while self.ahead and took < SLICE:
             self._take()
-        took = self.loop.time() - now
-        self.pace.free = now + 2 * took
+            took = self.loop.time() - now
+        self.pace.free += 2 * took - min(debt, 0.0)
         if self.ahead:  # (nothing may come any more)
             self._pause(took)
 
