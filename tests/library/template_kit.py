@@ -7,13 +7,19 @@ import os
 import subprocess
 import tempfile
 
-from lambda_local.from_template.command import up_of
+from lambda_local.from_template.find import Source
+from lambda_local.from_template.project import up_of_source
 from tests import ROOT
 from tests.library.cases import Case
 
 FROM_TEMPLATE = [os.path.join(ROOT, "lambda_local"), "from_template"]
 HAS_YAML = bool(importlib.util.find_spec("yaml"))
 HAS_CLIENT = bool(importlib.util.find_spec("awslambdaric"))
+
+
+def up_of(path):
+    """UP.json's object of a template, as its defaults have it."""
+    return up_of_source(Source(path, True))
 
 
 def up_and_said(template):

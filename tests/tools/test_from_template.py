@@ -7,8 +7,7 @@ import os
 import tempfile
 
 from lambda_local.configuration import Members
-from lambda_local.from_template.command import up_of
-from tests.library.template_kit import HAS_YAML, SAM, TemplateCase, function_of, made_of, python
+from tests.library.template_kit import HAS_YAML, SAM, TemplateCase, function_of, made_of, python, up_of
 
 
 def made_function(**members):

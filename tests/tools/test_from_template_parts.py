@@ -11,12 +11,12 @@ from typing import Any, Dict
 
 from lambda_local.configuration import OF_SERVICE, mistakes
 from lambda_local.configuration import Members
-from lambda_local.from_template.command import up_of
 from lambda_local.from_template.messages import Fault
 from lambda_local.front import settings
 from lambda_local.up.members import MEMBERS
 from tests import ROOT
-from tests.library.template_kit import FROM_TEMPLATE, HAS_YAML, TemplateCase, function_of, made_of, python
+from tests.library.template_kit import (FROM_TEMPLATE, HAS_YAML, TemplateCase, function_of, made_of, python,
+                                        up_of)
 
 
 def replaced(node, value):

@@ -17,7 +17,6 @@ from typing import List, Tuple
 
 from lambda_local import from_template, outgoing, reasons, reports
 from lambda_local.configuration import explained, mistakes
-from lambda_local.from_template import command as template_command
 from lambda_local.from_template.messages import Fault as TemplateFault
 from lambda_local.front.events import in_json
 from lambda_local.front.handed import NotHanded, handed_of
@@ -35,6 +34,7 @@ from tests import ROOT
 from tests.library import given_fuzz, http_fuzz, identity_fuzz, strategies
 from tests.library.cases import Case
 from tests.library.given_fuzz import CONTROL, is_a_line
+from tests.library.template_kit import up_of
 from tests.library.traces import all_at_once, one_by_one, whole
 
 try:
@@ -139,7 +139,7 @@ def of_traces(data):
 
 def of_templates(data):
     with contextlib.suppress(TemplateFault), contextlib.redirect_stderr(io.StringIO()) as said:
-        template_command.up_of(written("template.yaml", data))
+        up_of(written("template.yaml", data))
     for line in said.getvalue().splitlines():
         is_a_line(line)
 
@@ -159,18 +159,16 @@ def of_handed(data):
         assert data.endswith(b"\n" + request.body(len(data)))
 
 
-class SevenAtOnce(io.BytesIO):
-    def read1(self, _most=-1):
-        return self.read(7)
-
-
 def of_output(data):
     lines: List[str] = []
-    output.read_lines(SevenAtOnce(data), lines.append)
+    splitter = output.Splitter(lines.append)
+    for at in range(0, len(data), 7):
+        splitter.feed(data[at:at + 7])
+    splitter.feed(b"")
     for line in lines:
         shown = outgoing.printable_output(line)
         assert not CONTROL.search(outgoing.COLOUR.sub("", shown)), shown
-        assert len(line) <= output.LONGEST_LINE + output.AT_ONCE
+        assert len(line) <= output.LONGEST_LINE + 7
 
 
 FOLDER = tempfile.TemporaryDirectory()

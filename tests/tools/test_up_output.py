@@ -16,7 +16,7 @@ from typing import Dict, List, Union
 
 from lambda_local.json_reader import NotJson, is_deeper, read_json
 from lambda_local.outgoing import header_value, printable, printable_output
-from lambda_local.up.output import LONGEST_LINE, PIECE, SLICE, Pace, Reader, Splitter, read_lines
+from lambda_local.up.output import LONGEST_LINE, PIECE, SLICE, Pace, Reader, Splitter
 from lambda_local.reports import Report, kind_in
 from tests.library.cases import Case
 from tests.library.pipe_log import pipe_log
@@ -65,17 +65,6 @@ def seconds(url):
     begun = time.monotonic()
     answered(url)
     return time.monotonic() - begun
-
-
-class Endless:
-    """A stream of many bytes without a line feed."""
-
-    def __init__(self, size):
-        self.left = size
-
-    def read1(self, most):
-        taken, self.left = min(most, self.left), self.left - min(most, self.left)
-        return b"x" * taken
 
 
 def is_json(text):
@@ -269,7 +258,10 @@ class UpOutput(Case):
     def test_a_line_of_300_MB_comes_in_parts(self):
         sizes = []
         before = resource.getrusage(resource.RUSAGE_SELF).ru_maxrss
-        read_lines(Endless(300 << 20), lambda line: sizes.append(len(line)))
+        splitter = Splitter(lambda line: sizes.append(len(line)))
+        for _ in range(300 << 4):
+            splitter.feed(b"x" * (64 << 10))
+        splitter.feed(b"")
         grown = (resource.getrusage(resource.RUSAGE_SELF).ru_maxrss - before) >> 10
         self.check("a line of 300 MB comes in parts", (sum(sizes), max(sizes) <= LONGEST_LINE + (64 << 10)),
                    (300 << 20, True))
@@ -277,15 +269,10 @@ class UpOutput(Case):
 
     def test_letters_that_come_byte_by_byte_are_whole(self):
         lines: List[str] = []
-
-        class Bytes(Endless):
-            def __init__(self, data):
-                self.data = data
-
-            def read1(self, most):
-                taken, self.data = self.data[:1], self.data[1:]
-                return taken
-        read_lines(Bytes("é\r\nб\n\n\U0001f600".encode() + b"\xff"), lines.append)
+        splitter = Splitter(lines.append)
+        for byte in "é\r\nб\n\n\U0001f600".encode() + b"\xff":
+            splitter.feed(bytes([byte]))
+        splitter.feed(b"")
         self.check("letters that come byte by byte", lines, ["é", "б", "", "\U0001f600\ufffd"])
 
     def test_escapes_reach_no_terminal(self):

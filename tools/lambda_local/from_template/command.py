@@ -25,9 +25,9 @@ from ..usage import parser_of
 from .find import Source, source_of
 from .messages import Fault, tell
 from .options import add_options, given_of
-from .project import up_of, up_of_source
+from .project import up_of_source
 
-__all__ = ["main", "place", "up_of"]
+__all__ = ["main", "place"]
 
 MARK = "fromTemplate"  # the member with the sum of what from_template wrote
 

@@ -89,8 +89,3 @@ def check_variables(given: Given, listed: List[Listed]) -> None:
         if name and name not in names:
             raise Fault(f"--env-vars: there is no function {name}; there are "
                         f"{', '.join(sorted(map(str, filter(None, names))))}")
-
-
-def up_of(path: str) -> Members:
-    """The same of a template, as its defaults have it."""
-    return up_of_source(Source(path, True))

@@ -4,6 +4,7 @@ import contextlib
 import json
 from typing import Dict, Mapping, Tuple, Union
 
+from ..exchange import Unanswered
 from ..front.client import Client, ServiceWire
 from ..front.wire import Gone
 from ..http1 import Malformed, request_head
@@ -11,10 +12,6 @@ from ..http1 import Malformed, request_head
 MOST = 1 << 30  # bytes of an answer
 SECONDS = 30.0  # for an answer
 Answered = Tuple[int, Dict[str, str], bytes]  # status, headers by their names in lower case, body
-
-
-class Unanswered(OSError):
-    """There is no answer, or half of one."""
 
 
 class Asked:

@@ -6,23 +6,17 @@ import fcntl
 import os
 import termios
 import time
-from typing import Callable, List, Optional, Protocol, Tuple
+from typing import Callable, List, Optional, Tuple
 
 from .bell import settle
 
 LONGEST_LINE = 256 << 10  # characters; a longer line is written in parts of that length (as Lambda's log does)
-AT_ONCE = 64 << 10  # bytes of a stream
 PIECE = 8 << 10  # bytes that a loop reads at once: lines of them fit into the room that there is
 SOME = 256  # bytes of them that are taken between two looks at the time
 SLICE = 0.002  # seconds
 PATIENCE = 1.0  # seconds: as long a process that prints waits for room
 BETWEEN_LOOKS = 0.01  # seconds, for room
 OF_IDENTIFIER = 36  # characters of an invocation's, after a mark
-
-
-class Readable(Protocol):
-    def read1(self, most: int) -> bytes:
-        """Some of what has come, at most this many bytes; nothing at the end."""
 
 
 class Splitter:
@@ -102,14 +96,6 @@ class MarkedSplitter(Splitter):
         """How many bytes come before what the mark may begin with at their end."""
         place = data.rfind(self.mark[:1], max(0, len(data) - len(self.mark) + 1))
         return place if place >= 0 and self.mark.startswith(data[place:]) else len(data)
-
-
-def read_lines(stream: Readable, take: Callable[[str], None]) -> None:
-    """Gives each line to `take`, without its end, until the stream ends."""
-    splitter = Splitter(take)
-    while data := stream.read1(AT_ONCE):
-        splitter.feed(data)
-    splitter.feed(b"")
 
 
 class Pace:
