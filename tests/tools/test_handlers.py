@@ -31,6 +31,9 @@ OWN: Tuple[Tuple[str, str, Dict[str, str], Optional[str]], ...] = (
     ("GET", "/_local/history?from=x", {}, None),
     ("GET", "/nothing", {"Host": "evil.example.com"}, None),
     ("GET", "/nothing", {"Origin": "http://a.example"}, None),
+    ("GET", NEXT, {"Origin": "http://a.example"}, None),  # (no page is a handler)
+    ("GET", NEXT, {"Host": "evil.example.com"}, None),
+    ("POST", "/_local/requests/0/response", {"Sec-Fetch-Site": "cross-site"}, "x"),
 )
 # What is handed over while a handler is here, with its answer while none is.
 HANDED: Tuple[Tuple[str, str, Dict[str, str], bytes, int], ...] = (
@@ -78,6 +81,8 @@ class Handlers(WithService):
         handler = Handler(self.service)
         self.check("no request has the identifier of a post", handler.post("0/response"), (404, "UnknownRequest"))
         self.check("nor of a failure", handler.post("7/error"), (404, "UnknownRequest"))
+        refused = [status for status, _, _ in self.all_own()[-3:]]
+        self.check("a page is refused, and so is a foreign host", refused, [403, 403, 403])
         self.check("who has only posted is no handler", self.asked("GET", "/nothing")[0], 404)
         handler.close()
 
