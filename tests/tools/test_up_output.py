@@ -224,7 +224,9 @@ class UpOutput(Case):
         self.check("a slow reader gets each line that a process prints", len(lines), 60_000)
 
     def test_what_takes_little_is_taken_at_once_and_what_takes_much_in_turns(self):
-        moment, step, pauses, taken = [100.0], [SLICE / 100], [], []
+        moment, step = [100.0], [SLICE / 100]
+        pauses: List[float] = []
+        taken: List[str] = []
 
         def passes():  # (each look at the time is a step later than the one before)
             moment[0] += step[0]

@@ -13,14 +13,13 @@ from ..json_reader import NotJson, read_json
 from .authorizers import Authorizer, Source
 from .client import Client
 from .events import target_of
-from .http import Headers, Reply, Request, every, first
+from .http import LONGEST_BODY, Headers, Reply, Request, every, first
 from .payload import parameters_in
 from .policies import Verdict, WrongPolicy, verdict_of
 from .settings import Integration
 from .tokens import WrongToken, as_texts, claims_of, scopes_of
 
 MOST_RESULT = 8 << 10  # bytes of what a function answers (API Gateway's quota)
-MOST_REPORT = 6 << 20  # bytes of a report of its failure
 MOST_KEPT = 1000  # answers, of all authorizers of an API
 
 
@@ -170,7 +169,7 @@ class Authorizers:
                           form.authorizer_failure_reply())
         has_failed = first(headers, "x-amz-function-error") is not None
         try:
-            value = read_json(result, longest=MOST_REPORT if has_failed else MOST_RESULT)
+            value = read_json(result, longest=LONGEST_BODY if has_failed else MOST_RESULT)
         except NotJson as fault:
             raise Refused(f"the answer of its authorizer {name}: {fault}", form.authorizer_failure_reply()) from None
         if has_failed and isinstance(value, dict) and value.get("errorMessage") == "Unauthorized":

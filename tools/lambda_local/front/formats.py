@@ -6,7 +6,7 @@ from typing import Dict, List, Optional
 from ..configuration import Members
 from . import payload, rest_payload
 from .authorizers import Authorizer
-from .http import Reply, Request
+from .http import LONGEST_BODY, Reply, Request
 from .rest_payload import Tell
 from .settings import Integration
 
@@ -19,7 +19,7 @@ def message(status: int, text: str) -> Reply:
 
 class OfUrl:
     """A Function URL: payload format 2.0."""
-    longest = 6 << 20  # bytes of a body
+    longest = LONGEST_BODY
     replaces_cors = True  # whether a configuration's headers stand in place of the function's own
 
     def event(self, request: Request, body: bytes, context: Members, parameters: Optional[Dict[str, str]],

@@ -13,14 +13,12 @@ from .authorize import Asked, Authorizers, Refused
 from .client import Client
 from .events import Identifiers, target_of, trace_of
 from .formats import OfHttpApi, OfUrl, format_of, message
-from .http import NO_STAGE, Headers, Malformed, Reply, Request, TooLong, first
+from .http import LONGEST_BODY, NO_STAGE, Headers, Malformed, Reply, Request, TooLong, first
 from .payload import Unmappable
 from .rest_payload import Tell
 from .routes import Routes
 from .settings import BALANCER, Address, Integration, Target
 from .wire import Gone
-
-MOST_BODY = 6 << 20  # bytes of the event that is made of a request
 
 
 class Backend(NamedTuple):
@@ -80,8 +78,8 @@ class Gateway:
             self.say(backend, request, "500, the service broke its connection off")
             return message(500, "Internal Server Error")
         event = backend.format.event(request, body, context, backend.parameters, tell)
-        if len(event) > MOST_BODY:
-            return self.too_large(backend, request, "the event made of it", MOST_BODY)
+        if len(event) > LONGEST_BODY:
+            return self.too_large(backend, request, "the event made of it", LONGEST_BODY)
         try:
             return await self.answer(request, backend, trace_of(request.headers), event, tell)
         except (Gone, Malformed):

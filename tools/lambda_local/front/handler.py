@@ -19,7 +19,7 @@ from .client import Client, NoDescriptor, ServiceWire
 from .descriptors import MOST
 from .errors import of_service
 from .handed import LONGEST_LINE, Handed, NotHanded, handed_of
-from .http import OF_CONNECTION, Answer, Pieces, Reply, Request, TooLong, first
+from .http import LONGEST_BODY, OF_CONNECTION, Answer, Pieces, Reply, Request, TooLong, first
 from .tasks import begin_task
 from .wire import Gone
 
@@ -27,13 +27,12 @@ REQUESTS = "/_local/requests/"
 HERE = "/_local/handler"  # no route of the service: it has one while a handler is here, which answers it
 SPARE = 4  # connections that ask while nothing is to be done
 MOST_HELD = 64 << 20  # bytes of bodies; each connection that asks may get one more
-LONGEST = LONGEST_LINE + (6 << 20)  # bytes of a request, with its line
+LONGEST = LONGEST_LINE + LONGEST_BODY  # bytes of a request, with its line
 PIECE = 128 << 10  # bytes of a body that are given to the system at once
 SHORT, FEW = 16 << 10, 64  # bytes and fields of an answer that the service takes in any case
 MOST_SENT = 256 << 10  # bytes of a connection that the system holds for the service
 MOST_UNREAD = 256 << 20  # bytes of answers; beyond these, those of which nothing is taken for SLOW_SECONDS break off
 SLOW_SECONDS, BETWEEN_LOOKS = 2.0, 1.0
-LONGEST_POST = 6 << 20  # bytes of an answer whose length is known
 PAUSE = 0.1  # seconds, until a connection that has broken is made again
 BETWEEN_TELLS = 60.0  # seconds, of the same shortage
 BEGIN_SECONDS = 20.0  # until the service knows the handler
@@ -354,7 +353,7 @@ class Handler:
 def length_said(reply: Reply) -> Optional[int]:
     """The length that the service has said of a body which is passed on, if it may be posted with it."""
     said = first(reply.headers, "content-length")
-    return int(said) if said is not None and said.isdigit() and int(said) <= LONGEST_POST else None
+    return int(said) if said is not None and said.isdigit() and int(said) <= LONGEST_BODY else None
 
 
 def message_in(said: bytes) -> str:

@@ -6,11 +6,12 @@ from typing import AsyncIterator, List, NamedTuple, Optional, Protocol
 from ..http1 import TOKEN, Data, Headers, Malformed, Request as Head, every, first
 from .wire import Wire
 
-__all__ = ["OF_CONNECTION", "PHRASES", "TOKEN", "Answer", "Body", "Headers", "Malformed", "Reply", "Request", "TooLong",
-           "every", "first"]
+__all__ = ["LONGEST_BODY", "OF_CONNECTION", "PHRASES", "TOKEN", "Answer", "Body", "Headers", "Malformed", "Reply",
+           "Request", "TooLong", "every", "first"]
 
 # Of one connection alone (RFC 9110, section 7.6.1)
 OF_CONNECTION = {"connection", "keep-alive", "proxy-connection", "te", "trailer", "transfer-encoding", "upgrade"}
+LONGEST_BODY = 6 << 20  # bytes that the service takes, as Lambda does
 PHRASES = {**{status.value: status.phrase for status in http.HTTPStatus}, 413: "Payload Too Large", 414: "URI Too Long"}
 
 

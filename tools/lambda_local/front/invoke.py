@@ -13,7 +13,7 @@ from ..service import AGAIN
 from .client import Client
 from .errors import NO_ROUTE, NOT_FOUND, WRONG_TYPE, of_json, of_user, stop_reply, throttle_reply
 from .events import TYPE, Event, Identifiers, function_of, refuse, trace_of
-from .http import Reply, Request, TooLong, first
+from .http import LONGEST_BODY, Reply, Request, TooLong, first
 from .names import unknown
 from .outbox import Outbox
 from .queue import Full, Queue
@@ -21,7 +21,6 @@ from .settings import Settings
 from .tail import LOG_TYPE, Tails, with_tail
 
 MOST_PAYLOAD = 1 << 20  # bytes of an event (Developer Guide, "Lambda quotas")
-LONGEST = 6 << 20  # bytes of any other
 MOST_TARGETS = 1000  # that are remembered
 SYNCHRONOUS = (None, "RequestResponse")
 TROUBLE = "/_local/trouble"
@@ -70,7 +69,7 @@ class InvokePort:
     async def ask(self, request: Request) -> Reply:
         """What the service answers to a synchronous invocation."""
         is_again = first(request.headers, AGAIN.lower()) is not None
-        payload = request.body(LONGEST)
+        payload = request.body(LONGEST_BODY)
         status, headers, body = await self.client.ask("POST", request.target, trace_of(request.headers), payload,
                                                       is_again)
         return Reply(status, [(name, value) for name, value in headers if name.lower() in OF_ANSWER], body)

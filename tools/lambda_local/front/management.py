@@ -16,8 +16,8 @@ from .aliases import Aliases
 from .client import Client
 from .errors import WRONG_TYPE, of_service, of_user, refusal
 from .events import TYPE, function_of, target_of, trace_of
-from .http import Malformed, Reply, Request, first
-from .invoke import LONGEST, SYNCHRONOUS, InvokePort
+from .http import LONGEST_BODY, Malformed, Reply, Request, first
+from .invoke import SYNCHRONOUS, InvokePort
 from .operations import HERE, OF_API, OperationCall, operation_of, sentence
 from .settings import Address, Settings
 from .wire import Gone
@@ -83,7 +83,7 @@ class Management:
             return Reply(204, [("x-amzn-requestid", identifier)])
         if kind not in SYNCHRONOUS:
             return WRONG_TYPE
-        payload = request.body(LONGEST)
+        payload = request.body(LONGEST_BODY)
         return await response_stream.invoke_with_response_stream(self.client, self.streams, target,
                                                                  trace_of(request.headers), payload)
 

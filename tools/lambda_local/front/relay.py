@@ -8,12 +8,11 @@ from .aliases import Aliases
 from .client import Client
 from .errors import of_user
 from .events import TRACE, TYPE
-from .http import Answer, Headers, Reply, Request, first
+from .http import LONGEST_BODY, Answer, Headers, Reply, Request, first
 from .origins import FROM_PAGE, PAGE_ADVICE, is_from_page
 from .storm import Gate
 from .tail import LOG_TYPE
 
-LONGEST = 6 << 20  # bytes of a body that the service hands over
 LONGEST_PATH = 160  # letters, in a line
 
 
@@ -40,7 +39,7 @@ class StormPort:
         request = self.aliases.without(given)
         client = self.beside if first(request.headers, LOG_TYPE) == "Tail" else self.client
         is_again = first(request.headers, AGAIN.lower()) is not None
-        payload = request.body(LONGEST)
+        payload = request.body(LONGEST_BODY)
         async with contextlib.AsyncExitStack() as stack:
             answer = await stack.enter_async_context(client.exchange(
                 request.method, request.target, headers_to_send(request.headers), len(payload), payload, is_again))
