@@ -131,8 +131,9 @@ class Bare(Measured):
                                           "_HANDLER": "echo.handler", "LAMBDA_TASK_ROOT": folder}) for one in ports]
 
     def start(self, words, folder, group, environ=None):
+        """In a session of its own, as `up` starts each: the system shares its processors out among sessions."""
         made = subprocess.Popen(words, cwd=folder, env=environ, stdin=subprocess.DEVNULL, stdout=self.said,
-                                stderr=self.said)
+                                stderr=self.said, start_new_session=True)
         self.started.append(made)
         self.processes[group].append(made.pid)
         return made
