@@ -1,12 +1,14 @@
 """Must-fail edits: how one is read, and whether it fits its crate. An edit is a file of lines `file: PATH` (below its
-crate), `old: TEXT` and `new: TEXT`, and, if the gate tries it, `gate: FUNCTION`: whose promise it breaks. A line
-`same: TEXT` gives it a twin, which has this text in place of the old one, means the same and must still be proved."""
+crate), `old: TEXT` and `new: TEXT`, and, if the gate tries it, `gate: FUNCTION`: whose promise it breaks. One outside
+the gate that changes something outside functions may have `at: FUNCTION` instead: without it, it is tried on its whole
+crate. A line `same: TEXT` gives it a twin, which has this text in place of the old one, means the same and must still
+be proved."""
 import glob
 import os
 import re
 from typing import Dict, List
 
-WORDS = re.compile(r"^(gate|file|old|new|same):(?: (.*))?$", re.M)
+WORDS = re.compile(r"^(gate|at|file|old|new|same):(?: (.*))?$", re.M)
 FOLDER = os.path.join("tests", "must_fail")
 TWIN = " same"  # behind the name of an edit, for its twin
 # The head of a function, and of a block of methods: the type alone, or the trait and the type.
@@ -43,6 +45,12 @@ def function_of(edit):
     return next((value.strip() for key, value in WORDS.findall(read(edit)) if key == "gate"), "")
 
 
+def place_of(edit: str) -> str:
+    """The function on which an edit outside the gate is tried that changes something outside functions, by its path
+    below its crate; nothing if it names none."""
+    return next((value.strip() for key, value in WORDS.findall(read(edit)) if key == "at"), "")
+
+
 def files_of(edit: str) -> List[str]:
     """The files that an edit changes, by their paths below its crate."""
     return [*dict.fromkeys(value.strip() for key, value in WORDS.findall(read(edit)) if key == "file")]
@@ -73,7 +81,9 @@ def bodies_of(edit: str, crate: str) -> Dict[str, str]:
 def _around(text, place):
     """The function around a place of a source, as the prover is told of it, and its text; nothing if there is none."""
     head = next((it for it in reversed([*HEAD.finditer(text, 0, text.find("\n", place))])), None)
-    if head is None or (end := text.find(f"\n{head[1]}}}\n", head.end())) < place:
+    # (the body of a law is empty)
+    last = head and re.compile(rf"^{head[1]}(?:\{{)?\}}$", re.M).search(text, head.end())
+    if head is None or last is None or (end := last.start() - 1) < place:
         return "", ""
     block = next((it for it in reversed([*BLOCK.finditer(text, 0, head.start())])), None) if head[1] else None
     is_of_trait = block and " for " in text[block.start():text.find("{", block.start())]

@@ -121,7 +121,7 @@ def check(root: str, crate: str, functions: Sequence[str], texts: Dict[str, str]
 def functions_of(root: str, name: str) -> List[str]:
     """The functions on which an edit or a twin is tried; none if it is on its whole crate."""
     path, crate = edits.path_of(root, name), f"{root}/crates/{name.split('/')[0]}"
-    function = edits.function_of(path)
+    function = edits.function_of(path) or edits.place_of(path)
     return [function] if function else edits.functions_of(path, crate)
 
 

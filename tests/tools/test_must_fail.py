@@ -100,6 +100,37 @@ class MustFail(Case):
             write(path, lines.encode())
             self.check(f"what does not fit: {words}", words in edits.misfit(path, crate))
 
+    def test_an_edit_is_tried_on_few_functions(self) -> None:
+        repository(self.root)
+        write(f"{self.root}/crates/a/src/lib.rt", b"""const MOST: u32 = 2;
+
+/// One.
+pub fn law()
+    ensures first { one }
+    ensures second { two }
+{}
+
+impl It {
+    fn method(&self) -> u32
+        ensures { result = 3 }
+    {
+        three
+    }
+}
+
+const LEAST: u32 = 1;
+""")
+        write(f"{self.root}/crates/a/specs/Words.antt", b"four\n")
+        for lines, wanted in (("file: src/lib.rt\nold: second { two }\nnew: 2\n", ["law"]),
+                              ("file: src/lib.rt\nold:     three\nnew: 3\n", ["It::method"]),
+                              ("file: src/lib.rt\nold: MOST: u32 = 2\nnew: MOST: u32 = 3\n", []),
+                              ("file: src/lib.rt\nold: LEAST: u32 = 1\nnew: LEAST: u32 = 0\n", []),
+                              ("file: specs/Words.antt\nold: four\nnew: 4\n", []),
+                              ("at: It::law\nfile: specs/Words.antt\nold: four\nnew: 4\n", ["It::law"]),
+                              ("gate: law\nfile: src/lib.rt\nold:     three\nnew: 3\n", ["law"])):
+            write(f"{self.root}/tests/must_fail/a/e.edit", lines.encode())
+            self.check(f"on {wanted}: {lines!r}", trials.functions_of(self.root, "a/e"), wanted)
+
     def test_an_edit_of_the_gate_has_a_twin_if_its_function_has_a_proof(self) -> None:
         repository(self.root)
         for crate, edit in (("a", EDIT), ("b", TWINNED), ("c", EDIT)):
