@@ -9,7 +9,7 @@ import shutil
 import subprocess
 
 from tests.library import edits, refusals, speeds
-from tests.library.gate_record import MARK, SCRATCH, line_of, with_costs
+from tests.library.gate_record import CRATES, MARK, SCRATCH, line_of, seconds_of, with_costs
 from tests.library.page_facts import pages_of, text_of
 from tests.library.refusals import git
 
@@ -87,6 +87,16 @@ def age_of_gate(root):
     return f"last passed from scratch at {age(root, commit)}: {line_of(record, 'gate')}, {cost}"
 
 
+def age_of_costs(root):
+    """When the CPU seconds of all crates were last recorded."""
+    record = text_of(root, CRATES)
+    if not record:
+        return f"there is no {CRATES} yet: tests/gate --keep writes it once the CPU seconds of all crates are known"
+    commit = line_of(record, "commit").removesuffix("-dirty")
+    found = f"{sum(seconds_of(record).values()) / 60:.0f} CPU minutes of all crates were recorded at"
+    return f"{found} {age(root, commit) if is_known(root, commit) else f'{commit}, which git does not know'}"
+
+
 def is_known(root, commit):
     return bool(git(root, "rev-parse", "--verify", "-q", f"{commit}^{{commit}}"))
 
@@ -161,8 +171,8 @@ def misnoted(root):
 
 
 def costs(root, text):
-    """The CPU seconds of crates on a page are those of the record of the last gate from scratch."""
-    if with_costs(text, text_of(root, SCRATCH)) != text:
+    """The CPU seconds of crates on a page are those of the tree's record."""
+    if with_costs(text, text_of(root, CRATES)) != text:
         yield f"the CPU seconds below {MARK.strip()} are not those of that record: tests/gate --keep writes them"
     if MARK not in text:
         yield f"has no line {MARK.strip()}"

@@ -3,58 +3,20 @@ import hashlib
 import os
 import re
 import subprocess
-import threading
 import time
-from typing import Dict, Iterator, List, Tuple
+from typing import Dict, Iterator, List
 
 from crate_list import uses
-from prover import TICKS, fields_of
 from tests.library import records, refusals
-from tests.library.up_kit import children
+from tests.library.crate_seconds import Costs
 
 PROGRAM = os.path.join("crates", "lambda_local", "out", "lambda_local")
 SCRATCH = os.path.join(".ci", "LAST_FROM_SCRATCH")
+CRATES = os.path.join(".ci", "CRATE_SECONDS")
+OF_CRATES = ("commit", "day", "kit", "processors", "crate_seconds", "earlier_crates")  # what that has of a record
 COSTS = os.path.join("docs", "proof_costs.md")
-MARK = f"<!-- of {SCRATCH} -->\n"
-NONE = "No gate from scratch has recorded them yet.\n"
-NAMED = re.compile(rb"--crate-name\0(\w+)\0")
-
-
-class CrateSeconds(threading.Thread):
-    """Follows how many CPU seconds the checker takes for each crate, by the processes that a command has started."""
-
-    def __init__(self, command: int) -> None:
-        super().__init__(daemon=True)
-        self.command, self.is_over = command, threading.Event()
-        self.seconds: Dict[Tuple[str, str], float] = {}  # by a process with its start, and by the crate
-
-    def run(self) -> None:
-        while not self.is_over.wait(0.3):
-            started = {str(it): crate_of(it) for it in children(self.command)}
-            for process, crate in started.items():
-                fields = fields_of(process)
-                # (a checker forks parts of itself, whose time it has once they have ended)
-                if crate and fields and not started.get(fields[1]):
-                    self.seconds[f"{process} {fields[19]}", crate] = sum(map(int, fields[11:15])) / TICKS
-
-    def end(self) -> Dict[str, float]:
-        """The seconds of each crate that was proved."""
-        self.is_over.set()
-        self.join()
-        found: Dict[str, float] = {}
-        for (_, crate), used in self.seconds.items():
-            found[crate] = found.get(crate, 0) + used
-        return found
-
-
-def crate_of(process: int) -> str:
-    """The crate that a process checks; nothing if it checks none, or has ended."""
-    try:
-        with open(f"/proc/{process}/cmdline", "rb") as file:
-            named = NAMED.search(file.read())
-    except OSError:
-        return ""
-    return named[1].decode() if named else ""
+MARK = f"<!-- of {CRATES} -->\n"
+NONE = "No gate has recorded those of all crates yet.\n"
 
 
 def told(root: str, words: List[str]) -> str:
@@ -71,7 +33,7 @@ def sha256_of(path: str) -> str:
         return ""
 
 
-def lines_of(root: str, minutes: float, cpu_minutes: float, crates: Dict[str, float], passed: int) -> Iterator[str]:
+def lines_of(root: str, minutes: float, cpu_minutes: float, costs: Costs, passed: int) -> Iterator[str]:
     """The record of a gate that passed."""
     yield f"commit {told(root, ['git', 'describe', '--always', '--exclude=*', '--dirty'])}"
     yield f"day {time.strftime('%Y-%m-%d', time.gmtime())}"
@@ -81,8 +43,10 @@ def lines_of(root: str, minutes: float, cpu_minutes: float, crates: Dict[str, fl
     yield f"processors {os.environ.get('RT_JOBS') or len(os.sched_getaffinity(0))}"
     yield f"minutes {minutes:.0f}"
     yield f"cpu_minutes {cpu_minutes:.0f}"
-    yield f"call_model_seconds {crates.get('call_model', 0):.0f}"
-    yield f"crate_seconds {', '.join(f'{it} {crates[it]:.0f}' for it in uses(root) if it in crates)}"
+    yield f"call_model_seconds {costs.seconds.get('call_model', 0)}"
+    yield f"crate_seconds {', '.join(f'{crate} {seconds}' for crate, seconds in costs.seconds.items())}"
+    if costs.earlier:
+        yield f"earlier_crates {', '.join(costs.earlier)}"
     yield f"gate {passed} passed, 0 failed"
 
 
@@ -95,11 +59,22 @@ def line_of(text: str, word: str) -> str:
     return "".join(re.findall(rf"^{word} (.*)$", text, re.M))
 
 
+def seconds_of(record: str) -> Dict[str, int]:
+    """The CPU seconds of each crate that a record has."""
+    pairs = (it.split(" ") for it in line_of(record, "crate_seconds").split(", ") if it)
+    return {crate: int(seconds) for crate, seconds in pairs}
+
+
 def costs_of(record: str) -> str:
-    """The CPU seconds of each crate as a page has them, the most expensive first; nothing if the record has none."""
-    pairs = [it.split(" ") for it in line_of(record, "crate_seconds").split(", ") if it]
-    ordered = sorted(pairs, key=lambda it: -int(it[1]))
-    return f"{', '.join(f'`{crate}` {seconds}' for crate, seconds in ordered)}\n" if pairs else ""
+    """The CPU seconds of each crate as a page has them, the most expensive first, with their sum, and what earlier runs
+    proved of it; nothing if the record has none."""
+    found, earlier = seconds_of(record), [it for it in line_of(record, "earlier_crates").split(", ") if it]
+    ordered = sorted(found, key=lambda it: -found[it])
+    whose = "all crates" if len(earlier) == len(found) else ", ".join(f"`{it}`" for it in earlier)
+    of_earlier = (f"; {sum(found[it] for it in earlier) / 60:.0f} of them in earlier runs on that machine, which "
+                  f"proved {whose}") if earlier else ""
+    return (f"{', '.join(f'`{it}` {found[it]}' for it in ordered)}: {sum(found.values()) / 60:.0f} CPU minutes in all, "
+            f"in the gate at {line_of(record, 'commit')}{of_earlier}.\n") if found else ""
 
 
 def with_costs(page: str, record: str) -> str:
@@ -110,18 +85,26 @@ def with_costs(page: str, record: str) -> str:
         costs or found[1] or NONE), page)
 
 
+def is_newer(root: str, record: str, own: str) -> bool:
+    """Whether a record is of a later commit than the tree's own, of those that HEAD continues."""
+    new, old = (refusals.place(root, line_of(it, "commit").replace("-dirty", "")) for it in (record, own))
+    return new > old
+
+
 def keep_in_tree(root: str, folder: str) -> Iterator[str]:
     """Brings into the tree what gates have left in a folder, if it is newer; tells what it changed."""
-    if not any(os.path.exists(os.path.join(folder, it)) for it in ("FROM_SCRATCH", "REFUSED")):
+    if not any(os.path.exists(os.path.join(folder, it)) for it in ("GATE", "FROM_SCRATCH", "REFUSED")):
         raise ValueError(f"no gate has left anything in {folder}")
-    there = records.text_of(os.path.join(folder, "FROM_SCRATCH"))
-    own = records.text_of(os.path.join(root, SCRATCH))
-    new, old = (refusals.place(root, line_of(it, "commit").replace("-dirty", "")) for it in (there, own))
-    if new > old or new == old != 0 and not line_of(own, "program"):
-        records.write(os.path.join(root, SCRATCH), there)
+    scratch, gate = (records.text_of(os.path.join(folder, it)) for it in ("FROM_SCRATCH", "GATE"))
+    if is_newer(root, scratch, records.text_of(os.path.join(root, SCRATCH))):
+        records.write(os.path.join(root, SCRATCH), scratch)
+        yield f"{SCRATCH}: the gate at {line_of(scratch, 'commit')}"
+    if {*seconds_of(gate)} == {*uses(root)} and is_newer(root, gate, records.text_of(os.path.join(root, CRATES))):
+        costs = "".join(f"{it} {line_of(gate, it)}\n" for it in OF_CRATES if line_of(gate, it))
+        records.write(os.path.join(root, CRATES), costs)
         page = records.text_of(os.path.join(root, COSTS))
-        records.write(os.path.join(root, COSTS), with_costs(page, there))
-        yield f"{SCRATCH} and {COSTS}: the gate at {line_of(there, 'commit')}"
+        records.write(os.path.join(root, COSTS), with_costs(page, costs))
+        yield f"{CRATES} and {COSTS}: the gate at {line_of(gate, 'commit')}"
     before = refusals.read(os.path.join(root, refusals.NOTED))
     after = refusals.known(root, os.path.join(folder, "REFUSED"))
     if before != after:

@@ -72,6 +72,7 @@ LIES: Dict[str, Tuple[str, str, str, str]] = {
     "front_handler": ("what_is_none", OF_TOOLS + "front/handed.py", "and is_field_value(value)", ""),
     "fuzz": ("any_report FUZZ_HOURS=0.02", OF_TOOLS + "outgoing.py", "return UNSAFE.sub(_escaped, text)",
              "return text"),
+    "gate_record": ("what_a_run_proves", "tests/library/crate_seconds.py", "if it not in self.proved]", "if True]"),
     "handled_ports": ("read_in_two_ways", OF_TOOLS + "front/handler.py", "if handed.port == self.service and handed",
                       "if handed"),
     "handler_streams": ("many_streams", OF_TOOLS + "http1/chunks.py", "parts.append(text[start:start + size])",

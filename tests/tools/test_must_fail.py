@@ -5,8 +5,6 @@ import importlib.machinery
 import importlib.util
 import io
 import os
-import subprocess
-import sys
 import tempfile
 import unittest
 from typing import Dict, List
@@ -196,29 +194,6 @@ const LEAST: u32 = 1;
             [*gate_record.keep_in_tree(self.root, self.room)]
         self.check("a folder without records", str(caught.exception), f"no gate has left anything in {self.room}")
 
-    def test_the_last_gate_from_scratch_comes_into_the_tree(self) -> None:
-        repository(self.root)
-        here = os.path.join(self.room, "state", "lambda_local", "FROM_SCRATCH")
-        first = head(self.root)
-        write(f"{self.root}/{gate_record.COSTS}", f"# Costs\n{gate_record.MARK}\nmore\n".encode())
-        second = change(self.root, gate_record.SCRATCH, f"commit {first}\ngate 1 passed, 0 failed\n")
-        for at, wanted in ((second, True), (first, False), ("0123456789", False)):
-            record = f"commit {at}\nprogram 1\ncrate_seconds a 5, b 620\ngate 2 passed, 0 failed\n"
-            write(here, record.encode())
-            told = [*gate_record.keep_in_tree(self.root, os.path.dirname(here))]
-            self.check(f"a record of {at} is kept", [it.endswith(f"the gate at {at}") for it in told],
-                       [True] if wanted else [])
-        self.check("the newest stands there", gate_record.line_of(self.text(gate_record.SCRATCH), "commit"), second)
-        self.check("with the costs", self.text(gate_record.COSTS),
-                   f"# Costs\n{gate_record.MARK}`b` 620, `a` 5\n\nmore\n")
-        self.check("which a page may not tell otherwise",
-                   [len([*evidence.costs(self.root, self.text(gate_record.COSTS).replace("620", figure))])
-                    for figure in ("620", "610")], [0, 1])
-
-    def text(self, path: str) -> str:
-        with open(os.path.join(self.root, path), encoding="utf-8") as file:
-            return file.read()
-
     def test_what_a_gate_tries_beside_its_own(self) -> None:
         loader = importlib.machinery.SourceFileLoader("gate_of_edits", os.path.join(ROOT, "tests", "must_fail", "gate"))
         spec = importlib.util.spec_from_loader("gate_of_edits", loader)
@@ -251,26 +226,6 @@ const LEAST: u32 = 1;
         self.check("nothing is known", refusals.known(self.root), {})
         refusals.note("a/e", head(self.root), 1)
         self.check("and it is written anew", [*refusals.known(self.root)], ["a/e"])
-
-    def test_costs_of_crates(self) -> None:
-        busy = "import os, time\nit = os.fork()\nwhile time.process_time() < 0.5: pass\nit and os.wait()\ntime.sleep(1)"
-        ran = subprocess.Popen(["sh", "-c", '"$@" & wait', "sh", sys.executable, "-c", busy, "--crate-name", "b"],
-                               stderr=subprocess.DEVNULL)
-        followed = gate_record.CrateSeconds(ran.pid)
-        followed.start()
-        ran.wait()
-        seconds = followed.end()
-        self.check("the CPU seconds of what a command starts", [*seconds] == ["b"] and 0.8 < seconds["b"] < 2,
-                   shown=seconds)
-        record = "commit 1\ncrate_seconds a 5, b 620, c 30\ngate 1 passed, 0 failed\n"
-        page = f"# Costs\n{gate_record.MARK}`a` 1\n\nmore\n"
-        self.check("the page has the most expensive first", gate_record.with_costs(page, record),
-                   f"# Costs\n{gate_record.MARK}`b` 620, `c` 30, `a` 5\n\nmore\n")
-        self.check("and stays without them", gate_record.with_costs(page, "commit 1\n"), page)
-        bare = f"# Costs\n{gate_record.MARK}\nmore\n"
-        none = gate_record.with_costs(bare, "commit 1\n")
-        self.check("one that has none says so", none, f"# Costs\n{gate_record.MARK}{gate_record.NONE}\nmore\n")
-        self.check("until there are some", gate_record.with_costs(none, record), gate_record.with_costs(bare, record))
 
 
 if __name__ == "__main__":
