@@ -15,8 +15,8 @@ from tests.library.refusals import git
 
 MEASURED = re.compile(r"^<!-- measured at ([0-9a-f]{7,40}) -->$", re.M)
 SOURCES = ("src", "specs", "proofs")
-# Commits that changed sources of crates, after which for a release the edits are tried again, and figures measured:
-# that takes a machine that does little else.
+# For a release, an edit is tried again after so many commits that changed what it stands on, and figures are measured
+# after so many that changed sources of crates: that takes a machine that does little else.
 OLDEST, OLDEST_FIGURES = 30, 100
 
 
