@@ -1,5 +1,9 @@
 """Checks what a gate keeps of a run: the CPU seconds of each crate, and which of them earlier runs proved; and what of
 that comes into the tree. In small repositories, with commands in place of the prover."""
+import contextlib
+import importlib.machinery
+import importlib.util
+import io
 import os
 import signal
 import subprocess
@@ -113,6 +117,32 @@ class GateRecord(Case):
         for words in (["arn_ids"], ["--anew"], ["--anew", "arn_ids", "script"]):
             ran = self.gate(*words)
             self.check(f"{words}", (ran.stdout, ran.returncode), (f"ci {' '.join(words)}\n", 0))
+
+    def test_a_gate_keeps_what_its_proofs_cost(self) -> None:
+        loader = importlib.machinery.SourceFileLoader("gate", os.path.join(ROOT, "tests", "gate"))
+        spec = importlib.util.spec_from_loader("gate", loader)
+        assert spec
+        gate = importlib.util.module_from_spec(spec)
+        loader.exec_module(gate)
+        crate_seconds.note({f"arn_ids {crate_seconds.sum_of(ROOT, 'arn_ids')}": 7})
+        self.addCleanup(signal.signal, signal.SIGTERM, signal.getsignal(signal.SIGTERM))
+        for ended, whole, status in (("3 passed, 0 failed", "8 passed, 0 failed", 0),
+                                     ("no more", "5 passed, 1 failed", 1),
+                                     ("2 passed, 1 failed", "7 passed, 1 failed", 1)):
+            proofs = ["sh", "-c", f'"$@"; echo "rt: script proved"; echo {ended}', "sh", *PROVES, "script"]
+            printed = io.StringIO()
+            with mock.patch.multiple(gate, PROOFS=proofs, PARTS=(proofs, ["echo", "5 passed, 0 failed"])), \
+                    mock.patch.object(gate_record, "told", lambda *_: ""), mock.patch.object(sys, "argv", ["gate"]), \
+                    contextlib.redirect_stdout(printed):
+                ran = gate.main()
+            said = printed.getvalue()
+            self.check(f"{ended}: the parts together", (said.splitlines()[-1], ran), (whole, status), shown=said)
+        seconds = crate_seconds.read()[f"script {crate_seconds.sum_of(ROOT, 'script')}"]
+        record = records.text_of(os.path.join(records.folder(), "GATE"))
+        self.check("its record", [gate_record.line_of(record, it) for it in ("crate_seconds", "earlier_crates")],
+                   [f"arn_ids 7, script {seconds}", "arn_ids"])
+        self.check("which is of no gate from scratch",
+                   os.path.exists(os.path.join(records.folder(), "FROM_SCRATCH")), False)
 
     def test_what_a_record_says(self) -> None:
         self.repository()
