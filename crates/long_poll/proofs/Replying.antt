@@ -13,17 +13,16 @@ use Rattle.lambda_wire.specs.declared.reply.Reply.{Reply}
 use Rattle.long_poll.specs.Exchanges.{IsReply, anchored, service_of}
 use Rattle.long_poll.specs.Moments.{moment_of}
 use Rattle.long_poll.specs.Reads.{Renders}
-use Rattle.long_poll.specs.Replies.{IsReplyAt}
+use Rattle.long_poll.specs.Replies.{IsBeginning, IsReplyAt}
 use Rattle.long_poll.specs.declared.service.bell.OneShotBell.{OneShotBell}
 use Rattle.long_poll.specs.declared.service.clock.Clock as Clock
 use Rattle.long_poll.specs.declared.exchange.connection.Connection.{Connection}
 use Rattle.long_poll.specs.declared.service.Service as Service
-use Rattle.shared_history.specs.Sharing.{Extends}
 use Rattle.usage_ledger.specs.Tallies.{Held}
 use Rattle.usage_ledger.specs.declared.keep.Keep as Keep
 
 -- what goes on with what goes on does too
-further : (h seen then : List Entry) → Extends h seen → Extends seen then → Extends h then
+further : (h seen then : List Entry) → IsBeginning h seen → IsBeginning seen then → IsBeginning h then
 further h seen then p q =
     (q.0 ++ p.0, q.1 ∙ (ap (λ (k : List Entry). q.0 ++ k) p.1 ∙ sym (append_assoc q.0 p.0 h)))
 
@@ -46,7 +45,7 @@ module _ {R S D N K L T : Type 0} {service : Service.Ghosts S K L T} {decider : 
     (seen then : List Entry)
     → IsTaken config most had now call ticket seen → Sees config most seen then → ticket < length then)
     (later : (config : Config) (most : ℕ) (had : List Entry) (now : ℕ) (call : Call) (ticket : ℕ)
-    (seen : List Entry) → IsTaken config most had now call ticket seen → Extends had seen)
+    (seen : List Entry) → IsTaken config most had now call ticket seen → IsBeginning had seen)
     (fresh : (config : Config) (most : ℕ) (had : List Entry) (now : ℕ) (call : Call) (ticket : ℕ)
     (seen : List Entry) → IsTaken config most had now call ticket seen → length had ≤ ticket)
     (stands : (config : Config) (most : ℕ) (had : List Entry) (now : ℕ) (call : Call) (ticket : ℕ)

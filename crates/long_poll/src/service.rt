@@ -129,11 +129,7 @@ pub trait Service<K: Keep>: Drop {
         ensures { (result ≡ token.old) × (token.new ≡ token.old) };
 
     /// Returns a token that has seen what an anchor is at.
-    fn from_anchor<R: Wait>(
-        &self,
-        rt: &R,
-        anchor: &Anchor<Self::Ledgers>,
-    ) -> Token<Self::Ledgers>
+    fn from_anchor<R: Wait>(&self, rt: &R, anchor: &Anchor<Self::Ledgers>) -> Token<Self::Ledgers>
         ensures { result ≡ anchor.now };
 
     /// Returns another token, which has seen as much.

@@ -355,7 +355,16 @@ impl<
         let open = Arc::try_clone(&self.open)?;
         let beat = Arc::try_clone(&self.shared.beat)?;
         let token = self.token();
-        let body = TraceBody::new(self.rt, self.alloc(), service, token, open, beat, place, query)?;
+        let body = TraceBody::new(
+            self.rt,
+            self.alloc(),
+            service,
+            token,
+            open,
+            beat,
+            place,
+            query,
+        )?;
         Box::new(self.alloc(), body).map_err(AllocError::from)
     }
 

@@ -1,5 +1,6 @@
 //! An account is a service.
 
+ghost use Rattle.std.specs.Prelude.{IfOk};
 ghost use Rattle.long_poll.specs.Reads.{Looks, Renders, Tells, Opens, Counts, Reserves};
 ghost use Rattle.long_poll.specs.Reads.{Begins, Closes, Lists, Passes, Traces};
 ghost use Rattle.long_poll.specs.Submits.{Submits};
@@ -116,7 +117,9 @@ impl<S: Identity + Drop, K: Keep> Service<K> for Account<S, OneShotBell> {
         rt: &R,
         alloc: Global,
         token: Token<S>,
-    ) -> Result<Trail<S>, AllocError> {
+    ) -> Result<Trail<S>, AllocError>
+        ensures { IfOk result (Begins S.config S.most token) }
+    {
         Account::trail(self, rt, alloc, token)
     }
 
