@@ -112,12 +112,7 @@ impl<S: Identity + Drop, K: Keep> Service<K> for Account<S, OneShotBell> {
         Account::history(self, rt, token, ticket)
     }
 
-    fn trail<R: Wait>(
-        &self,
-        rt: &R,
-        alloc: Global,
-        token: Token<S>,
-    ) -> Result<Trail<S>, AllocError>
+    fn trail<R: Wait>(&self, rt: &R, alloc: Global, token: Token<S>) -> Result<Trail<S>, AllocError>
         ensures { IfOk result (Begins S.config S.most token) }
     {
         Account::trail(self, rt, alloc, token)
