@@ -44,9 +44,10 @@ impl<
             None,
             self,
         );
+        let seen = self.put_back(token);
         match came {
             Ok((_ticket, taken)) => Ok(taken),
-            Err(refused) => Err((refused, token)),
+            Err(refused) => Err((refused, seen)),
         }
     }
 
@@ -58,7 +59,7 @@ impl<
     {
         let _setting = self.shared.beat.setting.lock(&self.rt);
         let Some(face) = self.clock().advance(by) else {
-            return Ok((past_reply(self.alloc())?, self.token()));
+            return Ok((past_reply(self.alloc())?, self.another_token()));
         };
         match self.tick(face.now) {
             Ok(taken) => Ok((clock_reply(self.alloc(), face)?, taken)),
@@ -93,7 +94,7 @@ impl<
     fn show_clock(&self, face: ClockFace) -> Result<(Reply, Token<S::Ledgers>), AllocError>
         ensures { IfOk result (λ replied. replied.0 ≡ shows face.now face.is_running) }
     {
-        Ok((clock_reply(self.alloc(), face)?, self.token()))
+        Ok((clock_reply(self.alloc(), face)?, self.another_token()))
     }
 
     /// Does what is asked of the clock, and returns the reply, with a token of the history that the Tick of an advance

@@ -1,6 +1,7 @@
 //! An account is a service.
 
-ghost use Rattle.std.specs.Prelude.{IfOk};
+ghost use Rattle.std.specs.Prelude.{[]};
+ghost use Rattle.account_lock.specs.Shown.{Sees};
 ghost use Rattle.long_poll.specs.Reads.{Looks, Renders, Tells, Opens, Counts, Reserves};
 ghost use Rattle.long_poll.specs.Reads.{Begins, Closes, Lists, Passes, Traces};
 ghost use Rattle.long_poll.specs.Submits.{Submits};
@@ -13,7 +14,7 @@ use lambda_wire::Reply;
 use script::Draft;
 use std::alloc::{AllocError, Global};
 use std::sync::Wait;
-use usage_ledger::{Anchor, Keep, Tally, Token};
+use usage_ledger::{Keep, Tally, Token};
 
 // A submit returns a token that has seen the history that the call made. What is read with this token is
 // of a history that extends that one.
@@ -25,6 +26,8 @@ impl<S: Identity + Drop, K: Keep> Service<K> for Account<S, OneShotBell> {
     ghost serves = { λ _. S.config };
 
     ghost submits = { λ _. Submits S.config S.most K.notes K.makes };
+
+    ghost shows = { λ _. Sees S.config S.most [] };
 
     ghost looks = { λ _. Looks S.config S.most };
 
@@ -74,12 +77,8 @@ impl<S: Identity + Drop, K: Keep> Service<K> for Account<S, OneShotBell> {
         Account::submit_unless_premature(self, rt, tally, token, now, call, bell, ringer)
     }
 
-    fn anchor(&self, token: &mut Token<S>) -> Anchor<S> {
-        Account::anchor(self, token)
-    }
-
-    fn from_anchor<R: Wait>(&self, rt: &R, anchor: &Anchor<S>) -> Token<S> {
-        Account::from_anchor(self, rt, anchor)
+    fn token<R: Wait>(&self, rt: &R) -> Token<S> {
+        Account::token(self, rt)
     }
 
     fn again(&self, token: &mut Token<S>) -> Token<S> {
@@ -112,10 +111,8 @@ impl<S: Identity + Drop, K: Keep> Service<K> for Account<S, OneShotBell> {
         Account::history(self, rt, token, ticket)
     }
 
-    fn trail<R: Wait>(&self, rt: &R, alloc: Global, token: Token<S>) -> Result<Trail<S>, AllocError>
-        ensures { IfOk result (Begins S.config S.most token) }
-    {
-        Account::trail(self, rt, alloc, token)
+    fn trail<R: Wait>(&self, rt: &R, alloc: Global) -> Result<Trail<S>, AllocError> {
+        Account::trail(self, rt, alloc)
     }
 
     fn trace<R: Wait>(
