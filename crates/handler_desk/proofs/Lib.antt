@@ -1,3 +1,0 @@
-mod Claiming
-mod Waiting
-mod Seating

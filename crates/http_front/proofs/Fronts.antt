@@ -14,7 +14,6 @@ use Rattle.http_front.specs.Sent.{SentBody}
 use Rattle.http_connection.specs.Written.{Gave}
 use Rattle.http_front.specs.Courses.{IsExchangeOf, Takes, TakesItself}
 use Rattle.http_front.specs.Exchanged.{ComesTo, IsAnswer, IsOwnAnswer}
-use Rattle.http_front.specs.HandedStages.{IsAnswerAt}
 use Rattle.http_front.specs.Handing.{IsHandedAnswer, IsHandlerAnswer}
 use Rattle.http_front.specs.Responses.{IsAnswerTo, IsRefusal}
 use Rattle.http_front.specs.declared.course.Course.{Course}
@@ -115,7 +114,7 @@ module _ {R S D N K L B P E T : Type 0} {service : Service.Ghosts S K L T} {deci
 
   abbrev Given : Course R S D N B K L T service decider keep → Result Answer X → Type 0
   Given (Own future) answer = GivenItself future answer
-  Given (Handed future) answer = IfOk answer (IsAnswerAt future.value.stage future.value.is_unread)
+  Given (Handed future) answer = IfOk answer (IsHandedAnswer future.value.is_unread)
   Given (OfHandler future) answer = IfOk answer (IsHandlerAnswer future.value.is_unread)
 
   -- of one that the service itself answers
@@ -132,7 +131,7 @@ module _ {R S D N K L B P E T : Type 0} {service : Service.Ghosts S K L T} {deci
       → Takes front head body future → Given future (Ok response) → IsAnswer clock yields has front head response
   of_any head body response (Own future) took gave = inl (of_own head body response future took gave)
   of_any head body response (Handed future) took gave =
-      inr (took.0, inl (took.1, subst (λ (unread : Bool). IsHandedAnswer unread response) took.2 (gave.0, gave.2)))
+      inr (took.0, inl (took.1, subst (λ (unread : Bool). IsHandedAnswer unread response) took.2 gave))
   of_any head body response (OfHandler future) took gave =
       inr (took.0, inr (took.1, took.2, subst (λ (unread : Bool). IsHandlerAnswer unread response) took.3 gave))
 

@@ -12,7 +12,6 @@ ghost use Rattle.arn_ids.specs.Limits.{longest_body};
 ghost use Rattle.std.specs.Arc.{arc_value};
 ghost use Rattle.http_header.specs.HeaderMap.{pairs};
 ghost use Rattle.json.specs.Print.{print};
-ghost use Rattle.handler_desk.specs.Desks.{IsPutAt};
 ghost use Rattle.handover.specs.Heads.{head_tokens};
 ghost use Rattle.http_front.specs.Handing as spec;
 ghost use Rattle.http_front.specs.Ports.{number_of};
@@ -137,8 +136,7 @@ impl<R: Wait + time::Clock + Drop> AtDesk<R> {
     /// # Errors
     /// If its body is too long, or as `Desk::put`.
     pub(crate) fn hand_over(&self, parts: &Parts, body: Bytes) -> Result<Put, HandedFault>
-        ensures too_long { nat_lt longest_body (length body) ≡ true → result ≡ Err HandedFault.TooLong }
-        ensures own { IfOk result (IsPutAt (arc_value self.now.desk)) }
+        ensures { nat_lt longest_body (length body) ≡ true → result ≡ Err HandedFault.TooLong }
     {
         if body.len() > LONGEST_BODY {
             return Err(HandedFault::TooLong);

@@ -1,13 +1,10 @@
 //! The response to a request that is handed over, as a future.
 
 ghost use Rattle.std.specs.Prelude.{◌≡◌, IfOk};
-ghost use Rattle.std.specs.Arc.{arc_value};
-ghost use Rattle.std.specs.Option.{ForSome};
 ghost use Rattle.futures.specs.Channel.{completed_source};
 ghost use Rattle.futures.specs.Poll.{IfReady, OnPending};
 ghost use Rattle.futures.specs.Task.{Covers, Keeps};
-ghost use Rattle.handler_desk.specs.Desks.{desk_of, IsPutAt};
-ghost use Rattle.http_front.specs.HandedStages.{CanGoOn, CanGive, Gave, Follows, put_of};
+ghost use Rattle.http_front.specs.HandedStages.{CanGoOn};
 
 use crate::at_desk::fault::HandedFault;
 use crate::at_desk::response::handed_response;
@@ -45,7 +42,6 @@ pub struct Handed<R, B, H> {
     is_unread: bool,
     stage: HandedStage<B>,
     of: PhantomData<H>,
-    ghost own: { ForSome (put_of stage) (IsPutAt (arc_value (arc_value at_desk).desk)) },
 }
 
 /// Returns what a handler posted for the request with this identifier.
@@ -66,7 +62,6 @@ fn posted_for(id: u64, given: Result<Given, Canceled>) -> Result<Posted, HandedF
 /// Waits for what a handler posts for a request that waits for one.
 fn poll_given(cx: &mut Context<'_>, put: &mut Put) -> Poll<Result<Posted, HandedFault>>
     ensures posted { IfReady result (λ given. IfOk given (λ posted. posted.id ≡ put.old.id)) }
-    ensures same { (put.new.id ≡ put.old.id) × (desk_of put.new ≡ desk_of put.old) }
     ensures registered { OnPending result (Covers cx.new (λ source. source ≡ completed_source put.new.given)) }
     ensures kept { Keeps cx.old cx.new }
 {
@@ -88,7 +83,6 @@ impl<R: Wait + time::Clock + Drop> AtDesk<R> {
         B::Data: Into<Bytes>,
         B::Error: BodyFault,
         requires { B.can_poll body.old.body }
-        ensures own { IfReady result (λ put. IfOk put (IsPutAt (arc_value self.now.desk))) }
         ensures again { OnPending result (B.can_poll body.new.body) }
         ensures registered { OnPending result (Covers cx.new (B.needs body.new.body)) }
         ensures kept { Keeps cx.old cx.new }
@@ -133,8 +127,6 @@ where
 
     /// Begins to wait for what a handler gives.
     fn await_given(&mut self, cx: &mut Context<'_>, put: Put) -> Poll<Result<Posted, HandedFault>>
-        requires { IsPutAt (arc_value (arc_value self.old.at_desk).desk) put }
-        ensures gave { IfReady result (Gave self.new.stage) }
         ensures again { OnPending result (CanGoOn B.can_poll self.new.stage) }
         ensures registered { OnPending result (Covers cx.new (WaitsFor B.needs self.new.stage)) }
         ensures kept { Keeps cx.old cx.new }
@@ -150,9 +142,6 @@ where
     /// Lets the request wait, and then waits for what a handler gives.
     fn poll_outcome(&mut self, cx: &mut Context<'_>) -> Poll<Result<Posted, HandedFault>>
         requires { CanGoOn B.can_poll self.old.stage }
-        ensures can { IfReady result (CanGive self.old.stage) }
-        ensures gave { IfReady result (Gave self.new.stage) }
-        ensures follows { Follows self.old.stage self.new.stage }
         ensures again { OnPending result (CanGoOn B.can_poll self.new.stage) }
         ensures registered { OnPending result (Covers cx.new (WaitsFor B.needs self.new.stage)) }
         ensures kept { Keeps cx.old cx.new }
@@ -179,7 +168,8 @@ where
     B::Error: BodyFault,
 {
     ghost use Rattle.std.specs.Prelude.{IfOk};
-    ghost use Rattle.http_front.specs.HandedStages.{WaitsFor, IsAnswerAt};
+    ghost use Rattle.http_front.specs.Handing.{IsHandedAnswer};
+    ghost use Rattle.http_front.specs.HandedStages.{WaitsFor};
 
     type Output = Result<Response<Either<SentBody, H>>, ResponseFault>;
 
@@ -187,7 +177,7 @@ where
 
     ghost needs = { λ handed. WaitsFor B.needs handed.stage };
 
-    ghost gives = { λ handed answer. IfOk answer (IsAnswerAt handed.stage handed.is_unread) };
+    ghost gives = { λ handed answer. IfOk answer (IsHandedAnswer handed.is_unread) };
 
     fn poll(&mut self, cx: &mut Context<'_>) -> Poll<Self::Output> {
         let outcome = ready!(self.poll_outcome(cx));
