@@ -21,7 +21,7 @@ use Rattle.http_front.specs.declared.course.Course.{Course}
 use Rattle.http_front.specs.declared.course.Course.TheVariants.{Own, Handed, OfHandler}
 use Rattle.http_front.specs.declared.front.Front.{Front}
 use Rattle.http_front.specs.declared.course.responding.Responding.{Responding}
-use Rattle.long_poll.specs.Exchanges.{service_of}
+use Rattle.long_poll.specs.Exchanges.{anchored, service_of}
 use Rattle.long_poll.specs.Lengths.{declares_too_long}
 use Rattle.long_poll.specs.Outcomes.{IsStreamOf}
 use Rattle.long_poll.specs.Stages.{GivesFrom}
@@ -61,14 +61,14 @@ module _ {R S D N K L B P E T : Type 0} {service : Service.Ghosts S K L T} {deci
       → Answers how
   of_exchange how exchange made is gives answer =
       let there : GivesFrom (arc_value front.connection) clock yields has
-      (IsStreamOf service (service_of (arc_value front.connection))) exchange.stage made
+      (IsStreamOf service (service_of (arc_value front.connection)) (anchored (arc_value front.connection))) exchange.stage made
       = subst (λ (c : Connection R S D N K L T service decider keep).
-      GivesFrom c clock yields has (IsStreamOf service (service_of c)) exchange.stage made) is.0 gives in (
+      GivesFrom c clock yields has (IsStreamOf service (service_of c) (anchored c)) exchange.stage made) is.0 gives in (
         made,
         (
           body,
           subst (λ (stage : Stage B L). GivesFrom (arc_value front.connection) clock yields has
-              (IsStreamOf service (service_of (arc_value front.connection))) stage made) is.1 there,
+              (IsStreamOf service (service_of (arc_value front.connection)) (anchored (arc_value front.connection))) stage made) is.1 there,
         ),
         answer,
       )

@@ -11,7 +11,7 @@ use Rattle.http_front.specs.Sent.{SentBody}
 use Rattle.http_front.specs.Handing.{IsGivenAtDesk}
 use Rattle.http_front.specs.Responses.{IsAnswerTo, IsRefusal}
 use Rattle.http_front.specs.declared.front.Front.{Front}
-use Rattle.long_poll.specs.Exchanges.{Exchanges, service_of}
+use Rattle.long_poll.specs.Exchanges.{Exchanges, anchored, service_of}
 use Rattle.long_poll.specs.Lengths.{declares_too_long}
 use Rattle.long_poll.specs.Outcomes.{IsStreamOf}
 use Rattle.long_poll.specs.declared.service.clock.Clock as Clock
@@ -31,7 +31,8 @@ module _ {R S D N K L B P E T : Type 0} {service : Service.Ghosts S K L T} {deci
   abbrev pub ComesTo : Result (Outcome (StreamedBody R S T K L) L) ExchangeFault → Type 0
   ComesTo made =
       (came : B) × Exchanges (arc_value front.connection) clock
-      (IsStreamOf service (service_of (arc_value front.connection))) has (yields came) head [] made
+      (IsStreamOf service (service_of (arc_value front.connection)) (anchored (arc_value front.connection))) has
+      (yields came) head [] made
 
   -- The response that the service itself gives to a request with this head. If the head is refused, it is that of the
   -- refusal. Otherwise it is that of its exchange, or of an allocation that failed.

@@ -189,6 +189,7 @@ impl<R: Machine, S: Identity + Drop, N: Clock + Drop, K: Keep> Worker<R, S, N, K
     fn serve_in_turn(&self, tools: &mut Tools<S>, first: Job<S>) -> bool {
         let mut job = first;
         for _ in self.rt.forever() {
+            tools.token = self.common.shared.service.token(&self.rt);
             let Ok(Ended { outcome: Ok(_), .. }) = self.serve(tools, job) else {
                 return false;
             };
@@ -203,7 +204,7 @@ impl<R: Machine, S: Identity + Drop, N: Clock + Drop, K: Keep> Worker<R, S, N, K
     /// Serves a connection, withdraws its open Next (Runtime API, Next invocation), and notes that the
     /// last step of a connection was made, and at the desk that it has ended.
     /// Returns its socket, and how it ended, if it ended by itself: each response that the socket took
-    /// answers its request at the connection's own port.
+    /// answers its request at the connection's own port, in a history that continues what the token had seen.
     ///
     /// # Errors
     /// If the connection cannot be served. Its socket is then closed, and nothing was written to it.
@@ -211,7 +212,7 @@ impl<R: Machine, S: Identity + Drop, N: Clock + Drop, K: Keep> Worker<R, S, N, K
         ensures { IsServed ⟦<Account<S, OneShotBell> as Service<K>>⟧ N.Clock
             ⟦<Either<SentBody, StreamedBody<R, Account<S, OneShotBell>, Trail<S>, K, S>> as Body>⟧.yields
             ⟦<Incoming<Wire> as Body>⟧.yields ⟦<Bytes as Into<Bytes>>⟧.converts
-            self.now.common job.served S.most (name_of_accepted job.pending.socket) result }
+            self.now.common job.served S.most tools.old.token (name_of_accepted job.pending.socket) result }
     {
         let Ok(open) = Arc::new(self.rt.alloc(), OpenPoll::new()) else {
             return Err(job.close());
@@ -262,7 +263,7 @@ impl<R: Machine, S: Identity + Drop, N: Clock + Drop, K: Keep> Worker<R, S, N, K
         ensures { IsServed ⟦<Account<S, OneShotBell> as Service<K>>⟧ N.Clock
             ⟦<Either<SentBody, StreamedBody<R, Account<S, OneShotBell>, Trail<S>, K, S>> as Body>⟧.yields
             ⟦<Incoming<Wire> as Body>⟧.yields ⟦<Bytes as Into<Bytes>>⟧.converts
-            self.now.common job.served S.most (name_of_accepted job.pending.socket) result }
+            self.now.common job.served S.most tools.old.token (name_of_accepted job.pending.socket) result }
     {
         let Job { pending, served } = job;
         let PendingConnection {
@@ -324,6 +325,7 @@ impl<
             arc_value (arc_value front.connection).shared ≡ arc_value self.now.common.shared) }
         ensures decided { IfOk result (λ front. arc_value (arc_value front.connection).decider ≡ served) }
         ensures handed { IfOk result (λ front. arc_value (arc_value front.at_desk).side ≡ served) }
+        ensures anchored { IfOk result (λ front. (arc_value front.connection).anchor ≡ token) }
         ensures named { IfOk result (λ front. (served.config ≡ S.config) × (served.salt ≡ S.salt)) }
     {
         let alloc = self.rt.alloc();
@@ -401,6 +403,7 @@ impl<
         ensures shared { IfOk result (λ connection.
             arc_value (arc_value connection).shared ≡ arc_value self.now.common.shared) }
         ensures decider { IfOk result (λ connection. (arc_value connection).decider ≡ decider) }
+        ensures anchored { IfOk result (λ connection. (arc_value connection).anchor ≡ token) }
     {
         let shared = Arc::try_clone(&self.common.shared)?;
         let tally = Arc::try_clone(&self.post.tally)?;

@@ -4,11 +4,13 @@
 //! no bytes: a step of theirs is a plain load of that word.
 #![tactic(auto)]
 
+mod anchor;
 mod pen;
 mod spine;
 mod token;
 mod view;
 
+pub use anchor::Anchor;
 pub use pen::{Pen, Source};
 pub use spine::{Naming, Opened, Spine};
 pub use token::Token;

@@ -7,12 +7,11 @@ returns-in-Ok-clause-attempt g c =
       record {
         reading = at.0;
         read = at.1;
-        had = _;
         before = _;
         then = _;
         after = _;
         bell = c.args.bell;
-        came = rw (c.service.ensures, at.2) at c.in-Ok.ensures;
+        came = rw (c.service.ensures, c.token-token.ensures, at.2) at c.in-Ok.ensures;
       },
       refl,
     )
@@ -23,13 +22,12 @@ returns-clause-attempt g c =
       record {
         reading = at.0;
         read = at.1;
-        had = _;
         before = _;
         then = _;
         after = _;
         bell = c.args.bell;
-        came = rw (c.service.ensures, at.2) at c.in-Err.ensures;
+        came = rw (c.service.ensures, c.token-token.ensures, at.2) at c.in-Err.ensures;
       },
       refl,
-      c.put_back-seen.ensures,
+      refl,
     )
