@@ -25,10 +25,11 @@ impl<S: Identity, B: Bell> Account<S, B> {
         &self,
         rt: &impl Wait,
         alloc: Global,
-        token: Token<S>,
+        token: &mut Token<S>,
     ) -> Result<Trail<S>, AllocError>
-        ensures { IfOk result (λ trail. (trail.next ≡ 0) × Sees S.config S.most token trail.seen) }
+        ensures { IfOk result (λ trail. (trail.next ≡ 0) × Sees S.config S.most token.old trail.seen) }
     {
+        let token = token.again(&self.spine);
         self.locked.lock(rt).trail(&self.spine, alloc, token)
     }
 

@@ -170,9 +170,9 @@ pub trait Service<K: Keep>: Drop {
         &self,
         rt: &R,
         alloc: Global,
-        token: Token<Self::Ledgers>,
+        token: &mut Token<Self::Ledgers>,
     ) -> Result<Self::Trail, AllocError>
-        ensures { IfOk result (begins self.now token) };
+        ensures { IfOk result (begins self.now token.old) };
 
     /// Returns the line of the trace for the entry that comes next on a trail, which passes the entry; `None` past
     /// the end. The only error is `AllocError`.

@@ -1,6 +1,5 @@
 //! An account is a service.
 
-ghost use Rattle.std.specs.Prelude.{IfOk};
 ghost use Rattle.long_poll.specs.Reads.{Looks, Renders, Tells, Opens, Counts, Reserves};
 ghost use Rattle.long_poll.specs.Reads.{Begins, Closes, Lists, Passes, Traces};
 ghost use Rattle.long_poll.specs.Submits.{Submits};
@@ -112,9 +111,12 @@ impl<S: Identity + Drop, K: Keep> Service<K> for Account<S, OneShotBell> {
         Account::history(self, rt, token, ticket)
     }
 
-    fn trail<R: Wait>(&self, rt: &R, alloc: Global, token: Token<S>) -> Result<Trail<S>, AllocError>
-        ensures { IfOk result (Begins S.config S.most token) }
-    {
+    fn trail<R: Wait>(
+        &self,
+        rt: &R,
+        alloc: Global,
+        token: &mut Token<S>,
+    ) -> Result<Trail<S>, AllocError> {
         Account::trail(self, rt, alloc, token)
     }
 

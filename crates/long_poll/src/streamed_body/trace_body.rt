@@ -121,7 +121,7 @@ impl<R: Wait + Drop, S: Service<K, Ledgers = L, Trail = T>, T: Drop, K: Keep, L:
         rt: R,
         alloc: Global,
         service: Arc<S>,
-        token: Token<L>,
+        mut token: Token<L>,
         open: Arc<OpenPoll>,
         beat: Arc<Beat>,
         place: Option<FollowerPlace>,
@@ -129,7 +129,7 @@ impl<R: Wait + Drop, S: Service<K, Ledgers = L, Trail = T>, T: Drop, K: Keep, L:
     ) -> Result<TraceBody<R, S, T, K, L>, AllocError>
         ensures { IfOk result (IsTraceFrom S.Service (arc_value service) token query) }
     {
-        let trail = service.trail(&rt, alloc, token)?;
+        let trail = service.trail(&rt, alloc, &mut token)?;
         Ok(TraceBody {
             rt,
             service,

@@ -16,8 +16,8 @@ returns-in-Ok-clause-attempt g c =
       refl,
     )
 
-pub returns-clause-attempt : goal.returns-clause-attempt
-returns-clause-attempt g c =
+pub returns-in-Err-clause-attempt : goal.returns-in-Err-clause-attempt
+returns-in-Err-clause-attempt g c =
     let at = rw c.clock.ensures at c.moment-now.ensures.read in (
       record {
         reading = at.0;

@@ -1,8 +1,8 @@
 use Rattle.std.proofs.Common.{refl}
 use Rattle.long_poll.proofs.exchange.connection.Connection.tick.Goals as goal
 
-pub returns : goal.returns
-returns g c = (
+pub returns-in-Err : goal.returns-in-Err
+returns-in-Err g c = (
   record {
     before = _;
     then = _;
