@@ -39,7 +39,7 @@ use script::Draft;
 use std::alloc::{AllocError, Global};
 use std::marker::Brand;
 use std::sync::{Arc, Mutex, Wait};
-use usage_ledger::{Blanks, Keep, Ledgers, Pen, Spine, Start, Tally, Token, root};
+use usage_ledger::{Anchor, Blanks, Keep, Ledgers, Pen, Spine, Start, Tally, Token, root};
 
 /// Names an account's ledgers, history, configuration, salt and limit in its type, so that callers know
 /// them without taking the lock.
@@ -243,7 +243,7 @@ impl<S: Identity, B: Bell> Account<S, B> {
         }
     }
 
-    /// Returns a token that has seen the history as it is.
+    /// Returns a token of the account's history. The contract does not say how much it has seen.
     pub fn token(&self, rt: &impl Wait) -> Token<S>
         ensures { Sees S.config S.most [] result }
     {
@@ -255,6 +255,21 @@ impl<S: Identity, B: Bell> Account<S, B> {
         ensures { (result ≡ token.old) × (token.new ≡ token.old) }
     {
         token.again(&self.spine)
+    }
+
+    /// Returns an anchor at what a token has seen. It takes no lock.
+    pub fn anchor(&self, token: &mut Token<S>) -> Anchor<S>
+        ensures { (result ≡ token.old) × (token.new ≡ token.old) }
+    {
+        Anchor::new(&self.spine, token)
+    }
+
+    /// Returns a token that has seen what an anchor is at. It takes no lock of the account's, and waits while another
+    /// thread is in such a call with the same anchor.
+    pub fn from_anchor(&self, rt: &impl Wait, anchor: &Anchor<S>) -> Token<S>
+        ensures { result ≡ anchor.now }
+    {
+        anchor.token(rt, &self.spine)
     }
 
     /// States that of what two tokens have seen, one is a beginning of the other: the account has one

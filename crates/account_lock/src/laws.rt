@@ -1,7 +1,7 @@
 //! Laws of settling an account and of seeing a call that was taken. The functions do nothing; their
 //! clauses are the laws.
 
-ghost use Rattle.std.specs.Prelude.{◌≡◌, ◌<◌, ◌^◌, ℕ, Bool, List, [], ◌∷◌, length};
+ghost use Rattle.std.specs.Prelude.{◌≡◌, ◌<◌, ◌≤◌, ◌^◌, ℕ, Bool, List, [], ◌∷◌, length};
 ghost use Rattle.arn_ids.specs.declared.config.Config.{Config};
 ghost use Rattle.call_types.specs.declared.call.Call.{Call};
 ghost use Rattle.call_types.specs.declared.call.Entry.{Entry};
@@ -9,6 +9,7 @@ ghost use Rattle.call_model.specs.History.{call_of};
 ghost use Rattle.usage_ledger.specs.Counts.{no_counts};
 ghost use Rattle.usage_ledger.specs.Tallies.{Tallied, fresh};
 ghost use Rattle.account_book.specs.Reached.{IsReached};
+ghost use Rattle.shared_history.specs.Sharing.{Extends};
 ghost use Rattle.account_lock.specs.Counting.{counts_of};
 ghost use Rattle.account_lock.specs.Gathered.{counts_in};
 ghost use Rattle.account_lock.specs.declared.settle.fault.SettleFault.{SettleFault};
@@ -33,7 +34,8 @@ pub fn counted_nothing()
         IsReached config most h → tally.held ≡ fresh (2 ^ 32) → counts_in (tally ∷ []) ≡ counts_of h → h ≡ [] }
 {}
 
-/// A caller that submitted a call and then sees the history finds the call there, at its ticket.
+/// A caller that submitted a call and then sees the history finds the call there, at its ticket. The history that the
+/// call made continues the one that the caller had seen, and the ticket is not in that one.
 pub fn stands_where_it_was_taken()
     ensures there { (config : Config) (most : ℕ) (had : List Entry) (now : ℕ) (call : Call) (ticket : ℕ)
         (seen then : List Entry) →
@@ -41,4 +43,8 @@ pub fn stands_where_it_was_taken()
     ensures same { (config : Config) (most : ℕ) (had : List Entry) (now : ℕ) (call : Call) (ticket : ℕ)
         (seen then : List Entry) →
         IsTaken config most had now call ticket seen → Sees config most seen then → call_of then ticket ≡ call }
+    ensures later { (config : Config) (most : ℕ) (had : List Entry) (now : ℕ) (call : Call) (ticket : ℕ)
+        (seen : List Entry) → IsTaken config most had now call ticket seen → Extends had seen }
+    ensures fresh { (config : Config) (most : ℕ) (had : List Entry) (now : ℕ) (call : Call) (ticket : ℕ)
+        (seen : List Entry) → IsTaken config most had now call ticket seen → length had ≤ ticket }
 {}

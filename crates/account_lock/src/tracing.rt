@@ -3,7 +3,7 @@
 mod environments;
 mod trail;
 
-ghost use Rattle.std.specs.Prelude.{◌≡◌, [], true, is_some, IfOk, OnErr};
+ghost use Rattle.std.specs.Prelude.{◌≡◌, true, is_some, IfOk, OnErr};
 ghost use Rattle.account_book.specs.Books.{life};
 ghost use Rattle.account_lock.specs.Shown.{Sees};
 ghost use Rattle.account_lock.specs.Trails.{GoesOn, IsLineOf, is_off};
@@ -14,15 +14,23 @@ use script::Draft;
 use std::alloc::{AllocError, Global};
 use std::sync::Wait;
 pub use trail::Trail;
+use usage_ledger::Token;
 
 impl<S: Identity, B: Bell> Account<S, B> {
-    /// Returns a trail of the account's trace, which has followed no entry of the history as it is.
+    /// Returns a trail of the account's trace, which has followed no entry of the history as it is. This history
+    /// continues what the token has seen.
     ///
     /// It fails only if an allocation fails.
-    pub fn trail(&self, rt: &impl Wait, alloc: Global) -> Result<Trail<S>, AllocError>
-        ensures { IfOk result (λ trail. (trail.next ≡ 0) × Sees S.config S.most [] trail.seen) }
+    pub fn trail(
+        &self,
+        rt: &impl Wait,
+        alloc: Global,
+        token: &mut Token<S>,
+    ) -> Result<Trail<S>, AllocError>
+        ensures { IfOk result (λ trail. (trail.next ≡ 0) × Sees S.config S.most token.old trail.seen) }
     {
-        self.locked.lock(rt).trail(&self.spine, alloc)
+        let token = token.again(&self.spine);
+        self.locked.lock(rt).trail(&self.spine, alloc, token)
     }
 
     /// Returns the trace's line of the entry that comes next on a trail, in the history as it is, which the

@@ -1,5 +1,5 @@
 -- What contracts see of places, where one of them changes, or is looked for.
-use Rattle.std.proofs.Common.{◌≡◌, ◌<◌, ◌+◌, ℕ, Bool, List, [], ◌∷◌, Option, Some, None, length, map, refl, sym, ap, subst, ◌∙◌, cond, get_or, set}
+use Rattle.std.proofs.Common.{◌≡◌, ◌<◌, ℕ, List, Option, Some, None, length, map, refl, sym, ap, subst, ◌∙◌, get_or, set}
 use Rattle.std.proofs.Math.Seq.{map-set_same}
 use Rattle.std.specs.List.{position, position_from}
 use Rattle.std.proofs.lemmas.Iterator.Adapters.{position_from-zero}
@@ -26,16 +26,17 @@ becomes change most slots at slot was before within is value seen d =
     ap (λ ps. record { most = most; places = ps }) (changed change slots at slot was d within (is ∙ ap (λ s. change (standing s)) value))
     ∙ ap (λ (p : Places). record { most = p.most; places = set p.places at (change (get_or p.places at d)) }) seen
 
--- the first one of some kind is at the same place
-from_seen : {Y V : Type 0} (p : Standing → Bool) (i : ℕ) (slots : List (Slot Y V))
-    → position_from (λ slot. p (standing slot)) i slots ≡ position_from p i (map standing slots)
-from_seen p i [] = refl
-from_seen p i (slot ∷ slots) = ap (λ found. cond (p (standing slot)) (Some i) found) (from_seen p (i + 1) slots)
+-- the place that is taken next, if these are left, of which the first one has number n, and `first` is the first free
+-- one before them; none of those is free and has a thread
+abbrev pub next_free_from : Option ℕ → ℕ → List Standing → Option ℕ
+next_free_from first n places =
+    option_or (position_from is_free_with_thread n places) (option_or first (position_from is_free n places))
 
-pub position_seen : {Y V : Type 0} (p : Standing → Bool) (slots : List (Slot Y V))
-    → position (λ slot. p (standing slot)) slots ≡ position p (map standing slots)
-position_seen p slots =
-    position_from-zero (λ slot. p (standing slot)) slots ∙ from_seen p 0 slots ∙ sym (position_from-zero p (map standing slots))
+-- at first all are left
+pub from_zero : (places : List Standing) → next_free places ≡ next_free_from None 0 places
+from_zero places =
+    ap (λ found. option_or found (position is_free places)) (position_from-zero is_free_with_thread places)
+    ∙ ap (option_or (position_from is_free_with_thread 0 places)) (position_from-zero is_free places)
 
 -- the place that is taken next is one of them
 below : (places : List Standing) (at : ℕ) → next_free places ≡ Some at → at < length places
@@ -45,10 +46,8 @@ below places at is = go (position is_free_with_thread places) refl is
     go (Some n) first is = (position-Some is_free_with_thread places at added (first ∙ is)).0
     go None none is = (position-Some is_free places at added is).0
 
-pub below_seen : {Y V : Type 0} (most : ℕ) (slots : List (Slot Y V)) (seen : Places) (at : ℕ)
-    → record { most = most; places = map standing slots } ≡ seen → next_free seen.places ≡ Some at → at < length slots
-below_seen most slots seen at is found =
-    subst (λ n. at < n) (length-map slots standing) (below (map standing slots) at (ap (λ (p : Places). next_free p.places) is ∙ found))
+pub below_seen : {Y V : Type 0} (slots : List (Slot Y V)) (at : ℕ) → next_free (map standing slots) ≡ Some at → at < length slots
+below_seen slots at found = subst (λ n. at < n) (length-map slots standing) (below (map standing slots) at found)
 
 -- a place that is seen as it was
 pub same : {Y V : Type 0} (most : ℕ) (slots : List (Slot Y V)) (at : ℕ) (slot was : Slot Y V) (before : Places)

@@ -1,6 +1,6 @@
 //! Places for the open connections, up to a limit.
 
-ghost use Rattle.std.specs.Prelude.{◌≡◌, ◌+◌, ◌<◌, ◌++◌, ◌∷◌, [], length, map, nat_lt, position, vec_len};
+ghost use Rattle.std.specs.Prelude.{◌≡◌, ◌+◌, ◌<◌, ◌++◌, ◌∷◌, [], length, map, nat_lt, vec_len};
 ghost use Rattle.std.specs.Prelude.{IfOk, IfErr, IfSome, MatchOption};
 ghost use Rattle.std.specs.List.{list_all};
 ghost use Rattle.connection_places.specs.Places.{Becomes, Either, Places, SomeBecome, next_free, is_free, is_free_with_thread};
@@ -182,18 +182,20 @@ impl<Y, V: Drop> Slot<Y, V> {
     }
 }
 
-/// Returns the first free place that has a thread.
-fn first_free_with_thread<Y, V: Drop>(slots: &[Slot<Y, V>]) -> Option<usize>
-    ensures { result ≡ position (λ slot. is_free_with_thread (standing slot)) slots.now }
+/// Returns the first free place that has a thread, which may be waiting; or otherwise the first free one.
+fn next_free<Y, V: Drop>(slots: &[Slot<Y, V>]) -> Option<usize>
+    ensures { result ≡ next_free (map standing slots.now) }
 {
-    slots.iter().position(|slot| slot.is_free_with_thread())
-}
-
-/// Returns the first free place.
-fn first_free<Y, V: Drop>(slots: &[Slot<Y, V>]) -> Option<usize>
-    ensures { result ≡ position (λ slot. is_free (standing slot)) slots.now }
-{
-    slots.iter().position(|slot| slot.is_free())
+    let mut first = None;
+    for (at, slot) in slots.iter().enumerate() {
+        if slot.is_free_with_thread() {
+            return Some(at);
+        }
+        if first.is_none() && slot.is_free() {
+            first = Some(at);
+        }
+    }
+    first
 }
 
 /// Returns whether each place is free.
@@ -253,21 +255,13 @@ impl<Y: Drop, V: Drop> Slots<Y, V> {
         })
     }
 
-    /// Returns the first free place that has a thread, which may be waiting; or otherwise the first free one.
-    fn next_free(&self) -> Option<usize>
-        ensures { result ≡ next_free self.now.places }
-    {
-        let slots = self.slots.as_slice();
-        first_free_with_thread(slots).or(first_free(slots))
-    }
-
     /// Takes a free place, which no connection has: the first one with a thread, or otherwise the first. Returns `None`
     /// exactly if none is free.
     pub fn take(&mut self) -> Option<usize>
         ensures place { result ≡ next_free self.old.places }
         ensures taken { MatchOption result (self.new ≡ self.old) (λ at. Becomes taken at self.old self.new) }
     {
-        let at = self.next_free()?;
+        let at = next_free(self.slots.as_slice())?;
         self.slots[at].take();
         Some(at)
     }

@@ -1,7 +1,13 @@
 //! The desk at which requesters and handlers meet, which the threads of all connections share.
 
+ghost use Rattle.std.specs.Prelude.{◌≡◌, IfOk, IfSome};
+ghost use Rattle.std.specs.List.{Contains};
+ghost use Rattle.handler_desk.specs.Desks.{IsPutAt};
+
+use crate::claims::Claims;
 use crate::posted::{Given, Posted};
-use crate::state::{NotPut, Put, State};
+use crate::put::Put;
+use crate::state::{NotPut, State, Waits};
 use futures::channel::oneshot::{Receiver, Sender};
 use handover::{NotTaken, Request};
 use std::alloc::{AllocError, Global};
@@ -40,18 +46,21 @@ pub struct Desk {
     is_watched: AtomicBool,
     // From when the moments of handlers are counted; none if the clock failed, and then all are 0.
     start: Option<Instant>,
+    // Whose each identifier is.
+    claims: Claims,
     state: Mutex<State>,
 }
 
 impl Desk {
-    /// Makes a desk at which no handler has been. It allocates nothing.
-    pub fn new(rt: &impl Clock, alloc: Global) -> Desk {
-        Desk {
+    /// Makes a desk at which no handler has been. It fails only if an allocation fails.
+    pub fn new(rt: &impl Clock, alloc: Global) -> Result<Desk, AllocError> {
+        Ok(Desk {
             came: AtomicU64::new(0),
             is_watched: AtomicBool::new(false),
             start: Instant::now(rt).ok(),
+            claims: Claims::new(alloc)?,
             state: Mutex::new(State::new(alloc)),
-        }
+        })
     }
 
     /// Returns the present moment, in milliseconds.
@@ -85,7 +94,9 @@ impl Desk {
     ///
     /// # Errors
     /// If no handler is here, if too many requests wait or are at handlers, or if an allocation fails.
-    pub fn put<R: Wait + Clock>(&self, rt: &R, request: Request) -> Result<Put, NotPut> {
+    pub fn put<R: Wait + Clock>(&self, rt: &R, request: Request) -> Result<Put, NotPut>
+        ensures own { IfOk result (IsPutAt self.now) }
+    {
         let now = self.now(rt);
         let (put, bells) = self.put_at(rt, now, request);
         ring(bells);
@@ -98,17 +109,52 @@ impl Desk {
         rt: &impl Wait,
         now: u64,
         request: Request,
-    ) -> (Result<Put, NotPut>, Vec<Sender<()>>) {
+    ) -> (Result<Put, NotPut>, Vec<Sender<()>>)
+        ensures own { IfOk result.0 (IsPutAt self.now) }
+    {
         let mut state = self.state.lock(rt);
         if state.is_full(request.bytes()) {
             state.make_room();
         }
-        let put = state.put(now, request);
+        let put = match state.put(now, request) {
+            Ok(waits) => self.claimed(&mut state, waits),
+            Err(fault) => Err(fault),
+        };
         (put, state.take_bells())
     }
 
+    /// Claims the identifier of a request that waits. It is the one that comes next, since identifiers are given under
+    /// the lock alone; if it were not, the request would not wait.
+    fn claimed(&self, state: &mut State, waits: Waits) -> Result<Put, NotPut>
+        ensures own { IfOk result (IsPutAt self.now) }
+        ensures same { IfOk result (λ put. (put.id ≡ waits.id) × (put.given ≡ waits.given)) }
+    {
+        let Waits { id, given } = waits;
+        match self.claims.claim(id) {
+            Some(claim) => Ok(Put { id, given, claim }),
+            None => {
+                state.withdraw(id);
+                Err(NotPut::TooMany)
+            }
+        }
+    }
+
+    /// Shows that two requests that were put at this desk have different identifiers. It changes nothing.
+    pub fn differ(&self, one: &mut Put, other: &mut Put)
+        requires one { IsPutAt self.now one.old }
+        requires other { IsPutAt self.now other.old }
+        ensures differ { one.old.id ≡ other.old.id → ⊥ }
+        ensures ids { (one.new.id ≡ one.old.id) × (other.new.id ≡ other.old.id) }
+        ensures given { (one.new.given ≡ one.old.given) × (other.new.given ≡ other.old.given) }
+        ensures desk { IsPutAt self.now one.new × IsPutAt self.now other.new }
+    {
+        self.claims.differ(&mut one.claim, &mut other.claim);
+    }
+
     /// Takes the first request for whose answer someone waits.
-    fn first(state: &mut State, handler: u64) -> Result<Option<(u64, Request)>, AllocError> {
+    fn first(state: &mut State, handler: u64) -> Result<Option<(u64, Request)>, AllocError>
+        ensures waited { IfOk result (λ taken. IfSome taken (Contains state.old.requests.waiting)) }
+    {
         for _ in 0..MOST_PASSED_OVER {
             let Some((id, request)) = state.take(handler)? else {
                 return Ok(None);

@@ -2,9 +2,11 @@
 #![tactic(auto)]
 
 mod asked;
+mod claims;
 mod desk;
 mod pipe;
 mod posted;
+mod put;
 mod state;
 
 pub use asked::{Asked, is_of_handler, read_asked};
@@ -12,4 +14,5 @@ pub use desk::{Desk, Taken};
 pub use handover::{AnswerFault, NotTaken, Request};
 pub use pipe::{PipeFault, PipeReceiver, PipeSender, open_pipe};
 pub use posted::{Given, Posted};
-pub use state::{NotPut, Put};
+pub use put::Put;
+pub use state::NotPut;

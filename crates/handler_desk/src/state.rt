@@ -1,15 +1,13 @@
 //! The requests that wait for a handler, those that handlers have taken, and whether a handler is here.
 
 ghost use Rattle.std.specs.Prelude.{◌≡◌, ◌&&◌, not, true, false, IfOk, OnOk, IfErr, OnErr, MatchResult, None, Some};
-ghost use Rattle.std.specs.Prelude.{[], is_some, option_map, IsSomeAnd};
-ghost use Rattle.std.specs.BTreeMap.{is_at};
-ghost use Rattle.std.specs.Map.{lookup};
-ghost use Rattle.std.specs.Ordering.{nat_cmp};
-ghost use Rattle.futures.specs.Channel.{canceled_source, completed_source};
+ghost use Rattle.std.specs.Prelude.{ℕ, [], is_some};
 ghost use Rattle.handover.specs.Counters.{bytes_of, opened, refusal, first_of, with_request, taken_by, given_up, answered};
 ghost use Rattle.handover.specs.Counters.{withdrawn, without_handler};
 ghost use Rattle.handover.specs.Stages.{stage, denial};
 ghost use Rattle.handover.specs.Presence.{with_handler, ended_at, is_attended};
+ghost use Rattle.handler_desk.specs.Seats.{seat_of, sender_of, is_at_handler, without_seats_of};
+ghost use Rattle.handler_desk.specs.Seats.{LeadsTo, KeepsOthers, Vacates, OnlyLoses};
 ghost use Rattle.handler_desk.specs.States.{limits, grace, IsRefused};
 ghost use Rattle.handler_desk.specs.declared.state.NotPut.TheVariants.{OutOfMemory};
 
@@ -36,6 +34,18 @@ pub(crate) struct Seat {
     handler: Option<u64>,
 }
 
+impl Seat {
+    /// Returns whether this handler has taken the request.
+    fn is_at(&self, handler: u64) -> bool
+        ensures { result ≡ is_at_handler handler self.now.handler }
+    {
+        match self.handler {
+            Some(other) => other == handler,
+            None => false,
+        }
+    }
+}
+
 /// Why a request does not wait for a handler.
 #[derive(Clone, Copy, Debug, PartialEq, Eq)]
 pub enum NotPut {
@@ -55,14 +65,11 @@ impl From<AllocError> for NotPut {
     }
 }
 
-/// A request that waits for a handler: its identifier, and what will be given for it. That is never, if the sender is
-/// dropped: once its handler has ended, or no handler comes back.
+/// The identifier of a request that waits for a handler, and what will be given for it.
 #[derive(Drop)]
-pub struct Put {
-    /// The identifier.
-    pub id: u64,
-    /// What will be given.
-    pub given: Receiver<Given>,
+pub(crate) struct Waits {
+    pub(crate) id: u64,
+    pub(crate) given: Receiver<Given>,
 }
 
 /// What is kept behind the lock.
@@ -121,10 +128,12 @@ impl State {
     /// # Errors
     /// If none is, if there is no room, or if memory is refused, in this order. What waits, and what handlers have taken, is
     /// then as it was.
-    pub(crate) fn put(&mut self, now: u64, request: Request) -> Result<Put, NotPut>
+    pub(crate) fn put(&mut self, now: u64, request: Request) -> Result<Waits, NotPut>
         ensures attended { OnOk result ((not self.old.is_over && is_attended now self.old.attendance) ≡ true) }
-        ensures id { IfOk result (λ put. put.id ≡ self.old.requests.next_id) }
+        ensures id { IfOk result (λ waits. waits.id ≡ self.old.requests.next_id) }
         ensures waits { OnOk result (self.new.requests ≡ with_request request self.old.requests) }
+        ensures seat { IfOk result (λ waits. LeadsTo waits.given (seat_of waits.id self.new.seats.entries)) }
+        ensures others { IfOk result (λ waits. KeepsOthers waits.id self.old.seats.entries self.new.seats.entries) }
         ensures refused { IfErr result (IsRefused (not self.old.is_over && is_attended now self.old.attendance)
             (refusal (bytes_of request) self.old.requests)) }
         ensures same { OnErr result (self.new.requests ≡ self.old.requests) }
@@ -146,7 +155,7 @@ impl State {
             return Err(NotPut::OutOfMemory);
         }
         match self.requests.put(request) {
-            Ok(id) => Ok(Put { id, given }),
+            Ok(id) => Ok(Waits { id, given }),
             Err(_refused) => {
                 let _ = self.seats.remove(&id);
                 Err(NotPut::OutOfMemory)
@@ -162,6 +171,7 @@ impl State {
         ensures here { OnOk result (self.new.attendance ≡ with_handler handler self.old.attendance) }
         ensures same { OnErr result (self.new.attendance ≡ self.old.attendance) }
         ensures requests { self.new.requests ≡ self.old.requests }
+        ensures seats { self.new.seats.entries ≡ self.old.seats.entries }
     {
         self.attendance.asked(handler)
     }
@@ -174,6 +184,7 @@ impl State {
         ensures first { IfOk result (λ taken. taken ≡ first_of self.old.requests.waiting) }
         ensures state { OnOk result (self.new.requests ≡ taken_by handler self.old.requests) }
         ensures same { OnErr result (self.new.requests ≡ self.old.requests) }
+        ensures senders { (id : ℕ) → sender_of id self.new.seats.entries ≡ sender_of id self.old.seats.entries }
     {
         let taken = self.requests.take(handler)?;
         if let Some((id, _)) = &taken
@@ -194,7 +205,8 @@ impl State {
 
     /// Removes a request for whose answer no one waits.
     pub(crate) fn withdraw(&mut self, id: u64)
-        ensures { self.new.requests ≡ withdrawn id self.old.requests }
+        ensures requests { self.new.requests ≡ withdrawn id self.old.requests }
+        ensures seats { Vacates id self.old.seats.entries self.new.seats.entries }
     {
         let _ = self.requests.requester_ended(id);
         let _ = self.seats.remove(&id);
@@ -212,7 +224,9 @@ impl State {
 
     /// Removes the requests for whose answers no one waits, so that they take no one's room: those that wait, and those
     /// at handlers that do not answer. It visits all, so it is for when there is no room.
-    pub(crate) fn make_room(&mut self) {
+    pub(crate) fn make_room(&mut self)
+        ensures { OnlyLoses self.old.seats.entries self.new.seats.entries }
+    {
         for _ in 0..LIMITS.most {
             match self.forsaken() {
                 Some(id) => self.withdraw(id),
@@ -241,8 +255,9 @@ impl State {
             (λ e. denial handler (stage id self.old.requests) ≡ Some e) }
         ensures state { OnOk result (self.new.requests ≡ answered id self.old.requests) }
         ensures same { OnErr result (self.new.requests ≡ self.old.requests) }
-        ensures sender { IfOk result (λ sender.
-            sender ≡ option_map (λ seat. seat.sender) (lookup (is_at (nat_cmp id)) self.old.seats.entries)) }
+        ensures sender { IfOk result (λ sender. sender ≡ sender_of id self.old.seats.entries) }
+        ensures over { OnOk result (Vacates id self.old.seats.entries self.new.seats.entries) }
+        ensures unanswered { OnErr result (self.new.seats.entries ≡ self.old.seats.entries) }
     {
         if let Err(fault) = self.requests.answer(id, handler) {
             return Err(fault);
@@ -257,14 +272,17 @@ impl State {
     pub(crate) fn ended(&mut self, handler: u64, now: u64)
         ensures attendance { self.new.attendance ≡ ended_at handler now self.old.attendance }
         ensures failed { self.new.requests ≡ without_handler handler self.old.requests }
+        ensures seats { self.new.seats.entries ≡ without_seats_of handler self.old.seats.entries }
     {
         self.attendance.ended(handler, now);
-        self.seats.retain(|_, seat| seat.handler != Some(handler));
+        self.seats.retain(|_, seat| !seat.is_at(handler));
         self.requests.end_handler(handler);
     }
 
     /// Gives up all requests that wait.
-    pub(crate) fn give_up(&mut self) {
+    pub(crate) fn give_up(&mut self)
+        ensures { OnlyLoses self.old.seats.entries self.new.seats.entries }
+    {
         for _ in 0..LIMITS.most {
             match self.requests.give_up() {
                 Some((id, _)) => {
@@ -276,17 +294,21 @@ impl State {
     }
 
     /// Notes that the service is over: no request waits, and what handlers have taken has failed.
-    pub(crate) fn end(&mut self) {
+    pub(crate) fn end(&mut self)
+        ensures { self.new.seats.entries ≡ [] }
+    {
         self.is_over = true;
         self.give_up();
-        self.seats.retain(|_, _| false);
+        self.seats.clear();
     }
 
     /// Returns a future that is ready after the next request has come. The bells of handlers that are gone are dropped.
     ///
     /// # Errors
     /// If an allocation fails.
-    pub(crate) fn listen(&mut self) -> Result<Receiver<()>, AllocError> {
+    pub(crate) fn listen(&mut self) -> Result<Receiver<()>, AllocError>
+        ensures { self.new.seats.entries ≡ self.old.seats.entries }
+    {
         let (bell, heard) = channel(self.alloc)?;
         self.bells.retain(|bell| !bell.is_canceled());
         self.bells.push(bell).map_err(AllocError::from)?;
@@ -294,7 +316,9 @@ impl State {
     }
 
     /// Takes out the bells of all handlers that wait.
-    pub(crate) fn take_bells(&mut self) -> Vec<Sender<()>> {
+    pub(crate) fn take_bells(&mut self) -> Vec<Sender<()>>
+        ensures { self.new.seats.entries ≡ self.old.seats.entries }
+    {
         mem::replace(&mut self.bells, Vec::new(self.alloc))
     }
 }

@@ -44,9 +44,9 @@ pub fn refuses()
         → told ≡ stats config h }
 {}
 
-/// What a response is not held to by being of *some* history that calls led to, which is all that the contract of a
-/// connection says of it: there is one in which an Invoke has whatever output, and one in which a Next gets whatever
-/// payload.
+/// What a response is not held to by being of *some* history that calls led to: there is one in which an Invoke has
+/// whatever output, and one in which a Next gets whatever payload. (The contract of a connection says beside that which
+/// beginning of the account's own history it continues; the histories here continue nothing.)
 pub fn any_output()
     ensures output { (body : List ℕ) → IsSent body → (h : List Entry) × HasOutput body h }
     ensures payload { (body : List ℕ) → IsSent body → (h : List Entry) × HasPayload body h }

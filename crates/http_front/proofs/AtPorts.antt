@@ -21,15 +21,17 @@ use Rattle.http.specs.declared.response.Response.{Response}
 use Rattle.http_body.specs.declared.frame.Frame.{Frame}
 use Rattle.http_body_util.specs.declared.either.Either.{Either}
 use Rattle.http_front.specs.Sent.{SentBody}
+use Rattle.http_front.specs.Answered as Answered
 use Rattle.http_front.specs.Answered.{IsReplyTo, IsOutcomeOf, IsDecided, IsItsOwn, IsAnswerAt, IsTicked}
 use Rattle.http_front.specs.Exchanged.{ComesTo, IsAnswer, IsOwnAnswer}
-use Rattle.http_front.specs.Handing.{IsGivenAtDesk}
+use Rattle.http_front.specs.Handing.{IsGivenAtDesk, IsWayOf}
 use Rattle.http_front.specs.Responses.{IsAnswerTo, IsRefusal}
+use Rattle.http_front.specs.declared.at_desk.Way.TheVariants.{Own}
 use Rattle.http_front.specs.declared.front.Front.{Front}
 use Rattle.http_routes.specs.Decisions.{Served, decision}
 use Rattle.lambda_wire.specs.declared.reply.Reply.{Reply}
 use Rattle.long_poll.specs.Clocks.{IsAdvance, IsClockReply}
-use Rattle.long_poll.specs.Exchanges.{IsOfBody, ComesOf, IsReply, IsTickedAt, IsTickRefusal, clock_of, service_of}
+use Rattle.long_poll.specs.Exchanges.{IsOfBody, ComesOf, IsReply, IsTickedAt, IsTickRefusal, anchored, clock_of, service_of}
 use Rattle.long_poll.specs.Lengths.{declares_too_long}
 use Rattle.long_poll.specs.Outcomes.{IsStreamOf}
 use Rattle.long_poll.specs.Reads.{Counts, Lists, Reserves}
@@ -93,7 +95,7 @@ module _ {R S D N K L B P E T : Type 0} {service : Service.Ghosts S K L T} {deci
     (most : ℕ)
     (replies : (call : Call) (reply : Reply) (token : List Entry)
     → IsReply (arc_value front.connection) clock (decided.Submit call) reply token
-    → IsReplyAt served.config most served.salt call reply token)
+    → IsReplyAt served.config most served.salt (anchored (arc_value front.connection)) call reply token)
     (takes : (had : List Entry) (before : Held) (now ticket : ℕ) (seen then : List Entry) (after : Held)
     → service.submits (service_of (arc_value front.connection)) had before now Tick None (Ok (ticket, seen)) then after
     → IsTaken served.config most had now Tick ticket seen)
@@ -121,48 +123,52 @@ module _ {R S D N K L B P E T : Type 0} {service : Service.Ghosts S K L T} {deci
   abbrev read : ℕ → Type 0
   read = clock.reads (clock_of connection)
 
-  ticked : (token : List Entry) (now : ℕ) → IsTickedAt connection token now → IsTicked read served.config most served.salt token now
-  ticked token now (ticket, t) =
-      (t.had, ticket, takes t.had t.before now ticket token t.then t.after t.came)
+  abbrev since : List Entry
+  since = anchored connection
+
+  ticked : (token : List Entry) (now : ℕ) → IsTickedAt connection token now → IsTicked read served.config most served.salt since token now
+  ticked token now (ticket, t) = (ticket, takes since t.before now ticket token t.then t.after t.came)
 
   away : (token : List Entry) (now : ℕ) (reply : Reply) → IsTickRefusal connection token now reply
-      → IsRefusalOf served.config most Tick reply token
+      → Answered.IsTurnedAway read served.config most served.salt since token now reply
   away token now reply (refused, t, says) =
-      let turned : IsTurnedAway served.config most t.0.had Tick refused.refusal token =
-      subst (IsTurnedAway served.config most t.0.had Tick refused.refusal) (sym t.1)
-      (refuses t.0.had t.0.before now refused t.0.then t.0.after t.0.came) in
-      record {
-        reached = turned.sees.reached;
-        refusal = refused.refusal;
-        exactly = turned.exactly;
-        says = says;
-      }
+      let turned : IsTurnedAway served.config most since Tick refused.refusal token =
+      subst (IsTurnedAway served.config most since Tick refused.refusal) (sym t.1)
+      (refuses since t.0.before now refused t.0.then t.0.after t.0.came) in (
+        turned.sees.later,
+        record {
+          reached = turned.sees.reached;
+          refusal = refused.refusal;
+          exactly = turned.exactly;
+          says = says;
+        },
+      )
 
   reply_to : (made : Decision) (reply : Reply) (token : List Entry) → IsReply connection clock made reply token
-      → IsReplyTo read served.config most served.salt made reply token
+      → IsReplyTo read served.config most served.salt since made reply token
   reply_to (decided.Submit call) reply token x = replies call reply token x
   reply_to (decided.Reply own) reply token x = x
   reply_to (decided.Show show.Stats) reply token x =
-      let counted = counts x.1.0 x.0 token x.1.1 in
-      (counted.0.reached, x.2 ∙ ap stats_reply counted.1)
+      let counted = counts since x.0 token x.1 in
+      ((counted.0.later, counted.0.reached), x.2 ∙ ap stats_reply counted.1)
   reply_to (decided.Show (show.History from)) reply token x = x
   reply_to (decided.Show (show.Trace query)) reply token x = x
   reply_to (decided.Show show.Environments) reply token x =
-      let listed = lists x.1.0 x.0 token x.1.1 in
-      (listed.0.reached, x.2 ∙ ap environments_reply listed.1)
+      let listed = lists since x.0 token x.1 in
+      ((listed.0.later, listed.0.reached), x.2 ∙ ap environments_reply listed.1)
   reply_to (decided.Show (show.Reservation f)) reply token x =
-      let reserved = reserves x.1.0 f x.0 token x.1.1 in
-      (reserved.0.reached, x.2 ∙ ap reservation_reply reserved.1)
+      let reserved = reserves since f x.0 token x.1 in
+      ((reserved.0.later, reserved.0.reached), x.2 ∙ ap reservation_reply reserved.1)
   reply_to (decided.Show show.Version) reply token x = x
   reply_to (decided.Clock request) reply token x =
-      of_clock read (IsTickedAt connection token) (IsTicked read served.config most served.salt token)
-      (IsTickRefusal connection token) (λ now reply. IsRefusalOf served.config most Tick reply token)
+      of_clock read (IsTickedAt connection token) (IsTicked read served.config most served.salt since token)
+      (IsTickRefusal connection token) (Answered.IsTurnedAway read served.config most served.salt since token)
       (ticked token) (away token) request reply x
 
   outcome_of : (shows : Shown → H → Type 0) (head : Parts) (body : List ℕ) (given : Outcome H L)
-      → ComesOf connection clock shows head body (Ok given) → IsOutcomeOf L shows read served most (decision served head body) given
+      → ComesOf connection clock shows head body (Ok given) → IsOutcomeOf L shows read served most since (decision served head body) given
   outcome_of shows head body (outcome.Reply reply token) x =
-      subst (λ made. IsReplyTo read served.config most served.salt made reply token) (decides head body x.0 x.1)
+      subst (λ made. IsReplyTo read served.config most served.salt since made reply token) (decides head body x.0 x.1)
       (reply_to x.0 reply token x.2)
   outcome_of shows head body (outcome.History shown) x =
       (x.0, sym (decides head body (decided.Show (show.History x.0)) x.1), x.2)
@@ -171,75 +177,94 @@ module _ {R S D N K L B P E T : Type 0} {service : Service.Ghosts S K L T} {deci
 
   module _ (hosts : List ℕ) (head : Parts) (response : Response (Either SentBody H)) where
     abbrev shows : Shown → H → Type 0
-    shows = IsStreamOf service (service_of connection)
+    shows = IsStreamOf service (service_of connection) since
 
-    abbrev Exchanged : Port → Type 0
-    Exchanged at =
-        (made : Result (Outcome H L) ExchangeFault) × ComesTo clock yields has front head made × IsAnswerTo at (declares_too_long head) made response
+    abbrev Exchanged : Served → Port → Type 0
+    Exchanged side at =
+        IsWayOf side head Own
+        × ((made : Result (Outcome H L) ExchangeFault) × ComesTo clock yields has front head made
+        × IsAnswerTo at (declares_too_long head) made response)
 
-    exchanged : (made : Result (Outcome H L) ExchangeFault) → ComesTo clock yields has front head made
+    exchanged : IsWayOf served head Own → (made : Result (Outcome H L) ExchangeFault)
+        → ComesTo clock yields has front head made
         → IsAnswerTo served.port (declares_too_long head) made response
-        → IsRefusal served.port (declares_too_long head) refused.BrokenBody response
-        ⊎ (IsRefusal served.port (declares_too_long head) refused.OutOfMemory response
-        ⊎ IsDecided L shows read served most yields has hosts head response)
-    exchanged (Ok given) x answer =
-        inr (inr (
-          x.0,
-          given,
-          of_body
-              has
-              (yields x.0)
-              head
-              []
-              (λ body. ComesOf connection clock shows head body (Ok given))
-              (λ body. IsOutcomeOf L shows read served most (decision served head body) given)
-              (λ body. outcome_of shows head body given)
-              x.1,
-          answer,
-        ))
-    exchanged (Err BodyFailed) x answer = inl answer
-    exchanged (Err OutOfMemory) x answer = inr (inl answer)
-    exchanged (Err BellLost) x answer = absurd answer
+        → IsRefusal served.port (declares_too_long head) refused.OutOfMemory response
+        ⊎ (IsWayOf served head Own
+        × (IsRefusal served.port (declares_too_long head) refused.BrokenBody response
+        ⊎ IsDecided L shows read served most since yields has hosts head response))
+    exchanged way (Ok given) x answer =
+        inr (
+          way,
+          inr (
+            x.0,
+            given,
+            of_body
+                has
+                (yields x.0)
+                head
+                []
+                (λ body. ComesOf connection clock shows head body (Ok given))
+                (λ body. IsOutcomeOf L shows read served most since (decision served head body) given)
+                (λ body. outcome_of shows head body given)
+                x.1,
+            answer,
+          ),
+        )
+    exchanged way (Err BodyFailed) x answer = inr (way, inl answer)
+    exchanged way (Err OutOfMemory) x answer = inl answer
+    exchanged way (Err BellLost) x answer = absurd answer
 
     guarded : (guard : Option Refusal)
-        → MatchOption guard (IsRefusal served.port (declares_too_long head) refused.OutOfMemory response ⊎ Exchanged served.port)
+        → MatchOption guard (IsRefusal served.port (declares_too_long head) refused.OutOfMemory response ⊎ Exchanged served served.port)
         (λ refusal. IsRefusal served.port (declares_too_long head) refusal response)
         → MatchOption guard
-        (IsRefusal served.port (declares_too_long head) refused.BrokenBody response
-        ⊎ (IsRefusal served.port (declares_too_long head) refused.OutOfMemory response
-        ⊎ IsDecided L shows read served most yields has hosts head response))
+        (IsRefusal served.port (declares_too_long head) refused.OutOfMemory response
+        ⊎ (IsWayOf served head Own
+        × (IsRefusal served.port (declares_too_long head) refused.BrokenBody response
+        ⊎ IsDecided L shows read served most since yields has hosts head response)))
         (λ refusal. IsRefusal served.port (declares_too_long head) refusal response)
     guarded (Some refusal) x = x
-    guarded None (inl x) = inr (inl x)
-    guarded None (inr x) = exchanged x.0 x.1 x.2
+    guarded None (inl x) = inl x
+    guarded None (inr x) = exchanged x.0 x.1.0 x.1.1 x.1.2
 
     own_at_port : (account : S) → service_of connection ≡ account
-        → (it : N) → clock_of connection ≡ it → front.port ≡ served.port
-        → arc_value front.hosts ≡ hosts → IsOwnAnswer clock yields has front head response
-        → IsItsOwn L (IsStreamOf service account) (clock.reads it) served most yields has hosts head response
-    own_at_port account same it is at listed x =
-        let of_hosts : MatchOption (refusal_of front.port hosts head) (IsRefusal front.port (declares_too_long head) refused.OutOfMemory response ⊎ Exchanged front.port)
+        → (it : N) → clock_of connection ≡ it → (began : List Entry) → since ≡ began → front.port ≡ served.port
+        → arc_value front.hosts ≡ hosts → arc_value (arc_value front.at_desk).side ≡ served
+        → IsOwnAnswer clock yields has front head response
+        → IsItsOwn L (IsStreamOf service account began) (clock.reads it) served most began yields has hosts head response
+    own_at_port account same it is began then at listed sided x =
+        let of_side : MatchOption (refusal_of front.port (arc_value front.hosts) head)
+        (IsRefusal front.port (declares_too_long head) refused.OutOfMemory response ⊎ Exchanged served front.port)
+        (λ refusal. IsRefusal front.port (declares_too_long head) refusal response)
+        = subst (λ side. MatchOption (refusal_of front.port (arc_value front.hosts) head)
+        (IsRefusal front.port (declares_too_long head) refused.OutOfMemory response ⊎ Exchanged side front.port)
+        (λ refusal. IsRefusal front.port (declares_too_long head) refusal response)) sided x in
+        let of_hosts : MatchOption (refusal_of front.port hosts head)
+        (IsRefusal front.port (declares_too_long head) refused.OutOfMemory response ⊎ Exchanged served front.port)
         (λ refusal. IsRefusal front.port (declares_too_long head) refusal response)
         = subst (λ h. MatchOption (refusal_of front.port h head)
-        (IsRefusal front.port (declares_too_long head) refused.OutOfMemory response ⊎ Exchanged front.port)
-        (λ refusal. IsRefusal front.port (declares_too_long head) refusal response)) listed x in
+        (IsRefusal front.port (declares_too_long head) refused.OutOfMemory response ⊎ Exchanged served front.port)
+        (λ refusal. IsRefusal front.port (declares_too_long head) refusal response)) listed of_side in
         let of_api : MatchOption (refusal_of served.port hosts head)
-        (IsRefusal served.port (declares_too_long head) refused.OutOfMemory response ⊎ Exchanged served.port)
+        (IsRefusal served.port (declares_too_long head) refused.OutOfMemory response ⊎ Exchanged served served.port)
         (λ refusal. IsRefusal served.port (declares_too_long head) refusal response)
         = subst (λ a. MatchOption (refusal_of a hosts head)
-        (IsRefusal a (declares_too_long head) refused.OutOfMemory response ⊎ Exchanged a) (λ refusal. IsRefusal a (declares_too_long head) refusal response))
+        (IsRefusal a (declares_too_long head) refused.OutOfMemory response ⊎ Exchanged served a)
+        (λ refusal. IsRefusal a (declares_too_long head) refusal response))
         at of_hosts in
-        subst (λ a. IsItsOwn L (IsStreamOf service a) (clock.reads it) served most yields has hosts head response) same
-        (subst (λ c. IsItsOwn L shows (clock.reads c) served most yields has hosts head response) is
-        (guarded (refusal_of served.port hosts head) of_api))
+        subst (λ s. IsItsOwn L (IsStreamOf service account s) (clock.reads it) served most s yields has hosts head response) then
+        (subst (λ a. IsItsOwn L (IsStreamOf service a since) (clock.reads it) served most since yields has hosts head response) same
+        (subst (λ c. IsItsOwn L shows (clock.reads c) served most since yields has hosts head response) is
+        (guarded (refusal_of served.port hosts head) of_api)))
 
     pub at_port : (account : S) → service_of connection ≡ account
-        → (it : N) → clock_of connection ≡ it → front.port ≡ served.port
+        → (it : N) → clock_of connection ≡ it → (began : List Entry) → since ≡ began → front.port ≡ served.port
         → arc_value front.hosts ≡ hosts → arc_value (arc_value front.at_desk).side ≡ served
         → IsAnswer clock yields has front head response
-        → IsAnswerAt L (IsStreamOf service account) (clock.reads it) served most yields has hosts head response
-    at_port account same it is at listed sided (inl x) = inl (own_at_port account same it is at listed x)
-    at_port account same it is at listed sided (inr x) =
+        → IsAnswerAt L (IsStreamOf service account began) (clock.reads it) served most began yields has hosts head response
+    at_port account same it is began then at listed sided (inl x) =
+        inl (own_at_port account same it is began then at listed sided x)
+    at_port account same it is began then at listed sided (inr x) =
         inr (
           subst (λ a. refusal_of a hosts head ≡ None) at (subst (λ h. refusal_of front.port h head ≡ None) listed x.0),
           subst (λ s. IsGivenAtDesk s head response) sided x.1,

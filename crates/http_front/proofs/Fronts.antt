@@ -14,13 +14,14 @@ use Rattle.http_front.specs.Sent.{SentBody}
 use Rattle.http_connection.specs.Written.{Gave}
 use Rattle.http_front.specs.Courses.{IsExchangeOf, Takes, TakesItself}
 use Rattle.http_front.specs.Exchanged.{ComesTo, IsAnswer, IsOwnAnswer}
-use Rattle.http_front.specs.Handing.{IsHandedAnswer, IsHandlerAnswer}
+use Rattle.http_front.specs.Handing.{IsHandedAnswer, IsHandlerAnswer, IsWayOf}
 use Rattle.http_front.specs.Responses.{IsAnswerTo, IsRefusal}
+use Rattle.http_front.specs.declared.at_desk.Way.TheVariants as way
 use Rattle.http_front.specs.declared.course.Course.{Course}
 use Rattle.http_front.specs.declared.course.Course.TheVariants.{Own, Handed, OfHandler}
 use Rattle.http_front.specs.declared.front.Front.{Front}
 use Rattle.http_front.specs.declared.course.responding.Responding.{Responding}
-use Rattle.long_poll.specs.Exchanges.{service_of}
+use Rattle.long_poll.specs.Exchanges.{anchored, service_of}
 use Rattle.long_poll.specs.Lengths.{declares_too_long}
 use Rattle.long_poll.specs.Outcomes.{IsStreamOf}
 use Rattle.long_poll.specs.Stages.{GivesFrom}
@@ -60,14 +61,14 @@ module _ {R S D N K L B P E T : Type 0} {service : Service.Ghosts S K L T} {deci
       → Answers how
   of_exchange how exchange made is gives answer =
       let there : GivesFrom (arc_value front.connection) clock yields has
-      (IsStreamOf service (service_of (arc_value front.connection))) exchange.stage made
+      (IsStreamOf service (service_of (arc_value front.connection)) (anchored (arc_value front.connection))) exchange.stage made
       = subst (λ (c : Connection R S D N K L T service decider keep).
-      GivesFrom c clock yields has (IsStreamOf service (service_of c)) exchange.stage made) is.0 gives in (
+      GivesFrom c clock yields has (IsStreamOf service (service_of c) (anchored c)) exchange.stage made) is.0 gives in (
         made,
         (
           body,
           subst (λ (stage : Stage B L). GivesFrom (arc_value front.connection) clock yields has
-              (IsStreamOf service (service_of (arc_value front.connection))) stage made) is.1 there,
+              (IsStreamOf service (service_of (arc_value front.connection)) (anchored (arc_value front.connection))) stage made) is.1 there,
         ),
         answer,
       )
@@ -76,13 +77,15 @@ module _ {R S D N K L B P E T : Type 0} {service : Service.Ghosts S K L T} {deci
   pub answer_of : (guard : Option Refusal) (how given_how : Port × Bool) (refusal : Option Refusal) (exchange : Option Boxed)
       → given_how ≡ how
       → MatchOption guard
-      (MatchOption exchange (refusal ≡ Some OutOfMemory) (λ e. (refusal ≡ None) × IsExchangeOf front head body e.value))
+      (MatchOption exchange (refusal ≡ Some OutOfMemory)
+      (λ e. (refusal ≡ None) × IsExchangeOf front head body e.value × IsWayOf (arc_value (arc_value front.at_desk).side) head way.Own))
       (λ r. (refusal ≡ Some r) × (exchange ≡ None))
       → MatchOption refusal
       (IsSomeAnd exchange (λ e. (made : Result (Outcome (StreamedBody R S T K L) L) ExchangeFault)
       × Gives clock yields has e.value made × IsAnswerTo given_how.0 given_how.1 made response))
       (λ r. IsRefusal given_how.0 given_how.1 r response)
-      → MatchOption guard (IsRefusal how.0 how.1 OutOfMemory response ⊎ Answers how) (λ r. IsRefusal how.0 how.1 r response)
+      → MatchOption guard (IsRefusal how.0 how.1 OutOfMemory response ⊎ (IsWayOf (arc_value (arc_value front.at_desk).side) head way.Own × Answers how))
+      (λ r. IsRefusal how.0 how.1 r response)
   answer_of (Some r) how given_how refusal exchange same took gave =
       subst (λ (a : Port × Bool). IsRefusal a.0 a.1 r response) same
       (subst (λ (o : Option Refusal). MatchOption o
@@ -97,7 +100,7 @@ module _ {R S D N K L B P E T : Type 0} {service : Service.Ghosts S K L T} {deci
       ((made : Result (Outcome (StreamedBody R S T K L) L) ExchangeFault)
       × Gives clock yields has exchange.value made × IsAnswerTo given_how.0 given_how.1 made response)
       (λ r. IsRefusal given_how.0 given_how.1 r response)) took.0 gave in
-      inr (subst Answers same (of_exchange given_how exchange.value given.0 took.1 given.1 given.2))
+      inr (took.2, subst Answers same (of_exchange given_how exchange.value given.0 took.1 given.1 given.2))
 
 -- The responses that a front's futures give.
 module _ {R S D N K L B P E T : Type 0} {service : Service.Ghosts S K L T} {decider : Decide.Ghosts D}

@@ -3,7 +3,8 @@ use Rattle.std.specs.Prelude.{◌≡◌, true, [], Some, None, MatchOption}
 use Rattle.std.specs.Arc.{arc_value}
 use Rattle.decisions.specs.declared.decide.Decide as Decide
 use Rattle.http.specs.declared.request.Parts.{Parts}
-use Rattle.http_front.specs.Handing.{asks}
+use Rattle.http_front.specs.Handing.{IsWayOf, asks}
+use Rattle.http_front.specs.declared.at_desk.Way.TheVariants as way
 use Rattle.http_front.specs.declared.course.Course.{Course}
 use Rattle.http_front.specs.declared.course.Course.TheVariants as answers
 use Rattle.http_front.specs.declared.front.Front.{Front}
@@ -28,14 +29,18 @@ module _ {R S D N B K L T : Type 0} {service : Service.Ghosts S K L T} {decider 
       (record { alloc = (arc_value (arc_value front.connection).shared).alloc; body = body; held = [] })
       (declares_too_long head))
 
-  -- What becomes of a request that the service itself answers: it has an exchange, or is refused because an allocation
-  -- fails. Both are answered in the form of the port's API. If the head declares a body that is too long, the body is left
-  -- unread, and the answer is the connection's last.
+  -- The port at which requests are handed over.
+  abbrev pub side : Served
+  side = arc_value (arc_value front.at_desk).side
+
+  -- What becomes of a request that the service itself answers: it has an exchange, and then no handler asks for something
+  -- with it; or it is refused because an allocation fails. Both are answered in the form of the port's API. If the head
+  -- declares a body that is too long, the body is left unread, and the answer is the connection's last.
   abbrev pub IsAnswering : Responding R S D N B K L T service decider keep → Type 0
   IsAnswering future =
       (future.port ≡ front.port) × (future.is_unread ≡ declares_too_long head)
       × MatchOption future.exchange (future.refusal ≡ Some OutOfMemory)
-      (λ exchange. (future.refusal ≡ None) × IsExchangeOf exchange.value)
+      (λ exchange. (future.refusal ≡ None) × IsExchangeOf exchange.value × IsWayOf side head way.Own)
 
   -- The same, or its head is refused: then it has that refusal and no exchange, so it never becomes a call.
   abbrev pub TakesItself : Responding R S D N B K L T service decider keep → Type 0
@@ -43,12 +48,8 @@ module _ {R S D N B K L T : Type 0} {service : Service.Ghosts S K L T} {decider 
       (future.port ≡ front.port) × (future.is_unread ≡ declares_too_long head)
       × MatchOption (refusal_of front.port (arc_value front.hosts) head)
       (MatchOption future.exchange (future.refusal ≡ Some OutOfMemory)
-      (λ exchange. (future.refusal ≡ None) × IsExchangeOf exchange.value))
+      (λ exchange. (future.refusal ≡ None) × IsExchangeOf exchange.value × IsWayOf side head way.Own))
       (λ refusal. (future.refusal ≡ Some refusal) × (future.exchange ≡ None))
-
-  -- The port at which requests are handed over.
-  abbrev pub side : Served
-  side = arc_value (arc_value front.at_desk).side
 
   -- What becomes of a request: the service itself answers it; or its head is not refused, and it may be handed over, or
   -- is a handler's own.

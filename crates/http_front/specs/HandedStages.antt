@@ -1,8 +1,11 @@
 -- The stages of a request that is handed over, and of a handler's own request.
-use Rattle.std.specs.Prelude.{◌≡◌, ℕ, List, Option, Some, None}
+use Rattle.std.specs.Prelude.{◌≡◌, ℕ, List, Option, Some, None, Result, Ok, Err}
 use Rattle.futures.specs.Channel.{completed_source}
 use Rattle.handler_desk.specs.Piped.{emptied_source}
+use Rattle.handler_desk.specs.declared.put.Put.{Put}
 use Rattle.handler_desk.specs.declared.pipe.PipeSender.{PipeSender}
+use Rattle.handler_desk.specs.declared.posted.Posted.{Posted}
+use Rattle.http_front.specs.declared.at_desk.fault.HandedFault.{HandedFault}
 use Rattle.http_front.specs.declared.at_desk.flowing.Flowing.{Flowing}
 use Rattle.http_front.specs.declared.at_desk.handed.HandedStage.{HandedStage}
 use Rattle.http_front.specs.declared.at_desk.handed.HandedStage.TheVariants as handed
@@ -13,6 +16,24 @@ use Rattle.http_front.specs.declared.at_desk.of_handler.OwnStage.TheVariants as 
 abbrev pub CanGoOn : {B : Type 0} → (B → Type 0) → HandedStage B → Type 0
 CanGoOn can_poll (handed.Collecting parts body) = can_poll body.body
 CanGoOn can_poll (handed.Waiting put) = Unit {0}
+
+-- What the desk gave for a request, if that waits.
+abbrev pub put_of : {B : Type 0} → HandedStage B → Option Put
+put_of (handed.Collecting parts body) = None
+put_of (handed.Waiting put) = Some put
+
+-- What has come of a request that is then at this stage: nothing was posted if it does not wait.
+abbrev pub Gave : {B : Type 0} → HandedStage B → Result Posted HandedFault → Type 0
+Gave (handed.Collecting parts body) (Ok posted) = ⊥
+Gave (handed.Collecting parts body) (Err fault) = Unit {0}
+Gave (handed.Waiting put) (Ok posted) = posted.id ≡ put.id
+Gave (handed.Waiting put) (Err fault) = Unit {0}
+
+-- The second stage can follow the first: a request that waits has one identifier.
+abbrev pub Follows : {B : Type 0} → HandedStage B → HandedStage B → Type 0
+Follows (handed.Collecting parts body) after = Unit {0}
+Follows (handed.Waiting put) (handed.Collecting parts body) = ⊥
+Follows (handed.Waiting put) (handed.Waiting after) = after.id ≡ put.id
 
 -- The sources that a request which is handed over waits for.
 abbrev pub WaitsFor : {B : Type 0} → (B → ℕ → Type 0) → HandedStage B → ℕ → Type 0

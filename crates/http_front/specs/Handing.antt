@@ -48,10 +48,11 @@ is_something asks_for.Nothing = false
 abbrev pub asks : Parts → Bool
 asks p = is_something (asked p)
 
--- Who answers a request, as far as its head says it: a handler only one that may be handed over, and the desk only a
--- handler's own.
+-- Who may answer a request, as far as its head says it: the desk a handler's own by which something is asked for; a
+-- handler one that may be handed over, since whether one is here the head does not say; and the service itself each that
+-- is not the first of these.
 abbrev pub IsWayOf : Served → Parts → Way → Type 0
-IsWayOf served p Own = Unit {0}
+IsWayOf served p Own = is_own served p ≡ true → asks p ≡ false
 IsWayOf served p Handed = hands_over served p ≡ true
 IsWayOf served p OfHandler = (is_own served p ≡ true) × (asks p ≡ true)
 

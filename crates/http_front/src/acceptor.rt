@@ -83,7 +83,7 @@ impl<R: Machine, S: Identity + Drop, N: Drop, K: Keep> Acceptor<R, S, N, K> {
         ensures { IfOk result (λ acceptor. acceptor.root ≡ opened.1) }
     {
         let (account, root) = opened;
-        let desk = Desk::new(&rt, rt.alloc());
+        let desk = Desk::new(&rt, rt.alloc())?;
         match Common::new(rt.alloc(), account, clock, desk, hosts, patience_ms) {
             Ok(common) => Acceptor::new(rt, common, root, most),
             Err(refused) => Err(refused),

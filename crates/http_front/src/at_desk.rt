@@ -12,6 +12,7 @@ ghost use Rattle.arn_ids.specs.Limits.{longest_body};
 ghost use Rattle.std.specs.Arc.{arc_value};
 ghost use Rattle.http_header.specs.HeaderMap.{pairs};
 ghost use Rattle.json.specs.Print.{print};
+ghost use Rattle.handler_desk.specs.Desks.{IsPutAt};
 ghost use Rattle.handover.specs.Heads.{head_tokens};
 ghost use Rattle.http_front.specs.Handing as spec;
 ghost use Rattle.http_front.specs.Ports.{number_of};
@@ -46,8 +47,7 @@ pub(crate) enum Way {
 /// port at which it came; where it is noted that a handler is awaited; and where the requests are counted that are
 /// rejected.
 #[derive(Drop)]
-pub struct AtDesk<R> {
-    pub(crate) rt: R,
+pub struct AtDesk {
     pub(crate) alloc: Global,
     pub(crate) desk: Arc<Desk>,
     pub(crate) open: Arc<OpenPoll>,
@@ -95,12 +95,16 @@ fn asks(parts: &Parts) -> bool
     }
 }
 
-impl<R: Wait + time::Clock + Drop> AtDesk<R> {
+impl AtDesk {
     /// Returns who answers a request with this head. While no handler may be here, that takes no lock.
     ///
     /// # Errors
     /// If memory is refused. That is never so while no handler may be here.
-    pub(crate) fn way_of(&self, parts: &Parts) -> Result<Way, AllocError>
+    pub(crate) fn way_of<R: Wait + time::Clock>(
+        &self,
+        rt: &R,
+        parts: &Parts,
+    ) -> Result<Way, AllocError>
         ensures { IfOk result (spec.IsWayOf (arc_value self.now.side) parts.now) }
     {
         if self.side.is_own(parts) {
@@ -111,7 +115,7 @@ impl<R: Wait + time::Clock + Drop> AtDesk<R> {
         }
         if self.desk.may_be_attended()
             && self.side.hands_over(self.alloc, parts)?
-            && self.desk.is_attended(&self.rt)
+            && self.desk.is_attended(rt)
         {
             return Ok(Way::Handed);
         }
@@ -135,8 +139,14 @@ impl<R: Wait + time::Clock + Drop> AtDesk<R> {
     ///
     /// # Errors
     /// If its body is too long, or as `Desk::put`.
-    pub(crate) fn hand_over(&self, parts: &Parts, body: Bytes) -> Result<Put, HandedFault>
-        ensures { nat_lt longest_body (length body) ≡ true → result ≡ Err HandedFault.TooLong }
+    pub(crate) fn hand_over<R: Wait + time::Clock>(
+        &self,
+        rt: &R,
+        parts: &Parts,
+        body: Bytes,
+    ) -> Result<Put, HandedFault>
+        ensures too_long { nat_lt longest_body (length body) ≡ true → result ≡ Err HandedFault.TooLong }
+        ensures own { IfOk result (IsPutAt (arc_value self.now.desk)) }
     {
         if body.len() > LONGEST_BODY {
             return Err(HandedFault::TooLong);
@@ -144,14 +154,14 @@ impl<R: Wait + time::Clock + Drop> AtDesk<R> {
         let Ok(request) = self.request(parts, body) else {
             return Err(HandedFault::OutOfMemory);
         };
-        match self.desk.put(&self.rt, request) {
+        match self.desk.put(rt, request) {
             Ok(put) => Ok(put),
             Err(fault) => Err(HandedFault::of_put(fault)),
         }
     }
 
     /// Counts a request with this head, for the log, that is not handed over because of its body.
-    pub(crate) fn note_refused(&self, parts: &Parts, fault: HandedFault) {
+    pub(crate) fn note_refused(&self, rt: &impl Wait, parts: &Parts, fault: HandedFault) {
         let Some(cause) = fault.cause() else {
             return;
         };
@@ -160,6 +170,6 @@ impl<R: Wait + time::Clock + Drop> AtDesk<R> {
             is_of_environment: false,
         };
         self.rejections
-            .note(&self.rt, kind, self.number, Some(parts), None);
+            .note(rt, kind, self.number, Some(parts), None);
     }
 }

@@ -42,6 +42,7 @@ impl<S: Identity + Drop, N: Drop> Common<S, N> {
         patience_ms: u32,
     ) -> Result<Common<S, N>, AllocError>
         ensures account { IfOk result (λ common. arc_value (arc_value common.shared).service ≡ account) }
+        ensures desk { IfOk result (λ common. arc_value common.desk ≡ desk) }
         ensures hosts { IfOk result (λ common. arc_value common.hosts ≡ hosts) }
     {
         let account = arc_of(alloc, account)?;
@@ -58,6 +59,7 @@ impl<S: Identity + Drop, N: Drop> Common<S, N> {
     /// Returns the same, for another thread.
     pub(crate) fn share(&self) -> Result<Common<S, N>, AllocError>
         ensures shared { IfOk result (λ common. arc_value common.shared ≡ arc_value self.now.shared) }
+        ensures desk { IfOk result (λ common. arc_value common.desk ≡ arc_value self.now.desk) }
         ensures hosts { IfOk result (λ common. arc_value common.hosts ≡ arc_value self.now.hosts) }
     {
         let shared = Arc::try_clone(&self.shared)?;

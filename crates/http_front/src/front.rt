@@ -3,6 +3,8 @@
 ghost use Rattle.std.specs.Prelude.{◌≡◌, IfSome};
 ghost use Rattle.std.specs.Arc.{arc_value};
 ghost use Rattle.http_front.specs.Courses.{IsAnswering, IsExchangeOf, Takes};
+ghost use Rattle.http_front.specs.Handing.{IsWayOf};
+ghost use Rattle.http_front.specs.declared.at_desk.Way.TheVariants as Way;
 ghost use Rattle.http_front.specs.Causes.{cause_of};
 ghost use Rattle.http_front.specs.HandedStages.{CanGoOn, CanServe};
 ghost use Rattle.long_poll.specs.Lengths as lengths;
@@ -48,11 +50,12 @@ fn cause_of(refusal: Refusal) -> Option<Cause>
 /// handlers, if there is one, and at those of handlers all.
 #[derive(Drop)]
 pub struct Front<R, A: Service<K>, D: Decide, N, K: Keep> {
+    rt: R,
     alloc: Global,
     port: Port,
     hosts: Arc<KnownHosts>,
     pub(crate) connection: Arc<Connection<R, A, D, N, K>>,
-    at_desk: Arc<AtDesk<R>>,
+    at_desk: Arc<AtDesk>,
 }
 
 impl<
@@ -65,17 +68,19 @@ impl<
     /// Makes the port for a connection, which speaks this API, answers for these hosts in
     /// addition to the local ones, and hands requests over at this desk. It allocates nothing.
     pub fn new(
+        rt: R,
         alloc: Global,
         port: Port,
         hosts: Arc<KnownHosts>,
         connection: Arc<Connection<R, A, D, N, K>>,
-        at_desk: Arc<AtDesk<R>>,
+        at_desk: Arc<AtDesk>,
     ) -> Front<R, A, D, N, K>
         ensures connection { result.connection ≡ connection }
         ensures at_desk { result.at_desk ≡ at_desk }
         ensures guarded { (result.port ≡ port) × (result.hosts ≡ hosts) }
     {
         Front {
+            rt,
             alloc,
             port,
             hosts,
@@ -123,6 +128,7 @@ impl<
         B::Error: BodyFault,
         requires declared { is_unread ≡ lengths.declares_too_long parts }
         requires body { B.can_poll body }
+        requires way { IsWayOf (arc_value (arc_value self.now.at_desk).side) parts Way.Own }
         ensures answers { IsAnswering self.now parts body result }
         ensures can_poll { ⟦<Responding<R, A, D, N, B, K> as Future>⟧.can_poll result }
     {
@@ -134,7 +140,7 @@ impl<
     }
 
     /// Returns what this connection needs to hand a request over. Returns `None` if an allocation fails.
-    fn desk(&self) -> Option<Arc<AtDesk<R>>>
+    fn desk(&self) -> Option<Arc<AtDesk>>
         ensures { IfSome result (λ desk. arc_value desk ≡ arc_value self.now.at_desk) }
     {
         Arc::try_clone(&self.at_desk).ok()
@@ -148,10 +154,11 @@ impl<
         is_unread: bool,
     ) -> Option<Box<Handed<R, B, H>>>
         requires { B.can_poll body }
+        ensures at_desk { IfSome result (λ handed. arc_value handed.value.at_desk ≡ arc_value self.now.at_desk) }
         ensures unread { IfSome result (λ handed. handed.value.is_unread ≡ is_unread) }
         ensures can_poll { IfSome result (λ handed. CanGoOn B.can_poll handed.value.stage) }
     {
-        let handed = Handed::new(self.desk()?, parts, body, is_unread);
+        let handed = Handed::new(self.rt, self.desk()?, parts, body, is_unread);
         Box::new(self.alloc, handed).ok()
     }
 
@@ -163,10 +170,11 @@ impl<
         is_unread: bool,
     ) -> Option<Box<OfHandler<R, B, H>>>
         requires { B.can_poll body }
+        ensures at_desk { IfSome result (λ own. arc_value own.value.at_desk ≡ arc_value self.now.at_desk) }
         ensures unread { IfSome result (λ own. own.value.is_unread ≡ is_unread) }
         ensures can_poll { IfSome result (λ own. CanServe B.can_poll own.value.stage) }
     {
-        let own = OfHandler::new(self.desk()?, parts, body, is_unread);
+        let own = OfHandler::new(self.rt, self.desk()?, parts, body, is_unread);
         Box::new(self.alloc, own).ok()
     }
 
@@ -186,7 +194,7 @@ impl<
             self.note(&parts, refusal);
             return Course::Own(Responding::refused(self.alloc, self.port, is_unread, refusal));
         }
-        match self.at_desk.way_of(&parts) {
+        match self.at_desk.way_of(&self.rt, &parts) {
             Ok(Way::Own) => return Course::Own(self.own(parts, body, is_unread)),
             Ok(Way::Handed) => {
                 if let Some(handed) = self.handed(parts, body, is_unread) {

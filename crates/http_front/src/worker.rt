@@ -123,9 +123,17 @@ pub(crate) struct Worker<R, S: Identity, N, K: Keep> {
 
 /// Serves a connection at this port with a front. Returns its socket, and how it ended, if
 /// it ended by itself: each response that the socket took is one with which the front answers its
-/// request. The service and the decider are parameters here: their own types, repeated in each of
-/// those that `hyper` makes of a connection, are too large for a proof.
-fn serve_by<R: Machine, A: Service<K>, D: Decide + Drop, N: Clock + Drop, O: Park, K: Keep>(
+/// request. The service and the decider are parameters here, and the machine can do no more than a
+/// connection needs: their own types, and each bound, are repeated in all the types that `hyper` makes
+/// of a connection, and would be too large for a proof.
+fn serve_by<
+    R: Wait + time::Clock + AllocGlobal + Copy + Drop,
+    A: Service<K>,
+    D: Decide + Drop,
+    N: Clock + Drop,
+    O: Park,
+    K: Keep,
+>(
     event_loop: &mut EventLoop,
     rt: &R,
     ends: Ends,
@@ -189,6 +197,8 @@ impl<R: Machine, S: Identity + Drop, N: Clock + Drop, K: Keep> Worker<R, S, N, K
     fn serve_in_turn(&self, tools: &mut Tools<S>, first: Job<S>) -> bool {
         let mut job = first;
         for _ in self.rt.forever() {
+            // (what the connection is anchored at: the history as it is now)
+            tools.token = self.common.shared.service.token(&self.rt);
             let Ok(Ended { outcome: Ok(_), .. }) = self.serve(tools, job) else {
                 return false;
             };
@@ -199,11 +209,18 @@ impl<R: Machine, S: Identity + Drop, N: Clock + Drop, K: Keep> Worker<R, S, N, K
         }
         unreachable!()
     }
+}
 
+impl<
+    R: Wait + time::Clock + AllocGlobal + Copy + Drop,
+    S: Identity + Drop,
+    N: Clock + Drop,
+    K: Keep,
+> Worker<R, S, N, K> {
     /// Serves a connection, withdraws its open Next (Runtime API, Next invocation), and notes that the
     /// last step of a connection was made, and at the desk that it has ended.
     /// Returns its socket, and how it ended, if it ended by itself: each response that the socket took
-    /// answers its request at the connection's own port.
+    /// answers its request at the connection's own port, in a history that continues what the token had seen.
     ///
     /// # Errors
     /// If the connection cannot be served. Its socket is then closed, and nothing was written to it.
@@ -211,7 +228,7 @@ impl<R: Machine, S: Identity + Drop, N: Clock + Drop, K: Keep> Worker<R, S, N, K
         ensures { IsServed ⟦<Account<S, OneShotBell> as Service<K>>⟧ N.Clock
             ⟦<Either<SentBody, StreamedBody<R, Account<S, OneShotBell>, Trail<S>, K, S>> as Body>⟧.yields
             ⟦<Incoming<Wire> as Body>⟧.yields ⟦<Bytes as Into<Bytes>>⟧.converts
-            self.now.common job.served S.most (name_of_accepted job.pending.socket) result }
+            self.now.common job.served S.most tools.old.token (name_of_accepted job.pending.socket) result }
     {
         let Ok(open) = Arc::new(self.rt.alloc(), OpenPoll::new()) else {
             return Err(job.close());
@@ -262,7 +279,7 @@ impl<R: Machine, S: Identity + Drop, N: Clock + Drop, K: Keep> Worker<R, S, N, K
         ensures { IsServed ⟦<Account<S, OneShotBell> as Service<K>>⟧ N.Clock
             ⟦<Either<SentBody, StreamedBody<R, Account<S, OneShotBell>, Trail<S>, K, S>> as Body>⟧.yields
             ⟦<Incoming<Wire> as Body>⟧.yields ⟦<Bytes as Into<Bytes>>⟧.converts
-            self.now.common job.served S.most (name_of_accepted job.pending.socket) result }
+            self.now.common job.served S.most tools.old.token (name_of_accepted job.pending.socket) result }
     {
         let Job { pending, served } = job;
         let PendingConnection {
@@ -299,14 +316,7 @@ impl<R: Machine, S: Identity + Drop, N: Clock + Drop, K: Keep> Worker<R, S, N, K
             pulse,
         ))
     }
-}
 
-impl<
-    R: Wait + time::Clock + AllocGlobal + Copy + Drop,
-    S: Identity + Drop,
-    N: Clock + Drop,
-    K: Keep,
-> Worker<R, S, N, K> {
     /// Returns the front of a connection at a port: of the same account, with the decider of
     /// that port.
     fn front(
@@ -324,6 +334,9 @@ impl<
             arc_value (arc_value front.connection).shared ≡ arc_value self.now.common.shared) }
         ensures decided { IfOk result (λ front. arc_value (arc_value front.connection).decider ≡ served) }
         ensures handed { IfOk result (λ front. arc_value (arc_value front.at_desk).side ≡ served) }
+        ensures desk { IfOk result (λ front.
+            arc_value (arc_value front.at_desk).desk ≡ arc_value self.now.common.desk) }
+        ensures anchored { IfOk result (λ front. (arc_value front.connection).anchor ≡ token) }
         ensures named { IfOk result (λ front. (served.config ≡ S.config) × (served.salt ≡ S.salt)) }
     {
         let alloc = self.rt.alloc();
@@ -339,7 +352,7 @@ impl<
             Err(refused) => return Err(refused),
         };
         match self.connection(decider, token, number, function, open, bells) {
-            Ok(connection) => Ok(Front::new(alloc, port, hosts, connection, at_desk)),
+            Ok(connection) => Ok(Front::new(self.rt, alloc, port, hosts, connection, at_desk)),
             Err(refused) => Err(refused),
         }
     }
@@ -352,16 +365,17 @@ impl<
         number: u16,
         connection: u64,
         open: &Arc<OpenPoll>,
-    ) -> Result<Arc<AtDesk<R>>, AllocError>
+    ) -> Result<Arc<AtDesk>, AllocError>
         requires { number ≡ number_of (arc_value decider.now).config (arc_value decider.now).port }
-        ensures { IfOk result (λ at_desk. arc_value (arc_value at_desk).side ≡ arc_value decider.now) }
+        ensures side { IfOk result (λ at_desk. arc_value (arc_value at_desk).side ≡ arc_value decider.now) }
+        ensures desk { IfOk result (λ at_desk.
+            arc_value (arc_value at_desk).desk ≡ arc_value self.now.common.desk) }
     {
         let desk = Arc::try_clone(&self.common.desk)?;
         let open = Arc::try_clone(open)?;
         let side = Arc::try_clone(decider)?;
         let rejections = Arc::try_clone(&self.common.shared.rejections)?;
         let at_desk = AtDesk {
-            rt: self.rt,
             alloc: self.rt.alloc(),
             desk,
             open,
@@ -386,7 +400,7 @@ impl<
         })
     }
 
-    /// Returns what the exchanges of a connection share, with a token of its own. The number is that of
+    /// Returns what the exchanges of a connection share, anchored at what this token has seen. The number is that of
     /// the port at which the connection came, the function that of the environment whose port it is.
     fn connection(
         &self,
@@ -401,6 +415,7 @@ impl<
         ensures shared { IfOk result (λ connection.
             arc_value (arc_value connection).shared ≡ arc_value self.now.common.shared) }
         ensures decider { IfOk result (λ connection. (arc_value connection).decider ≡ decider) }
+        ensures anchored { IfOk result (λ connection. (arc_value connection).anchor ≡ token) }
     {
         let shared = Arc::try_clone(&self.common.shared)?;
         let tally = Arc::try_clone(&self.post.tally)?;

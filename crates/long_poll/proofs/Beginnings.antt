@@ -179,13 +179,14 @@ module _ {R S D N K L T : Type 0} {service : Service.Ghosts S K L T} {decider : 
     holds_held Trying held h = absurd h
     holds_held (Waiting t heard token) held h = absurd h
 
-  module _ {B P E : Type 0} (yields : B → Runs (Result (Frame P) E)) (reads : P → List ℕ → Type 0) (s : S) where
+  module _ {B P E : Type 0} (yields : B → Runs (Result (Frame P) E)) (reads : P → List ℕ → Type 0) (s : S)
+      (since : List Entry) where
     -- it asks for the history, and this shows it
     pub gives_history : (stage : Stage B L) (from : Option ℕ)
         → StartsFrom connection clock yields reads stage (Ok (AsksForHistory from))
         → (r : Result (Outcome (StreamedBody R S T K L) L) ExchangeFault)
-        → MatchResult r (IsHistoryOf service s from) (λ fault. fault ≡ OutOfMemory)
-        → GivesFrom connection clock yields reads (IsStreamOf service s) stage r
+        → MatchResult r (IsHistoryOf service s since from) (λ fault. fault ≡ OutOfMemory)
+        → GivesFrom connection clock yields reads (IsStreamOf service s since) stage r
     gives_history (Collecting parts collecting declared) from h (Ok (outcome.Reply reply token)) is = absurd is
     gives_history (Collecting parts collecting declared) from h (Ok (outcome.History body)) is =
         of_body reads (yields collecting.body) parts collecting.held _ _ (λ body b. (from, b, is)) h
@@ -199,8 +200,8 @@ module _ {R S D N K L T : Type 0} {service : Service.Ghosts S K L T} {decider : 
     pub gives_trace : (stage : Stage B L) (query : TraceQuery)
         → StartsFrom connection clock yields reads stage (Ok (AsksForTrace query))
         → (r : Result (Outcome (StreamedBody R S T K L) L) ExchangeFault)
-        → MatchResult r (IsTraceOf service s (Trace query)) (λ fault. fault ≡ OutOfMemory)
-        → GivesFrom connection clock yields reads (IsStreamOf service s) stage r
+        → MatchResult r (IsTraceOf service s since (Trace query)) (λ fault. fault ≡ OutOfMemory)
+        → GivesFrom connection clock yields reads (IsStreamOf service s since) stage r
     gives_trace (Collecting parts collecting declared) query h (Ok (outcome.Reply reply token)) is =
         of_body reads (yields collecting.body) parts collecting.held _ _
         (λ body b. (decision.Show (Trace query), b, is)) h

@@ -99,17 +99,22 @@ module _ {R S D N K L T : Type 0} {service : Service.Ghosts S K L T} {decider : 
   abbrev pub Decides : Parts → List ℕ → Decision → Type 0
   Decides head body made = decider.decides (arc_value connection.decider) head body made
 
+  -- What a token of the connection has seen before it submits or reads: the history as it was when the connection began,
+  -- or a beginning of that.
+  abbrev pub anchored : List Entry
+  anchored = connection.anchor
+
   -- The account shows these counts to a token that has then seen this history.
   abbrev pub Counts : Counted → List Entry → Type 0
-  Counts stats then = (seen : List Entry) × service.counts service_of seen stats then
+  Counts stats then = service.counts service_of anchored stats then
 
   -- The account shows this text of its environments to a token that has then seen this history.
   abbrev pub Lists : List ℕ → List Entry → Type 0
-  Lists text then = (seen : List Entry) × service.lists service_of seen text then
+  Lists text then = service.lists service_of anchored text then
 
   -- The account shows this reservation of a function to a token that has then seen this history.
   abbrev pub Reserves : ℕ → Option ℕ → List Entry → Type 0
-  Reserves f count then = (seen : List Entry) × service.reserves service_of seen f count then
+  Reserves f count then = service.reserves service_of anchored f count then
 
   -- The reply shows what is asked for, as the account gives it to a token that has then seen this history. A history
   -- and its trace are shown by a body that is streamed, never by a reply; but if a trace is to be followed, the reply may
@@ -124,11 +129,10 @@ module _ {R S D N K L T : Type 0} {service : Service.Ghosts S K L T} {decider : 
 
   -- A Tick was submitted at a moment, with no bell, and this was the result.
   pub record Ticked (now : ℕ) (back : CameBack) : Type 0 where
-    pub had : List Entry
     pub before : Held
     pub then : List Entry
     pub after : Held
-    pub came : service.submits service_of had before now Tick None back then after
+    pub came : service.submits service_of anchored before now Tick None back then after
 
   -- A Tick was taken at a moment, and made this history.
   abbrev pub IsTickedAt : List Entry → ℕ → Type 0
@@ -148,13 +152,12 @@ module _ {R S D N K L T : Type 0} {service : Service.Ghosts S K L T} {decider : 
     pub record Submitted (call : Call) (back : CameBack) : Type 0 where
       pub reading : ℕ
       pub read : clock.reads clock_of reading
-      pub had : List Entry
       pub before : Held
       pub then : List Entry
       pub after : Held
       pub bell : OneShotBell
       pub came : service.submits service_of
-          had before (moment_of reading) call (Some bell) back then after
+          anchored before (moment_of reading) call (Some bell) back then after
 
     -- The same with this bell.
     abbrev pub SubmittedWith : OneShotBell → Call → CameBack → Type 0

@@ -33,7 +33,7 @@ module _ {S K L T : Type 0} (service : Service.Ghosts S K L T) (s : S) where
   -- if the history has ended, or after a failure.
   abbrev pub Begins : List Taken → Stage → Option (List ℕ) → List Taken → Type 0
   Begins seen Opening None then = ⊥
-  Begins seen Opening (Some text) then = service.opens s text
+  Begins seen Opening (Some text) then = service.opens s text × (then ≡ seen)
   Begins seen (Entry t) text then = service.tells s seen t text then
   Begins seen Ended None then = ⊤
   Begins seen Ended (Some text) then = ⊥

@@ -1,6 +1,7 @@
 -- The bodies that show a history and its trace.
-use Rattle.std.specs.Prelude.{◌≡◌, ℕ, true, Option, None}
+use Rattle.std.specs.Prelude.{◌≡◌, ℕ, true, List, Option, None}
 use Rattle.std.specs.Arc.{arc_value}
+use Rattle.call_types.specs.declared.call.Entry.{Entry}
 use Rattle.decisions.specs.declared.decide.Shown.{Shown}
 use Rattle.decisions.specs.declared.decide.Shown.TheVariants as shown
 use Rattle.lambda_wire.specs.declared.reply.Reply.{Reply as Replied}
@@ -14,10 +15,11 @@ use Rattle.long_poll.specs.declared.service.Service as Service
 use Rattle.long_poll.specs.declared.streamed_body.StreamedBody.{StreamedBody}
 use Rattle.long_poll.specs.declared.streamed_body.StreamedBody.TheVariants as streamed
 
--- The body shows a service's history, whole or from the entry of a ticket on.
-abbrev pub ShowsFrom : {R S K L : Type 0} → S → Option ℕ → HistoryBody R S K L → Type 0
-ShowsFrom s from body =
-    (arc_value body.service ≡ s) × (body.stage ≡ first_stage from) × (body.rest ≡ None)
+-- The body shows a service's history, whole or from the entry of a ticket on, to a token that has seen this beginning of
+-- it.
+abbrev pub ShowsFrom : {R S K L : Type 0} → S → List Entry → Option ℕ → HistoryBody R S K L → Type 0
+ShowsFrom s since from body =
+    (arc_value body.service ≡ s) × (body.stage ≡ first_stage from) × (body.rest ≡ None) × (body.token ≡ since)
 
 -- The reply turns away a request to follow the trace.
 abbrev pub IsFull : Shown → Replied → Type 0
@@ -28,13 +30,13 @@ IsFull shown.Environments reply = ⊥
 IsFull (shown.Reservation f) reply = ⊥
 IsFull shown.Version reply = ⊥
 
-module _ {R S K L T : Type 0} (service : Service.Ghosts S K L T) (s : S) where
+module _ {R S K L T : Type 0} (service : Service.Ghosts S K L T) (s : S) (since : List Entry) where
   -- The body shows the history, or its trace, as is asked for. Nothing else is streamed.
   abbrev pub IsStreamOf : Shown → StreamedBody R S T K L → Type 0
-  IsStreamOf (shown.History from) (streamed.History body) = ShowsFrom s from body.value
+  IsStreamOf (shown.History from) (streamed.History body) = ShowsFrom s since from body.value
   IsStreamOf (shown.History from) (streamed.Trace body) = ⊥
   IsStreamOf (shown.Trace query) (streamed.History body) = ⊥
-  IsStreamOf (shown.Trace query) (streamed.Trace body) = IsTraceFrom service s query body.value
+  IsStreamOf (shown.Trace query) (streamed.Trace body) = IsTraceFrom service s since query body.value
   IsStreamOf shown.Stats body = ⊥
   IsStreamOf shown.Environments body = ⊥
   IsStreamOf (shown.Reservation f) body = ⊥

@@ -1,5 +1,5 @@
 -- What an account shows to a token, which has then seen the history that it is read from.
-use Rattle.std.specs.Prelude.{◌≡◌, ℕ, Bool, List, [], Option, is_some}
+use Rattle.std.specs.Prelude.{◌≡◌, ℕ, Bool, List, Option, is_some}
 use Rattle.arn_ids.specs.declared.config.Config.{Config}
 use Rattle.call_types.specs.declared.call.Entry.{Entry}
 use Rattle.call_types.specs.declared.stats.Stats.{Stats}
@@ -30,8 +30,8 @@ module _ (config : Config) (most : ℕ) where
   Reserves before function count seen = Sees config most before seen × (count ≡ reservation config seen function)
 
   -- A trail of such a history that has passed no entry.
-  abbrev pub Begins : Trailed → Type 0
-  Begins trail = (trail.next ≡ 0) × Sees config most [] trail.seen
+  abbrev pub Begins : List Entry → Trailed → Type 0
+  Begins before trail = (trail.next ≡ 0) × Sees config most before trail.seen
 
   -- A trail passed the entry that comes next in such a history, or that history has no further entry.
   abbrev pub Passes : Trailed → Bool → Trailed → Type 0

@@ -1,5 +1,5 @@
 -- The replies that an exchange over an account gives to a call.
-use Rattle.std.specs.Prelude.{◌≡◌, ◌<◌, ◌⊎◌, ◌↔◌, ℕ, true, List, ◌++◌, length, Some}
+use Rattle.std.specs.Prelude.{◌≡◌, ◌<◌, ◌≤◌, ◌⊎◌, ◌↔◌, ℕ, true, List, ◌++◌, length, Some}
 use Rattle.account_book.specs.Reached.{IsReached}
 use Rattle.account_book.specs.ReplyText.{reply_text}
 use Rattle.account_book.specs.declared.book.Refusal.{Refusal}
@@ -46,7 +46,13 @@ pub record IsRefusalOf (config : Config) (most : ℕ) (call : Call) (reply : Rep
   pub exactly : (refusal ≡ JournalFull) ↔ (full config most h call ≡ true)
   pub says : reply ≡ refusal_reply (is_invoke call) refusal
 
--- The reply to a call, whether the call was taken or refused, in this history.
-abbrev pub IsReplyAt : Config → ℕ → ℕ → Call → Reply → List Entry → Type 0
-IsReplyAt config most salt call reply h =
-    IsReplyOf config most salt call reply h ⊎ IsRefusalOf config most call reply h
+-- The reply to a call that was taken after a beginning of the history: its ticket is not in that beginning.
+abbrev pub IsReplyAfter : Config → ℕ → ℕ → List Entry → Call → Reply → List Entry → Type 0
+IsReplyAfter config most salt since call reply h =
+    (given : IsReplyOf config most salt call reply h) × (length since ≤ given.is.ticket)
+
+-- The reply to a call that was submitted after a beginning of this history, whether the call was taken or refused.
+abbrev pub IsReplyAt : Config → ℕ → ℕ → List Entry → Call → Reply → List Entry → Type 0
+IsReplyAt config most salt since call reply h =
+    IsBeginning since h
+    × (IsReplyAfter config most salt since call reply h ⊎ IsRefusalOf config most call reply h)

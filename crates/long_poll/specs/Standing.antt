@@ -4,7 +4,7 @@ use Rattle.std.specs.Arc.{arc_value}
 use Rattle.decisions.specs.declared.decide.Decide as Decide
 use Rattle.futures.specs.Runs.{Runs}
 use Rattle.http_body.specs.declared.frame.Frame.{Frame}
-use Rattle.long_poll.specs.Exchanges.{IsSubmission, service_of}
+use Rattle.long_poll.specs.Exchanges.{IsSubmission, anchored, service_of}
 use Rattle.long_poll.specs.Outcomes.{IsStreamOf}
 use Rattle.long_poll.specs.Stages.{GivesFrom, StartsFrom}
 use Rattle.long_poll.specs.declared.service.clock.Clock as Clock
@@ -29,7 +29,8 @@ module _ {R S D N B K L P E T : Type 0} {service : Service.Ghosts S K L T} {deci
   -- What the exchange may return: a reply, a body that shows its account's history or its trace, or a fault.
   abbrev pub Gives : Result (Outcome (StreamedBody R S T K L) L) ExchangeFault → Type 0
   Gives = GivesFrom (arc_value exchange.connection) clock yields reads
-      (IsStreamOf service (service_of (arc_value exchange.connection))) exchange.stage
+      (IsStreamOf service (service_of (arc_value exchange.connection)) (anchored (arc_value exchange.connection)))
+      exchange.stage
 
   -- How far the request has come once its body was collected, or once its call was tried again.
   abbrev pub Starts : Result (Begun L) ExchangeFault → Type 0

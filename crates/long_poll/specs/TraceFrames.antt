@@ -3,6 +3,7 @@ use Rattle.std.specs.Prelude.{◌≡◌, ◌⊎◌, ℕ, zero, suc, ⊤, Bool, t
 use Rattle.std.specs.Prelude.{Option, Some, None, Result, Ok, Err}
 use Rattle.std.specs.Arc.{arc_value}
 use Rattle.decisions.specs.declared.decide.TraceQuery.{TraceQuery}
+use Rattle.call_types.specs.declared.call.Entry.{Entry}
 use Rattle.futures.specs.Runs.{Runs, EndsIf}
 use Rattle.http_body.specs.declared.frame.Frame.{Frame}
 use Rattle.long_poll.specs.Pieces.{IsPiece}
@@ -103,9 +104,9 @@ module _ {R S T K L : Type 0} (service : Service.Ghosts S K L T) where
   Yields body = EndsIf body.is_ended (Frames service (arc_value body.service) body.bodies body.course)
 
   -- The body shows a service's trace as it is asked for: from the entry of a ticket on, with bodies or without, and
-  -- follows the history or not.
-  abbrev pub IsTraceFrom : S → TraceQuery → TraceBody R S T K L → Type 0
-  IsTraceFrom s query body =
+  -- follows the history or not. Its trail begins in a history that continues this beginning.
+  abbrev pub IsTraceFrom : S → List Entry → TraceQuery → TraceBody R S T K L → Type 0
+  IsTraceFrom s since query body =
       (arc_value body.service ≡ s) × (body.bodies ≡ query.bodies) × (body.is_ended ≡ false)
       × (body.course.left ≡ query.from) × (body.course.rest ≡ None) × (body.course.follow ≡ query.follow)
-      × service.begins s body.course.trail
+      × service.begins s since body.course.trail

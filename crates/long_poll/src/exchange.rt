@@ -18,7 +18,7 @@ ghost use Rattle.futures.specs.Poll.{IfReady, OnPending};
 ghost use Rattle.long_poll.specs.Lengths.{declares_too_long};
 ghost use Rattle.long_poll.specs.Outcomes.{IsHistoryOf, IsTraceOf};
 ghost use Rattle.decisions.specs.declared.decide.Shown.TheVariants.{Trace};
-ghost use Rattle.long_poll.specs.Exchanges.{service_of};
+ghost use Rattle.long_poll.specs.Exchanges.{anchored, service_of};
 ghost use Rattle.long_poll.specs.Pending.{KeepsTo};
 ghost use Rattle.long_poll.specs.declared.exchange.Stage.TheVariants as stage;
 ghost use Rattle.long_poll.specs.declared.exchange.fault.ExchangeFault.TheVariants.{OutOfMemory};
@@ -185,7 +185,8 @@ where
         from: Option<Ticket>,
     ) -> Result<Outcome<StreamedBody<R, S, S::Trail, K, S::Ledgers>, S::Ledgers>, ExchangeFault>
         ensures { MatchResult result
-            (IsHistoryOf S.Service (service_of (arc_value self.now.connection)) from)
+            (IsHistoryOf S.Service (service_of (arc_value self.now.connection))
+            (anchored (arc_value self.now.connection)) from)
             (λ fault. fault ≡ OutOfMemory) }
     {
         Ok(Outcome::History(StreamedBody::History(self.connection.history(from)?)))
@@ -198,7 +199,8 @@ where
         query: TraceQuery,
     ) -> Result<Outcome<StreamedBody<R, S, S::Trail, K, S::Ledgers>, S::Ledgers>, ExchangeFault>
         ensures { MatchResult result
-            (IsTraceOf S.Service (service_of (arc_value self.now.connection)) (Trace query))
+            (IsTraceOf S.Service (service_of (arc_value self.now.connection))
+            (anchored (arc_value self.now.connection)) (Trace query))
             (λ fault. fault ≡ OutOfMemory) }
     {
         let mut place = None;

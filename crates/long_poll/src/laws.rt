@@ -19,12 +19,14 @@ use usage_ledger::{Keep, Token};
 
 /// What an exchange gives to a request that was decided to be a call: the exact reply text of a call equal to that one,
 /// at its ticket, in the history that the outcome's token has seen, to which calls led; or the text of why it was
-/// refused there.
+/// refused there. That history continues the connection's anchor, in which the ticket is not: the call was made after
+/// all that the anchor has seen.
 pub fn replies<R, S: Identity + Drop, D: Decide, N: Clock, K: Keep>(
     connection: &Connection<R, Account<S, OneShotBell>, D, N, K>,
 )
     ensures { (call : Call) (reply : Reply) (token : List Entry)
-        → IsReply connection.now N.Clock (Submit call) reply token → IsReplyAt S.config S.most S.salt call reply token }
+        → IsReply connection.now N.Clock (Submit call) reply token
+        → IsReplyAt S.config S.most S.salt connection.now.anchor call reply token }
 {
     let _connection = connection;
     stands_where_it_was_taken();

@@ -25,7 +25,7 @@ use lambda_wire::Reply;
 use script::Draft;
 use std::alloc::{AllocError, Global};
 use std::sync::Wait;
-use usage_ledger::{Keep, Ledgers, Tally, Token};
+use usage_ledger::{Anchor, Keep, Ledgers, Tally, Token};
 
 /// An account that connections share. For each method there is a relation of its arguments and its
 /// result, which the implementation names. The type parameter is what a tally keeps. A token has seen a
@@ -47,9 +47,6 @@ pub trait Service<K: Keep>: Drop {
     /// that its token has seen.
     ghost submits: { Self → List Entry → Held → ℕ → Called → Option Rings → CameBack → List Entry → Held → Type 0 };
 
-    /// What is seen of the history.
-    ghost shows: { Self → List Entry → Type 0 };
-
     /// Relates what was seen of the history, the ticket, what is known of it, and what is seen
     /// afterwards.
     ghost looks: { Self → List Entry → ℕ → Seen → List Entry → Type 0 };
@@ -64,8 +61,8 @@ pub trait Service<K: Keep>: Drop {
     /// afterwards.
     ghost tells: { Self → List Entry → ℕ → Option (List ℕ) → List Entry → Type 0 };
 
-    /// A trail that has passed no entry.
-    ghost begins: { Self → Self.Trail → Type 0 };
+    /// Relates what was seen of the history, and a trail that has passed no entry.
+    ghost begins: { Self → List Entry → Self.Trail → Type 0 };
 
     /// Relates a trail, whether bodies are shown, the line of the entry that comes next, `None` past the end, and the
     /// trail afterwards, which has passed the entry.
@@ -127,9 +124,13 @@ pub trait Service<K: Keep>: Drop {
         ensures { UnlessPremature (submits self.now) token.old tally.old.held now call bell result token.new
             tally.new.held };
 
-    /// Makes a token that has seen the history as it is.
-    fn token<R: Wait>(&self, rt: &R) -> Token<Self::Ledgers>
-        ensures { shows self.now result };
+    /// Returns an anchor at what a token has seen.
+    fn anchor(&self, token: &mut Token<Self::Ledgers>) -> Anchor<Self::Ledgers>
+        ensures { (result ≡ token.old) × (token.new ≡ token.old) };
+
+    /// Returns a token that has seen what an anchor is at.
+    fn from_anchor<R: Wait>(&self, rt: &R, anchor: &Anchor<Self::Ledgers>) -> Token<Self::Ledgers>
+        ensures { result ≡ anchor.now };
 
     /// Returns another token, which has seen as much.
     fn again(&self, token: &mut Token<Self::Ledgers>) -> Token<Self::Ledgers>
@@ -165,8 +166,13 @@ pub trait Service<K: Keep>: Drop {
         ensures { IfOk result (λ text. tells self.now token.old ticket text token.new) };
 
     /// Makes a trail that has passed no entry. The only error is `AllocError`.
-    fn trail<R: Wait>(&self, rt: &R, alloc: Global) -> Result<Self::Trail, AllocError>
-        ensures { IfOk result (begins self.now) };
+    fn trail<R: Wait>(
+        &self,
+        rt: &R,
+        alloc: Global,
+        token: &mut Token<Self::Ledgers>,
+    ) -> Result<Self::Trail, AllocError>
+        ensures { IfOk result (begins self.now token.old) };
 
     /// Returns the line of the trace for the entry that comes next on a trail, which passes the entry; `None` past
     /// the end. The only error is `AllocError`.

@@ -1,6 +1,6 @@
 //! What a tally keeps of its steps.
 
-ghost use Rattle.std.specs.Prelude.{◌≡◌, ◌+◌, ◌<◌, ◌≤◌, ℕ, Bool, OnOk};
+ghost use Rattle.std.specs.Prelude.{◌≡◌, ◌+◌, ◌<◌, ◌≤◌, ℕ, Bool, true, OnOk, OnErr};
 ghost use Rattle.call_types.specs.declared.answer.Answer.{Answer as Given};
 ghost use Rattle.call_types.specs.declared.head.Head.{Head as Made};
 ghost use Rattle.usage_ledger.specs.Keeping.{Kept, nothing};
@@ -27,6 +27,9 @@ pub trait Keep: Drop {
     /// How a call changes what is kept: what was kept, the ticket, the call's head, what is kept then.
     ghost makes: { Kept → ℕ → Made → Kept → Type 0 };
 
+    /// Whether room may be refused.
+    ghost may_refuse: { Bool };
+
     /// The value of `ALL`, for contracts.
     ghost ALL: { Bool };
 
@@ -40,9 +43,10 @@ pub trait Keep: Drop {
     /// Makes room for `n` more receipts and `n` more calls. What is kept stays the same.
     ///
     /// # Errors
-    /// Only if an allocation fails.
+    /// Only if an allocation fails, and only of one that keeps something.
     fn room(&mut self, n: usize) -> Result<(), AllocError>
         ensures same { holds self.new ≡ holds self.old }
+        ensures refused { OnErr result (may_refuse ≡ true) }
         ensures notes { OnOk result (n ≤ spare_notes self.new) }
         ensures calls { OnOk result (n ≤ spare_calls self.new) };
 

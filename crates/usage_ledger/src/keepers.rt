@@ -25,6 +25,8 @@ impl Keep for KeepAll {
 
     ghost makes = { λ old ticket head new. new ≡ with_call old ticket head };
 
+    ghost may_refuse = { true };
+
     ghost ALL = { true };
 
     const ALL: bool = true;
@@ -76,6 +78,8 @@ impl Keep for KeepNone {
     ghost notes = { λ old ticket answer new. new ≡ old };
 
     ghost makes = { λ old ticket head new. new ≡ old };
+
+    ghost may_refuse = { false };
 
     ghost ALL = { false };
 

@@ -59,6 +59,9 @@ pub type Spine<L> = shared_history::Spine<Entry, History<L>>;
 /// The token that writes the account's history. It is kept under the lock.
 pub type Pen<L> = shared_history::Pen<Entry, History<L>>;
 
+/// What a token has seen of the account's history, for as long as there is a reference to it.
+pub type Anchor<L> = shared_history::Anchor<Entry, History<L>>;
+
 /// A token that has seen a beginning of the account's history.
 pub type Token<L> = shared_history::Token<Entry, History<L>>;
 

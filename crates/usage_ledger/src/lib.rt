@@ -16,6 +16,6 @@ pub use counts::Counts;
 pub use join_fault::JoinFault;
 pub use keep::Keep;
 pub use keepers::{KeepAll, KeepNone};
-pub use ledgers::{Blanks, History, Ledgers, Pen, Spine, Token};
+pub use ledgers::{Anchor, Blanks, History, Ledgers, Pen, Spine, Token};
 pub use tally::Tally;
 pub use totals::{Start, Totals, root};

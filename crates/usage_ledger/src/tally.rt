@@ -1,6 +1,6 @@
 //! What one thread counted and noted.
 
-ghost use Rattle.std.specs.Prelude.{◌≡◌, ◌+◌, ◌-◌, ◌<◌, ◌≤◌, ◌^◌, true, length, OnOk, IfOk, IfErr};
+ghost use Rattle.std.specs.Prelude.{◌≡◌, ◌+◌, ◌-◌, ◌<◌, ◌≤◌, ◌^◌, true, length, OnOk, OnErr, IfOk, IfErr};
 ghost use Rattle.usage_ledger.specs.Counts.{plus};
 ghost use Rattle.usage_ledger.specs.Joining.{HandsBack};
 ghost use Rattle.usage_ledger.specs.Keeping.{Kept, Steps};
@@ -118,7 +118,7 @@ impl<K: Keep, L: Ledgers> Tally<K, L> {
     /// Adds up two tallies. What the other one keeps comes after what this one keeps.
     ///
     /// # Errors
-    /// Only if an allocation fails; the fault has both tallies.
+    /// Only if an allocation fails, and only of tallies that keep something; the fault has both tallies.
     pub fn join(self, other: Tally<K, L>) -> Result<Tally<K, L>, JoinFault<Tally<K, L>>>
         ensures parts { IfOk result (λ t. t.held.parts ≡ self.held.parts + other.held.parts) }
         ensures counts { IfOk result (λ t. t.held.counts ≡ plus self.held.counts other.held.counts) }
@@ -128,6 +128,7 @@ impl<K: Keep, L: Ledgers> Tally<K, L> {
             × Steps K.notes self.held.kept other.held.kept.receipts between
             × Steps K.makes between other.held.kept.calls t.held.kept) }
         ensures back { IfErr result (HandsBack self.held other.held) }
+        ensures refused { OnErr result (K.may_refuse ≡ true) }
     {
         let mut one = self;
         let most = other.kept().len().max(other.calls().len());
@@ -157,9 +158,10 @@ impl<K: Keep, L: Ledgers> Tally<K, L> {
     /// Makes room for `n` more receipts and `n` more calls. What it holds stays the same.
     ///
     /// # Errors
-    /// Only if an allocation fails.
+    /// Only if an allocation fails, and only of one that keeps something.
     pub fn room(&mut self, n: usize) -> Result<(), AllocError>
         ensures same { self.new.held ≡ self.old.held }
+        ensures refused { OnErr result (K.may_refuse ≡ true) }
         ensures ok { OnOk result ((n ≤ self.new.spare_notes) × (n ≤ self.new.spare_calls)) }
     {
         self.keep.room(n)

@@ -174,7 +174,7 @@ pub fn give<R: Runner>(rt: R, case: &Case, given: &mut Given) -> Result<(), Case
     let mut scene = Scene {
         rt,
         alloc,
-        desk: Desk::new(&rt, alloc),
+        desk: Desk::new(&rt, alloc)?,
         waiting: Vec::new(alloc),
     };
     let Some(part) = case.part("steps") else {

@@ -95,7 +95,9 @@ fn play_over_account<R: Runner, S: Identity + Drop + Send + Sync>(
     given: &mut Given,
 ) -> Result<(), CaseFault> {
     let alloc = given.alloc();
-    let served = Served::new(alloc, opened.0, rows, opened.1)?;
+    let (account, tally) = opened;
+    let anchor = account.anchor(&mut account.token(&rt));
+    let served = Served::new(alloc, account, anchor, rows, tally)?;
     scene::play(&Scene::new(rt, alloc, served, patience), case, given)
 }
 
@@ -110,11 +112,13 @@ fn play_over_board<R: Runner, S: Identity + Drop + Send + Sync>(
     given: &mut Given,
 ) -> Result<(), CaseFault> {
     let alloc = given.alloc();
-    let board = Board::new(alloc, mood, opened.0);
+    let (account, tally) = opened;
+    let anchor = account.anchor(&mut account.token(&rt));
+    let board = Board::new(alloc, mood, account);
     let scene = Scene::new(
         rt,
         alloc,
-        Served::new(alloc, board, rows, opened.1)?,
+        Served::new(alloc, board, anchor, rows, tally)?,
         patience,
     );
     let played = scene::play(&scene, case, given);

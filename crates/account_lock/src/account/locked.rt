@@ -172,14 +172,19 @@ impl<S: Identity, B: Bell> Locked<S, B> {
         draft_environments(alloc, self.read(spine, token))
     }
 
-    /// Returns a trail that has followed no entry of the history as it is.
+    /// Returns a trail that has followed no entry of the history as it is, which continues what the token has seen.
     ///
     /// It fails only if an allocation fails.
-    pub(crate) fn trail(&mut self, spine: &Spine<S>, alloc: Global) -> Result<Trail<S>, AllocError>
-        ensures { IfOk result (λ trail. (trail.next ≡ 0) × Sees S.config S.most [] trail.seen) }
+    pub(crate) fn trail(
+        &mut self,
+        spine: &Spine<S>,
+        alloc: Global,
+        mut token: Token<S>,
+    ) -> Result<Trail<S>, AllocError>
+        ensures { IfOk result (λ trail. (trail.next ≡ 0) × Sees S.config S.most token trail.seen) }
     {
         self.desk.facts();
-        let token = self.pen.token(spine);
+        self.pen.show(spine, &mut token);
         Trail::open(alloc, self.desk.book().config(), token)
     }
 

@@ -1,10 +1,13 @@
 //! The response to a request that is handed over, as a future.
 
-ghost use Rattle.std.specs.Prelude.{◌≡◌, IfOk};
+ghost use Rattle.std.specs.Prelude.{◌≡◌, Ok, IfOk};
+ghost use Rattle.std.specs.Arc.{arc_value};
+ghost use Rattle.std.specs.Option.{ForSome};
 ghost use Rattle.futures.specs.Channel.{completed_source};
 ghost use Rattle.futures.specs.Poll.{IfReady, OnPending};
 ghost use Rattle.futures.specs.Task.{Covers, Keeps};
-ghost use Rattle.http_front.specs.HandedStages.{CanGoOn};
+ghost use Rattle.handler_desk.specs.Desks.{desk_of, IsPutAt};
+ghost use Rattle.http_front.specs.HandedStages.{CanGoOn, Gave, Follows, put_of};
 
 use crate::at_desk::fault::HandedFault;
 use crate::at_desk::response::handed_response;
@@ -37,16 +40,18 @@ pub(crate) enum HandedStage<B> {
 /// its head declares that the body is too long, none of it is read.
 #[derive(Drop)]
 pub struct Handed<R, B, H> {
-    at_desk: Arc<AtDesk<R>>,
+    rt: R,
+    at_desk: Arc<AtDesk>,
     // Whether the body is left unread, so that the connection ends.
     is_unread: bool,
     stage: HandedStage<B>,
     of: PhantomData<H>,
+    ghost own: { ForSome (put_of stage) (IsPutAt (arc_value (arc_value at_desk).desk)) },
 }
 
-/// Returns what a handler posted for the request with this identifier.
+/// Returns what was given for a request, only if a handler posted that for its identifier.
 fn posted_for(id: u64, given: Result<Given, Canceled>) -> Result<Posted, HandedFault>
-    ensures { IfOk result (λ posted. posted.id ≡ id) }
+    ensures { IfOk result (λ posted. (given ≡ Ok (Given.Posted posted)) × (posted.id ≡ id)) }
 {
     match given {
         Ok(Given::Posted(posted)) => {
@@ -62,6 +67,7 @@ fn posted_for(id: u64, given: Result<Given, Canceled>) -> Result<Posted, HandedF
 /// Waits for what a handler posts for a request that waits for one.
 fn poll_given(cx: &mut Context<'_>, put: &mut Put) -> Poll<Result<Posted, HandedFault>>
     ensures posted { IfReady result (λ given. IfOk given (λ posted. posted.id ≡ put.old.id)) }
+    ensures same { (put.new.id ≡ put.old.id) × (desk_of put.new ≡ desk_of put.old) }
     ensures registered { OnPending result (Covers cx.new (λ source. source ≡ completed_source put.new.given)) }
     ensures kept { Keeps cx.old cx.new }
 {
@@ -71,10 +77,11 @@ fn poll_given(cx: &mut Context<'_>, put: &mut Put) -> Poll<Result<Posted, Handed
     }
 }
 
-impl<R: Wait + time::Clock + Drop> AtDesk<R> {
+impl AtDesk {
     /// Lets a request wait for a handler, once its body is collected.
-    fn poll_put<B: Body>(
+    fn poll_put<R: Wait + time::Clock, B: Body>(
         &self,
+        rt: &R,
         cx: &mut Context<'_>,
         parts: &Parts,
         body: &mut Collecting<B>,
@@ -83,6 +90,7 @@ impl<R: Wait + time::Clock + Drop> AtDesk<R> {
         B::Data: Into<Bytes>,
         B::Error: BodyFault,
         requires { B.can_poll body.old.body }
+        ensures own { IfReady result (λ put. IfOk put (IsPutAt (arc_value self.now.desk))) }
         ensures again { OnPending result (B.can_poll body.new.body) }
         ensures registered { OnPending result (Covers cx.new (B.needs body.new.body)) }
         ensures kept { Keeps cx.old cx.new }
@@ -90,7 +98,7 @@ impl<R: Wait + time::Clock + Drop> AtDesk<R> {
         match body.poll(cx) {
             Poll::Pending => Poll::Pending,
             Poll::Ready(Err(fault)) => Poll::Ready(Err(HandedFault::of_body(fault))),
-            Poll::Ready(Ok(bytes)) => Poll::Ready(self.hand_over(parts, bytes)),
+            Poll::Ready(Ok(bytes)) => Poll::Ready(self.hand_over(rt, parts, bytes)),
         }
     }
 }
@@ -99,17 +107,20 @@ impl<R: Wait + time::Clock + Drop, B: Body, H> Handed<R, B, H> {
     /// Returns the response to a request with this head and this body, of which the head declares that it is too long, or
     /// not. It takes no memory.
     pub(crate) fn new(
-        at_desk: Arc<AtDesk<R>>,
+        rt: R,
+        at_desk: Arc<AtDesk>,
         parts: Parts,
         body: B,
         is_unread: bool,
     ) -> Handed<R, B, H>
         requires { B.can_poll body }
+        ensures at_desk { result.at_desk ≡ at_desk }
         ensures unread { result.is_unread ≡ is_unread }
         ensures can_poll { CanGoOn B.can_poll result.stage }
     {
         let body = Collecting::new(at_desk.alloc, body);
         Handed {
+            rt,
             at_desk,
             is_unread,
             stage: HandedStage::Collecting { parts, body },
@@ -127,6 +138,8 @@ where
 
     /// Begins to wait for what a handler gives.
     fn await_given(&mut self, cx: &mut Context<'_>, put: Put) -> Poll<Result<Posted, HandedFault>>
+        requires { IsPutAt (arc_value (arc_value self.old.at_desk).desk) put }
+        ensures gave { IfReady result (Gave self.new.stage) }
         ensures again { OnPending result (CanGoOn B.can_poll self.new.stage) }
         ensures registered { OnPending result (Covers cx.new (WaitsFor B.needs self.new.stage)) }
         ensures kept { Keeps cx.old cx.new }
@@ -142,6 +155,8 @@ where
     /// Lets the request wait, and then waits for what a handler gives.
     fn poll_outcome(&mut self, cx: &mut Context<'_>) -> Poll<Result<Posted, HandedFault>>
         requires { CanGoOn B.can_poll self.old.stage }
+        ensures gave { IfReady result (Gave self.new.stage) }
+        ensures follows { Follows self.old.stage self.new.stage }
         ensures again { OnPending result (CanGoOn B.can_poll self.new.stage) }
         ensures registered { OnPending result (Covers cx.new (WaitsFor B.needs self.new.stage)) }
         ensures kept { Keeps cx.old cx.new }
@@ -153,7 +168,7 @@ where
         match &mut self.stage {
             HandedStage::Waiting(put) => poll_given(cx, put),
             HandedStage::Collecting { parts, body } => {
-                match ready!(self.at_desk.poll_put(cx, parts, body)) {
+                match ready!(self.at_desk.poll_put(&self.rt, cx, parts, body)) {
                     Ok(put) => self.await_given(cx, put),
                     Err(fault) => Poll::Ready(Err(fault)),
                 }
@@ -183,7 +198,7 @@ where
         let outcome = ready!(self.poll_outcome(cx));
         self.at_desk.open.note_awaited(false);
         if let (HandedStage::Collecting { parts, .. }, Err(fault)) = (&self.stage, &outcome) {
-            self.at_desk.note_refused(parts, *fault);
+            self.at_desk.note_refused(&self.rt, parts, *fault);
         }
         Poll::Ready(handed_response(
             self.at_desk.alloc,

@@ -59,7 +59,8 @@ pub(crate) enum OwnStage<B> {
 /// head declares that the body is too long, none of it is read.
 #[derive(Drop)]
 pub struct OfHandler<R, B, H> {
-    at_desk: Arc<AtDesk<R>>,
+    rt: R,
+    at_desk: Arc<AtDesk>,
     // Whether the body is left unread, so that the connection ends.
     is_unread: bool,
     stage: OwnStage<B>,
@@ -114,15 +115,15 @@ fn unless_too_long(body: &Bytes, said: HandlerFault) -> HandlerFault
     said
 }
 
-impl<R: Wait + time::Clock + Drop> AtDesk<R> {
+impl AtDesk {
     /// Returns the first stage of a handler's own request with this head.
-    fn first_stage<B: Body>(&self, parts: Parts, body: B) -> OwnStage<B>
+    fn first_stage<B: Body>(&self, rt: &impl Wait, parts: Parts, body: B) -> OwnStage<B>
         requires { B.can_poll body }
         ensures { CanServe B.can_poll result }
     {
         match read_asked(&parts) {
             Asked::Next => OwnStage::Asking,
-            Asked::Response(id) => match self.desk.denial(&self.rt, self.connection, id) {
+            Asked::Response(id) => match self.desk.denial(rt, self.connection, id) {
                 None => posting(self.alloc, parts, id, body),
                 Some(fault) => refused(self.alloc, HandlerFault::NotTaken(fault), body),
             },
@@ -135,26 +136,27 @@ impl<R: Wait + time::Clock + Drop> AtDesk<R> {
     }
 
     /// Gives what a handler posts to the requester, unless that has it.
-    fn give(&self, posted: &mut Option<Posted>) -> Result<(), NotTaken> {
+    fn give(&self, rt: &impl Wait, posted: &mut Option<Posted>) -> Result<(), NotTaken> {
         match posted.take() {
-            Some(posted) => self.desk.answer(&self.rt, self.connection, posted),
+            Some(posted) => self.desk.answer(rt, self.connection, posted),
             None => Ok(()),
         }
     }
 
     /// Lets a request fail, once the body of the post is collected.
-    fn fail(&self, id: u64, body: &Bytes) -> Result<Done, HandlerFault>
+    fn fail(&self, rt: &impl Wait, id: u64, body: &Bytes) -> Result<Done, HandlerFault>
         ensures { nat_lt longest_body (length body.now) ≡ true → result ≡ Err HandlerFault.TooLong }
     {
         if body.len() > LONGEST_BODY {
             return Err(HandlerFault::TooLong);
         }
-        done(self.desk.fail(&self.rt, self.connection, id))
+        done(self.desk.fail(rt, self.connection, id))
     }
 
     /// Passes on what is posted: the body as far as it has come, then the head, and then the rest of the body.
     fn poll_posting<B: Body>(
         &self,
+        rt: &impl Wait,
         cx: &mut Context<'_>,
         posted: &mut Option<Posted>,
         flowing: &mut Flowing<B>,
@@ -168,9 +170,9 @@ impl<R: Wait + time::Clock + Drop> AtDesk<R> {
         ensures kept { Keeps cx.old cx.new }
     {
         match flowing.poll_flow(cx) {
-            Poll::Ready(Ok(())) => Poll::Ready(done(self.give(posted))),
+            Poll::Ready(Ok(())) => Poll::Ready(done(self.give(rt, posted))),
             Poll::Ready(Err(fault)) => Poll::Ready(Err(HandlerFault::of_flow(fault))),
-            Poll::Pending => match self.give(posted) {
+            Poll::Pending => match self.give(rt, posted) {
                 Ok(()) => {
                     self.open.note_awaited(flowing.awaits_body());
                     Poll::Pending
@@ -185,18 +187,21 @@ impl<R: Wait + time::Clock + Drop, B: Body, H> OfHandler<R, B, H> {
     /// Returns the response to a handler's request with this head and this body, of which the head declares that it is
     /// too long, or not. The body of a request for a request is left unread.
     pub(crate) fn new(
-        at_desk: Arc<AtDesk<R>>,
+        rt: R,
+        at_desk: Arc<AtDesk>,
         parts: Parts,
         body: B,
         is_unread: bool,
     ) -> OfHandler<R, B, H>
         requires { B.can_poll body }
+        ensures at_desk { result.at_desk ≡ at_desk }
         ensures unread { result.is_unread ≡ is_unread }
         ensures can_poll { CanServe B.can_poll result.stage }
     {
-        let stage = at_desk.first_stage(parts, body);
+        let stage = at_desk.first_stage(&rt, parts, body);
         at_desk.open.note_awaited(false);
         OfHandler {
+            rt,
             at_desk,
             is_unread,
             stage,
@@ -219,11 +224,7 @@ where
         ensures kept { Keeps cx.old cx.new }
         ensures unread { self.new.is_unread ≡ self.old.is_unread }
     {
-        match self
-            .at_desk
-            .desk
-            .take(&self.at_desk.rt, self.at_desk.connection)
-        {
+        match self.at_desk.desk.take(&self.rt, self.at_desk.connection) {
             Ok(Taken::Request(id, request)) => Poll::Ready(Ok(Done::Request(id, request))),
             Ok(Taken::Over) => Poll::Ready(Err(HandlerFault::ServiceEnded)),
             Ok(Taken::Heard(heard)) => {
@@ -253,12 +254,12 @@ where
                 Poll::Ready(_) => self.take(cx),
             },
             OwnStage::Posting { posted, flowing } => {
-                self.at_desk.poll_posting(cx, posted, flowing)
+                self.at_desk.poll_posting(&self.rt, cx, posted, flowing)
             }
             OwnStage::Failing { id, body } => match body.poll(cx) {
                 Poll::Pending => Poll::Pending,
                 Poll::Ready(Err(fault)) => Poll::Ready(Err(HandlerFault::of_body(fault))),
-                Poll::Ready(Ok(bytes)) => Poll::Ready(self.at_desk.fail(*id, &bytes)),
+                Poll::Ready(Ok(bytes)) => Poll::Ready(self.at_desk.fail(&self.rt, *id, &bytes)),
             },
             OwnStage::Refused { fault, body } => match body.poll(cx) {
                 Poll::Pending => Poll::Pending,

@@ -44,10 +44,9 @@ impl<
             None,
             self,
         );
-        let seen = self.put_back(token);
         match came {
             Ok((_ticket, taken)) => Ok(taken),
-            Err(refused) => Err((refused, seen)),
+            Err(refused) => Err((refused, token)),
         }
     }
 
@@ -59,7 +58,7 @@ impl<
     {
         let _setting = self.shared.beat.setting.lock(&self.rt);
         let Some(face) = self.clock().advance(by) else {
-            return Ok((past_reply(self.alloc())?, self.another_token()));
+            return Ok((past_reply(self.alloc())?, self.token()));
         };
         match self.tick(face.now) {
             Ok(taken) => Ok((clock_reply(self.alloc(), face)?, taken)),
@@ -94,7 +93,7 @@ impl<
     fn show_clock(&self, face: ClockFace) -> Result<(Reply, Token<S::Ledgers>), AllocError>
         ensures { IfOk result (λ replied. replied.0 ≡ shows face.now face.is_running) }
     {
-        Ok((clock_reply(self.alloc(), face)?, self.another_token()))
+        Ok((clock_reply(self.alloc(), face)?, self.token()))
     }
 
     /// Does what is asked of the clock, and returns the reply, with a token of the history that the Tick of an advance

@@ -30,11 +30,11 @@ use std::alloc::{AllocError, Global};
 use std::cell::Cell;
 use std::sync::{Arc, Mutex, Wait};
 use std::time;
-use usage_ledger::{Keep, Ledgers, Tally, Token};
+use usage_ledger::{Anchor, Keep, Ledgers, Tally, Token};
 
 /// What the exchanges of one connection share: what its service shares with all of them; the decider of its
-/// requests, of the same configuration as the service's account; its tally and token; and the note of its open
-/// Next.
+/// requests, of the same configuration as the service's account; its tally; its anchor in the account's history; and the
+/// note of its open Next.
 #[derive(Drop)]
 pub struct Connection<R, S: Service<K>, D: Decide, N, K: Keep> {
     pub(crate) rt: R,
@@ -48,8 +48,8 @@ pub struct Connection<R, S: Service<K>, D: Decide, N, K: Keep> {
     port: u16,
     // Where the bells of its steps wait for the end of its turn; if there is no such place, they ring at once.
     bells: Option<Arc<LateBells>>,
-    // The token, which has seen the history up to the earlier requests; none while a request has it.
-    seen: Cell<Option<Token<S::Ledgers>>>,
+    // The history as it was when the connection began, or a beginning of that.
+    pub(crate) anchor: Anchor<S::Ledgers>,
     // The scratch space in which payloads are read, one decision at a time.
     scratch: Cell<PayloadScratch>,
     ghost agree: { S.serves (arc_value (arc_value shared).service) ≡ D.decides_for (arc_value decider) },
@@ -105,9 +105,9 @@ impl<
     ghost use Rattle.long_poll.specs.Views.{followers_reply as full_reply};
 
     /// Returns a connection to this service, whose requests are decided for the same configuration. Each
-    /// submit locks the connection's tally, and then the account. The token is shown the history at each
-    /// submit and each reading, so that the replies to the connection's requests never go back in the
-    /// history. While a premature call is held back, the connection's thread sleeps at its place in the line.
+    /// submit locks the connection's tally, and then the account. What the token has seen is the connection's anchor:
+    /// each reply is of a history that continues it, and each call has a ticket that is not in it. While a premature
+    /// call is held back, the connection's thread sleeps at its place in the line.
     ///
     /// # Errors
     /// If an allocation fails.
@@ -116,12 +116,14 @@ impl<
         shared: Arc<Shared<S, N>>,
         decider: Arc<D>,
         tally: Arc<Mutex<Tally<K, S::Ledgers>>>,
-        token: Token<S::Ledgers>,
+        mut token: Token<S::Ledgers>,
         open: Arc<OpenPoll>,
     ) -> Result<Connection<R, S, D, N, K>, AllocError>
         requires { S.serves (arc_value (arc_value shared).service) ≡ D.decides_for (arc_value decider) }
-        ensures { IfOk result (λ connection. (connection.shared ≡ shared) × (connection.decider ≡ decider)) }
+        ensures { IfOk result (λ connection. (connection.shared ≡ shared) × (connection.decider ≡ decider)
+            × (connection.anchor ≡ token)) }
     {
+        let anchor = shared.service.anchor(&mut token);
         let long = Arc::try_clone(&shared.long)?;
         Ok(Connection {
             rt,
@@ -132,7 +134,7 @@ impl<
             function: None,
             port: 0,
             bells: None,
-            seen: Cell::new(Some(token)),
+            anchor,
             scratch: Cell::new(PayloadScratch::sharing(long)),
         })
     }
@@ -140,7 +142,7 @@ impl<
     /// Returns the same connection at the port of an environment of this function, if it is at one: its Nexts call
     /// the callers of this function.
     pub fn of_function(mut self, function: Option<FnNo>) -> Connection<R, S, D, N, K>
-        ensures { (result.shared ≡ self.shared) × (result.decider ≡ self.decider) }
+        ensures { (result.shared ≡ self.shared) × (result.decider ≡ self.decider) × (result.anchor ≡ self.anchor) }
     {
         self.function = function;
         self
@@ -148,7 +150,7 @@ impl<
 
     /// Returns the same connection, at the port with this number.
     pub fn at_port(mut self, port: u16) -> Connection<R, S, D, N, K>
-        ensures { (result.shared ≡ self.shared) × (result.decider ≡ self.decider) }
+        ensures { (result.shared ≡ self.shared) × (result.decider ≡ self.decider) × (result.anchor ≡ self.anchor) }
     {
         self.port = port;
         self
@@ -157,7 +159,7 @@ impl<
     /// Returns the same connection, the bells of whose steps are held here, by a thread that rings them after each turn of
     /// the connection.
     pub fn ringing_late(mut self, bells: Arc<LateBells>) -> Connection<R, S, D, N, K>
-        ensures { (result.shared ≡ self.shared) × (result.decider ≡ self.decider) }
+        ensures { (result.shared ≡ self.shared) × (result.decider ≡ self.decider) × (result.anchor ≡ self.anchor) }
     {
         self.bells = Some(bells);
         self
@@ -234,27 +236,11 @@ impl<
         }
     }
 
-    /// Takes the connection's token, which has to be put back. If a request has it, makes another token, which
-    /// has seen the history as it is.
-    pub(crate) fn token(&self) -> Token<S::Ledgers> {
-        match self.seen.take() {
-            Some(token) => token,
-            None => self.service().token(&self.rt),
-        }
-    }
-
-    /// Puts the connection's token back, and returns another, which has seen as much.
-    pub(crate) fn put_back(&self, mut token: Token<S::Ledgers>) -> Token<S::Ledgers>
-        ensures { result ≡ token }
+    /// Returns a token that has seen what the connection's anchor is at.
+    pub(crate) fn token(&self) -> Token<S::Ledgers>
+        ensures { result ≡ self.now.anchor }
     {
-        let other = self.service().again(&mut token);
-        self.seen.set(Some(token));
-        other
-    }
-
-    /// Returns another token of the connection's, which has seen as much.
-    pub(crate) fn another_token(&self) -> Token<S::Ledgers> {
-        self.put_back(self.token())
+        self.service().from_anchor(&self.rt, &self.anchor)
     }
 
     /// Decides a request, and does what is decided. Of a body that is too long none of the bytes matters.
@@ -280,7 +266,7 @@ impl<
     {
         let mut token = self.token();
         let stats = self.service().stats(&self.rt, &mut token);
-        (stats, self.put_back(token))
+        (stats, token)
     }
 
     /// Returns a function's reservation in its account, with a token of the history that has it.
@@ -290,7 +276,7 @@ impl<
     {
         let mut token = self.token();
         let count = self.service().reservation(&self.rt, &mut token, function);
-        (count, self.put_back(token))
+        (count, token)
     }
 
     /// Returns the text of its account's environments, with a token of the history that has them.
@@ -298,9 +284,8 @@ impl<
         ensures { IfOk result (λ shown. Lists self.now shown.0.items shown.1) }
     {
         let mut token = self.token();
-        let text = self.service().environments(&self.rt, &mut token);
-        let seen = self.put_back(token);
-        Ok((text?, seen))
+        let text = self.service().environments(&self.rt, &mut token)?;
+        Ok((text, token))
     }
 
     /// Does what was decided about the request with this head.
@@ -318,7 +303,7 @@ impl<
         match decision {
             Decision::Reply(reply) => {
                 self.note_reply(parts, &reply);
-                Ok(Begun::Replied(reply, self.another_token()))
+                Ok(Begun::Replied(reply, self.token()))
             }
             Decision::Show(Shown::Stats) => {
                 let (stats, seen) = self.stats();
@@ -335,7 +320,7 @@ impl<
                 Ok(Begun::Replied(reservation_reply(self.alloc(), count)?, seen))
             }
             Decision::Show(Shown::Version) => {
-                Ok(Begun::Replied(version_reply(self.alloc())?, self.another_token()))
+                Ok(Begun::Replied(version_reply(self.alloc())?, self.token()))
             }
             Decision::Clock(request) => {
                 let (reply, seen) = self.ask_clock(request)?;
@@ -350,10 +335,10 @@ impl<
         &self,
         from: Option<Ticket>,
     ) -> Result<Box<HistoryBody<R, S, K, S::Ledgers>>, AllocError>
-        ensures { IfOk result (λ body. ShowsFrom (service_of self.now) from body.value) }
+        ensures { IfOk result (λ body. ShowsFrom (service_of self.now) self.now.anchor from body.value) }
     {
         let service = Arc::try_clone(&self.shared.service)?;
-        let body = HistoryBody::new(self.rt, service, from);
+        let body = HistoryBody::new(self.rt, service, self.token(), from);
         Box::new(self.alloc(), body).map_err(AllocError::from)
     }
 
@@ -364,12 +349,22 @@ impl<
         place: Option<FollowerPlace>,
         query: TraceQuery,
     ) -> Result<Box<TraceBody<R, S, S::Trail, K, S::Ledgers>>, AllocError>
-        ensures { IfOk result (λ body. IsTraceFrom S.Service (service_of self.now) query body.value) }
+        ensures { IfOk result (λ body. IsTraceFrom S.Service (service_of self.now) self.now.anchor query body.value) }
     {
         let service = Arc::try_clone(&self.shared.service)?;
         let open = Arc::try_clone(&self.open)?;
         let beat = Arc::try_clone(&self.shared.beat)?;
-        let body = TraceBody::new(self.rt, self.alloc(), service, open, beat, place, query)?;
+        let token = self.token();
+        let body = TraceBody::new(
+            self.rt,
+            self.alloc(),
+            service,
+            token,
+            open,
+            beat,
+            place,
+            query,
+        )?;
         Box::new(self.alloc(), body).map_err(AllocError::from)
     }
 
@@ -382,7 +377,7 @@ impl<
     pub(crate) fn turned_away(&self) -> Result<(Reply, Token<S::Ledgers>), AllocError>
         ensures { IfOk result (λ replied. replied.0 ≡ full_reply) }
     {
-        Ok((followers_reply(self.alloc())?, self.another_token()))
+        Ok((followers_reply(self.alloc())?, self.token()))
     }
 
     /// Renders the answer to a ticket, and takes back the note of a Next.

@@ -103,10 +103,9 @@ impl<
             Some(bell),
             self,
         );
-        let seen = self.put_back(token);
         match came {
             Ok((ticket, taken)) => Attempt::Taken(ticket, taken),
-            Err(refused) => Attempt::Refused(refused, seen),
+            Err(refused) => Attempt::Refused(refused, token),
         }
     }
 
@@ -127,10 +126,9 @@ impl<
             Some(bell),
             self,
         );
-        let seen = self.put_back(token);
         match came {
             Ok((ticket, taken)) => Attempt::Taken(ticket, taken),
-            Err(NotTaken::Refused(refused)) => Attempt::Refused(refused, seen),
+            Err(NotTaken::Refused(refused)) => Attempt::Refused(refused, token),
             Err(NotTaken::Premature { call, bell }) => match bell {
                 Some(bell) => Attempt::TooEarly(call, bell),
                 None => unreachable!(),

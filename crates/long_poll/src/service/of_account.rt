@@ -1,7 +1,5 @@
 //! An account is a service.
 
-ghost use Rattle.std.specs.Prelude.{[]};
-ghost use Rattle.account_lock.specs.Shown.{Sees};
 ghost use Rattle.long_poll.specs.Reads.{Looks, Renders, Tells, Opens, Counts, Reserves};
 ghost use Rattle.long_poll.specs.Reads.{Begins, Closes, Lists, Passes, Traces};
 ghost use Rattle.long_poll.specs.Submits.{Submits};
@@ -14,7 +12,7 @@ use lambda_wire::Reply;
 use script::Draft;
 use std::alloc::{AllocError, Global};
 use std::sync::Wait;
-use usage_ledger::{Keep, Tally, Token};
+use usage_ledger::{Anchor, Keep, Tally, Token};
 
 // A submit returns a token that has seen the history that the call made. What is read with this token is
 // of a history that extends that one.
@@ -26,8 +24,6 @@ impl<S: Identity + Drop, K: Keep> Service<K> for Account<S, OneShotBell> {
     ghost serves = { λ _. S.config };
 
     ghost submits = { λ _. Submits S.config S.most K.notes K.makes };
-
-    ghost shows = { λ _. Sees S.config S.most [] };
 
     ghost looks = { λ _. Looks S.config S.most };
 
@@ -77,8 +73,12 @@ impl<S: Identity + Drop, K: Keep> Service<K> for Account<S, OneShotBell> {
         Account::submit_unless_premature(self, rt, tally, token, now, call, bell, ringer)
     }
 
-    fn token<R: Wait>(&self, rt: &R) -> Token<S> {
-        Account::token(self, rt)
+    fn anchor(&self, token: &mut Token<S>) -> Anchor<S> {
+        Account::anchor(self, token)
+    }
+
+    fn from_anchor<R: Wait>(&self, rt: &R, anchor: &Anchor<S>) -> Token<S> {
+        Account::from_anchor(self, rt, anchor)
     }
 
     fn again(&self, token: &mut Token<S>) -> Token<S> {
@@ -111,8 +111,13 @@ impl<S: Identity + Drop, K: Keep> Service<K> for Account<S, OneShotBell> {
         Account::history(self, rt, token, ticket)
     }
 
-    fn trail<R: Wait>(&self, rt: &R, alloc: Global) -> Result<Trail<S>, AllocError> {
-        Account::trail(self, rt, alloc)
+    fn trail<R: Wait>(
+        &self,
+        rt: &R,
+        alloc: Global,
+        token: &mut Token<S>,
+    ) -> Result<Trail<S>, AllocError> {
+        Account::trail(self, rt, alloc, token)
     }
 
     fn trace<R: Wait>(

@@ -53,13 +53,17 @@ pub struct HistoryBody<R, S, K: Keep, L: Ledgers> {
 }
 
 impl<R: Wait + Drop, S: Service<K, Ledgers = L>, K: Keep, L: Ledgers> HistoryBody<R, S, K, L> {
-    /// Streams the history of a service, from the entry of a ticket on, or whole if `from` is `None`. From a
-    /// ticket past the last entry the body is empty. It takes no memory.
-    pub fn new(rt: R, service: Arc<S>, from: Option<Ticket>) -> HistoryBody<R, S, K, L>
+    /// Streams the history of a service, as a token sees it, from the entry of a ticket on, or whole if `from` is
+    /// `None`. From a ticket past the last entry the body is empty. It takes no memory.
+    pub fn new(
+        rt: R,
+        service: Arc<S>,
+        token: Token<L>,
+        from: Option<Ticket>,
+    ) -> HistoryBody<R, S, K, L>
         ensures stands { (result.service ≡ service) × (result.stage ≡ first_stage from) × (result.rest ≡ None) }
-        ensures seen { S.shows (arc_value service) result.token }
+        ensures seen { result.token ≡ token }
     {
-        let token = service.token(&rt);
         HistoryBody {
             rt,
             service,

@@ -21,7 +21,7 @@ use std::marker::PhantomData;
 use std::sync::{Arc, Wait};
 use std::thread::Parker;
 use std::time::Duration;
-use usage_ledger::{Keep, Ledgers, Tally};
+use usage_ledger::{Keep, Ledgers, Tally, Token};
 
 /// How many entries one poll passes at most, so that a long history does not keep other futures waiting.
 const PASSED_PER_POLL: u32 = 128;
@@ -121,14 +121,15 @@ impl<R: Wait + Drop, S: Service<K, Ledgers = L, Trail = T>, T: Drop, K: Keep, L:
         rt: R,
         alloc: Global,
         service: Arc<S>,
+        mut token: Token<L>,
         open: Arc<OpenPoll>,
         beat: Arc<Beat>,
         place: Option<FollowerPlace>,
         query: TraceQuery,
     ) -> Result<TraceBody<R, S, T, K, L>, AllocError>
-        ensures { IfOk result (IsTraceFrom S.Service (arc_value service) query) }
+        ensures { IfOk result (IsTraceFrom S.Service (arc_value service) token query) }
     {
-        let trail = service.trail(&rt, alloc)?;
+        let trail = service.trail(&rt, alloc, &mut token)?;
         Ok(TraceBody {
             rt,
             service,

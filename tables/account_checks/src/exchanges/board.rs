@@ -12,7 +12,7 @@ use std::alloc::{AllocError, Global};
 use std::sync::Wait;
 use std::sync::atomic::AtomicU64;
 use std::sync::atomic::Ordering::SeqCst;
-use usage_ledger::{KeepNone, Tally, Token};
+use usage_ledger::{Anchor, KeepNone, Tally, Token};
 
 /// The ticket of each call that is taken.
 const TICKET: Ticket = 7;
@@ -101,8 +101,6 @@ impl<S: Identity> Service<KeepNone> for Board<S> {
 
     ghost submits = { λ _ _ _ _ _ _ _ _ _. Unit {0} };
 
-    ghost shows = { λ _ _. Unit {0} };
-
     ghost looks = { λ _ _ _ _ _. Unit {0} };
 
     ghost renders = { λ _ _ _ _ _. Unit {0} };
@@ -111,7 +109,7 @@ impl<S: Identity> Service<KeepNone> for Board<S> {
 
     ghost tells = { λ _ _ _ _ _. Unit {0} };
 
-    ghost begins = { λ _ _. Unit {0} };
+    ghost begins = { λ _ _ _. Unit {0} };
 
     ghost traces = { λ _ _ _ _ _. Unit {0} };
 
@@ -159,8 +157,12 @@ impl<S: Identity> Service<KeepNone> for Board<S> {
         }
     }
 
-    fn token<R: Wait>(&self, rt: &R) -> Token<S> {
-        self.account.token(rt)
+    fn anchor(&self, token: &mut Token<S>) -> Anchor<S> {
+        self.account.anchor(token)
+    }
+
+    fn from_anchor<R: Wait>(&self, rt: &R, anchor: &Anchor<S>) -> Token<S> {
+        self.account.from_anchor(rt, anchor)
     }
 
     fn again(&self, token: &mut Token<S>) -> Token<S> {
@@ -204,7 +206,12 @@ impl<S: Identity> Service<KeepNone> for Board<S> {
         }
     }
 
-    fn trail<R: Wait>(&self, _rt: &R, _alloc: Global) -> Result<Ticket, AllocError> {
+    fn trail<R: Wait>(
+        &self,
+        _rt: &R,
+        _alloc: Global,
+        _token: &mut Token<S>,
+    ) -> Result<Ticket, AllocError> {
         Ok(0)
     }
 

@@ -163,6 +163,7 @@ impl<S: Identity> Rows<S> {
         rt: &impl Wait,
         alloc: Global,
         service: &X,
+        mut seen: Token<S>,
         tally: &mut Tally<KeepNone, S>,
     ) -> Result<Parked<S>, CaseFault>
         requires { X.serves service.now ≡ S.config }
@@ -170,7 +171,6 @@ impl<S: Identity> Rows<S> {
         let _of = &self.of;
         let (bell, heard) = OneShotBell::pair(alloc)?;
         let call = Call::RuntimeNext { env: 1 };
-        let mut seen = service.token(rt);
         match service.submit(rt, tally, &mut seen, 500, call, Some(bell), &AtOnce) {
             Ok((ticket, token)) => Ok(Parked {
                 ticket,

@@ -26,15 +26,16 @@ use std::random::RandomSource;
 use std::sync::{Arc, Mutex, Wait};
 use std::thread;
 use std::time::Clock;
-use usage_ledger::{KeepNone, Tally};
+use usage_ledger::{Anchor, KeepNone, Tally, Token};
 
 /// How often to withdraw a call that another thread waits for: an allocation may fail.
 const TRIES: u32 = 2;
 
-/// What the connections of a case share: a service, its decider, and a tally.
+/// What the connections of a case share: a service, a beginning of its history, its decider, and a tally.
 #[derive(Drop)]
 pub struct Served<X: Service<KeepNone, Ledgers = S>, S: Identity> {
     service: Arc<X>,
+    anchor: Arc<Anchor<S>>,
     rows: Arc<Rows<S>>,
     tally: Arc<Mutex<Tally<KeepNone, S>>>,
     ghost agree: { X.serves (arc_value service) ≡ S.config },
@@ -74,15 +75,18 @@ impl<X: Service<KeepNone, Ledgers = S>, S: Identity> Served<X, S> {
     pub fn new(
         alloc: Global,
         service: X,
+        anchor: Anchor<S>,
         rows: Arc<Rows<S>>,
         tally: Tally<KeepNone, S>,
     ) -> Result<Served<X, S>, AllocError>
         requires { X.serves service ≡ S.config }
     {
         let service = arc_of(alloc, service)?;
+        let anchor = arc_of(alloc, anchor)?;
         let tally = arc_of(alloc, Mutex::new(tally))?;
         Ok(Served {
             service,
+            anchor,
             rows,
             tally,
         })
@@ -91,10 +95,12 @@ impl<X: Service<KeepNone, Ledgers = S>, S: Identity> Served<X, S> {
     /// Shares it with one more connection.
     fn again(&self) -> Result<Served<X, S>, AllocError> {
         let service = Arc::try_clone(&self.service)?;
+        let anchor = Arc::try_clone(&self.anchor)?;
         let rows = Arc::try_clone(&self.rows)?;
         let tally = Arc::try_clone(&self.tally)?;
         Ok(Served {
             service,
+            anchor,
             rows,
             tally,
         })
@@ -128,7 +134,7 @@ impl<
         open: Arc<OpenPoll>,
     ) -> Result<Arc<Connection<R, X, Rows<S>, At, KeepNone>>, AllocError> {
         let own = self.served.again()?;
-        let token = own.service.token(&self.rt);
+        let token = own.service.from_anchor(&self.rt, &own.anchor);
         let shared = Shared::new(self.alloc, own.service, clock, self.patience)?;
         let shared = arc_of(self.alloc, shared)?;
         let connection = Connection::new(self.rt, shared, own.rows, own.tally, token, open)?;
@@ -242,7 +248,7 @@ impl<
     fn poll_lost(&self, part: &Part, given: &mut Given) -> Result<(), CaseFault> {
         let ticket = number_behind(part)?;
         let heard = heard_lost(self.alloc)?;
-        let token = self.served.service.token(&self.rt);
+        let token = self.token();
         let came = self.poll(Parked {
             ticket,
             heard,
@@ -252,12 +258,20 @@ impl<
         Ok(())
     }
 
+    /// Returns a token of the history's beginning.
+    fn token(&self) -> Token<S> {
+        self.served
+            .service
+            .from_anchor(&self.rt, &self.served.anchor)
+    }
+
     /// Submits a runtime's Next with a bell.
     fn park(&self) -> Result<Parked<S>, CaseFault> {
+        let seen = self.token();
         let mut tally = self.served.tally.lock(&self.rt);
         self.served
             .rows
-            .park(&self.rt, self.alloc, &*self.served.service, &mut tally)
+            .park(&self.rt, self.alloc, &*self.served.service, seen, &mut tally)
     }
 
     /// Begins the request of a part while another thread polls for ticket 0: a ticket that is not

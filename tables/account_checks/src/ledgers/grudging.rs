@@ -26,6 +26,8 @@ impl Keep for KeepGrudging {
 
     ghost makes = { λ old ticket head new. new ≡ with_call old ticket head };
 
+    ghost may_refuse = { true };
+
     ghost ALL = { true };
 
     const ALL: bool = true;

@@ -7,4 +7,5 @@ returns g c =
     (λ had before now call bell ticket seen then after s. s.0.taken)
     (λ had before now call bell refused then after s. s.2)
     (λ seen ticket reply then r. r)
-    c.stands_where_it_was_taken.ensures.there c.stands_where_it_was_taken.ensures.same
+    c.stands_where_it_was_taken.ensures.there c.stands_where_it_was_taken.ensures.later
+    c.stands_where_it_was_taken.ensures.fresh c.stands_where_it_was_taken.ensures.same

@@ -7,12 +7,11 @@ returns-in-Ok g c =
       record {
         reading = at.0;
         read = at.1;
-        had = _;
         before = _;
         then = _;
         after = _;
         bell = c.args.bell;
-        came = rw (c.service.ensures, at.2) at c.in-Ok.ensures;
+        came = rw (c.service.ensures, c.token-token.ensures, at.2) at c.in-Ok.ensures;
       },
       refl,
     )
@@ -23,13 +22,12 @@ returns-in-Err-Refused g c =
       record {
         reading = at.0;
         read = at.1;
-        had = _;
         before = _;
         then = _;
         after = _;
         bell = c.args.bell;
-        came = rw (c.in-Err-Refused.field-0-is, c.service.ensures, at.2) at c.in-Err-Refused.ensures;
+        came = rw (c.in-Err-Refused.field-0-is, c.service.ensures, c.token-token.ensures, at.2) at c.in-Err-Refused.ensures;
       },
       refl,
-      c.put_back-seen.ensures,
+      refl,
     )

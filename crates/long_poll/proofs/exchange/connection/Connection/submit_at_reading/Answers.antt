@@ -7,29 +7,27 @@ returns-in-Ok-clause-attempt g c =
       record {
         reading = at.0;
         read = at.1;
-        had = _;
         before = _;
         then = _;
         after = _;
         bell = c.args.bell;
-        came = rw (c.service.ensures, at.2) at c.in-Ok.ensures;
+        came = rw (c.service.ensures, c.token-token.ensures, at.2) at c.in-Ok.ensures;
       },
       refl,
     )
 
-pub returns-clause-attempt : goal.returns-clause-attempt
-returns-clause-attempt g c =
+pub returns-in-Err-clause-attempt : goal.returns-in-Err-clause-attempt
+returns-in-Err-clause-attempt g c =
     let at = rw c.clock.ensures at c.moment-now.ensures.read in (
       record {
         reading = at.0;
         read = at.1;
-        had = _;
         before = _;
         then = _;
         after = _;
         bell = c.args.bell;
-        came = rw (c.service.ensures, at.2) at c.in-Err.ensures;
+        came = rw (c.service.ensures, c.token-token.ensures, at.2) at c.in-Err.ensures;
       },
       refl,
-      c.put_back-seen.ensures,
+      refl,
     )

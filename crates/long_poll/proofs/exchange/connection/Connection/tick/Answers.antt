@@ -1,13 +1,13 @@
+use Rattle.std.proofs.Common.{refl}
 use Rattle.long_poll.proofs.exchange.connection.Connection.tick.Goals as goal
 
-pub returns : goal.returns
-returns g c = (
+pub returns-in-Err : goal.returns-in-Err
+returns-in-Err g c = (
   record {
-    had = _;
     before = _;
     then = _;
     after = _;
-    came = rw c.service.ensures at c.in-Err.ensures;
+    came = rw (c.service.ensures, c.token-token.ensures) at c.in-Err.ensures;
   },
-  c.put_back-seen.ensures,
+  refl,
 )

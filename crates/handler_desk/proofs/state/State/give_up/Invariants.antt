@@ -1,0 +1,5 @@
+use Rattle.handler_desk.specs.Seats.{OnlyLoses}
+use Rattle.handler_desk.proofs.state.State.give_up.Given as goal
+
+abbrev pub invariant-loop : goal.invariant-loop
+invariant-loop l = OnlyLoses l.fn.self.seats.entries l.self.seats.entries
