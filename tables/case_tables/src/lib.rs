@@ -14,5 +14,5 @@ pub use bytes::push_bytes;
 pub use case::{Case, Part};
 pub use fault::{CaseFault, TableFault};
 pub use given::Given;
-pub use run::{Subject, end, judge_case, read_file, run_file, run_files, tell_count};
+pub use run::{Subject, end, judge_case, note_case, read_file, run_file, run_files, tell_count};
 pub use words::value_of;

@@ -83,6 +83,21 @@ pub fn judge_case(
     }
 }
 
+/// Prints on standard error that a case is played again, and where it differed.
+pub fn note_case(rt: &impl Eprint, file: &'static str, case: &Case, given: &str) {
+    let Some(difference) = first_difference(case.wanted(), given) else {
+        return;
+    };
+    let name = case.name();
+    let number = difference.number;
+    let wanted = difference.wanted.unwrap_or("no line");
+    let given = difference.given.unwrap_or("no line");
+    // If standard error accepts nothing, the result still tells whether the case agrees.
+    let _told = eprintln!(rt;
+        "note {file}: {name}: played again: line {number} of what it gives: wanted {wanted:?}, got {given:?}"
+    );
+}
+
 /// Reads the cases of a file in the current folder.
 ///
 /// # Errors

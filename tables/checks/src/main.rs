@@ -43,7 +43,7 @@ fn read_arguments<R: Env + AllocGlobal>(rt: &R) -> io::Result<Option<Group>> {
 }
 
 /// Runs all tables, and returns whether all of their cases agree.
-fn run_all<R: Machine + Files + Print>(rt: R) -> Result<bool, TableFault>
+fn run_all<R: Machine + Files + Print + Eprint>(rt: R) -> Result<bool, TableFault>
 where
     R::File: Read + Drop,
 {
@@ -54,7 +54,7 @@ where
 }
 
 /// Runs the tables of a group, and returns whether all of their cases agree.
-fn run<R: Machine + Files + Print>(rt: R, group: Group) -> Result<bool, TableFault>
+fn run<R: Machine + Files + Print + Eprint>(rt: R, group: Group) -> Result<bool, TableFault>
 where
     R::File: Read + Drop,
 {

@@ -5,14 +5,21 @@ use crate::stage::Stage;
 use case_tables::{Case, CaseFault, Given, Part};
 use http_connection::Machine;
 use socket_peers::{
-    Heard, Peer, Progress, bytes_of, entries_in, exchange, number, push_line, request_of,
-    split_word,
+    Heard, Peer, Progress, View, bytes_of, entries_in, exchange, number, push_came, push_line,
+    request_of, split_word,
 };
-use std::str;
 use std::time::Duration;
+use std::{io, str, thread};
 
 /// How often a crowd is tried: an answer may also be late because the machine was busy.
 const CROWDS: u32 = 5;
+
+/// How often a peer asks that is turned away, since a busy machine may take longer to make room than the 250 ms for
+/// which the service waits, and the time in between, in milliseconds: in all less than a second, in which no connection
+/// that lingers ends by itself.
+const ASKED: u32 = 3;
+
+const AGAIN_MS: u64 = 50;
 
 /// Returns the number of entries in a service's counts; `None` if it said anything else.
 fn entries_of(heard: &Heard) -> Option<u64> {
@@ -21,7 +28,15 @@ fn entries_of(heard: &Heard) -> Option<u64> {
 
 /// Whether a step takes lines.
 fn takes_lines(word: &str) -> bool {
-    matches!(word, "serves" | "opens" | "asks" | "sends" | "repeats")
+    matches!(
+        word,
+        "serves" | "opens" | "asks" | "gets" | "sends" | "repeats"
+    )
+}
+
+/// Whether a connection was closed before anything came.
+fn is_turned_away(heard: &Heard) -> bool {
+    heard.has_ended && heard.bytes.is_empty()
 }
 
 /// Adds the last number of entries that was seen, if it is not the one wanted.
@@ -65,12 +80,15 @@ impl<R: Machine> Stage<R> {
             return Err(part.malformed("no lines are wanted here"));
         }
         match part.word() {
+            // (How often the case is played: `Checks`.)
+            "tries" => Ok(Progress::On),
             "places" | "patience" | "holds-back" => self.set_terms(part),
             "moment" => self.set_moment(part),
             "day" => self.set_day(part),
             "serves" => self.serve(part, given),
             "opens" => self.open(part, given),
             "asks" => self.ask(part, given),
+            "gets" => self.get(part, given),
             "entries" => self.wait_for_entries(part, given),
             "crowds" => self.crowd(part, given),
             "stops" => self.stop_by_step(part, given),
@@ -122,6 +140,33 @@ impl<R: Machine> Stage<R> {
         let port = self.port(part, port)?;
         let request = request_of(self.alloc, method, path, part.text())?;
         self.connect(given, name, port, request.as_str().as_bytes())
+    }
+
+    /// Returns what a request gets over its own connection, the last of `ASKED` if each is turned away.
+    fn got(&self, port: u16, request: &str) -> io::Result<Heard> {
+        for _ in 1..ASKED {
+            if let Ok(heard) = exchange(&self.rt, port, request, self.peers.turns)
+                && !is_turned_away(&heard)
+            {
+                return Ok(heard);
+            }
+            thread::sleep(&self.rt, Duration::from_millis(AGAIN_MS));
+        }
+        exchange(&self.rt, port, request, self.peers.turns)
+    }
+
+    /// Adds what a request gets, whose peer asks again if it is turned away.
+    fn get(&mut self, part: &Part, given: &mut Given) -> Result<Progress, CaseFault> {
+        let (name, words) = split_word(part.arguments());
+        let (port, words) = split_word(words);
+        let (method, path) = split_word(words);
+        let port = self.port(part, port)?;
+        let request = request_of(self.alloc, method, path, part.text())?;
+        let Ok(heard) = self.got(port, request.as_str()) else {
+            push_line(given, name, "not connected");
+            return Ok(Progress::Stuck);
+        };
+        push_came(given, &self.ports, &View { name, fields: "" }, &heard)
     }
 
     /// Waits until the history has `wanted` entries, and returns the last number that was seen.

@@ -9,13 +9,11 @@ mod readings;
 mod server;
 mod stage;
 
-use crate::checks::Checks;
+use crate::checks::{Checks, Ran};
 use crate::readings::Readings;
-use case_tables::{
-    Case, CaseFault, Given, TableFault, judge_case, read_file, run_file, tell_count,
-};
+use case_tables::{Case, TableFault, judge_case, note_case, read_file, run_file, tell_count};
 pub use http_connection::Machine;
-use std::alloc::{AllocError, Global};
+use std::alloc::AllocError;
 use std::io::Read;
 use std::rt::Files;
 use std::thread;
@@ -41,35 +39,38 @@ const QUICK_CHECKS: [&str; 9] = [
 /// run beside the others, and their results are printed after those.
 const SLOW_CHECKS: &str = "sockets/standing_still.txt";
 
-/// Prints the last line of what a check gave, and returns whether it gave what it should.
-fn tell_check<R: Print>(
+/// Prints the last line of what a check gave, and returns whether it gave what it should. On standard error it notes
+/// when it had to be played again.
+fn tell_check<R: Print + Eprint>(
     rt: &R,
     file: &'static str,
     case: &Case,
-    came: Result<(), CaseFault>,
-    given: &str,
+    ran: &Ran,
 ) -> Result<bool, TableFault> {
+    for given in ran.before.iter() {
+        note_case(rt, file, case, given.as_str());
+    }
     let name = case.name();
+    let given = ran.given.as_str();
     let ended = given.lines().last().unwrap_or("");
     // If standard output accepts nothing, it doesn't get the count of the cases either.
     let _told = println!(rt; "{name}: {ended}");
-    judge_case(rt, file, case, came, given)
+    judge_case(rt, file, case, ran.came, given)
 }
 
 /// Runs a check of a file, prints its result at once, and returns whether it agrees.
-fn run_check<R: Machine + Print>(
+fn run_check<R: Machine + Print + Eprint>(
     rt: &R,
     file: &'static str,
     checks: &Checks<R>,
     case: &Case,
 ) -> Result<bool, TableFault> {
-    let mut given = Given::new(rt.alloc());
-    let came = checks.give(case, &mut given);
-    tell_check(rt, file, case, came, given.as_str())
+    let ran = checks.run(rt.alloc(), case);
+    tell_check(rt, file, case, &ran)
 }
 
 /// Runs the checks of a file, prints each result at once, and returns whether all agree.
-fn run_checks<R: Machine + Files + Print>(
+fn run_checks<R: Machine + Files + Print + Eprint>(
     rt: R,
     file: &'static str,
     checks: &Checks<R>,
@@ -91,7 +92,7 @@ where
 }
 
 /// Runs the files of short checks.
-fn run_quick<R: Machine + Files + Print>(rt: R) -> Result<bool, TableFault>
+fn run_quick<R: Machine + Files + Print + Eprint>(rt: R) -> Result<bool, TableFault>
 where
     R::File: Read + Drop,
 {
@@ -105,13 +106,6 @@ where
     Ok(agree)
 }
 
-/// A check that was run.
-#[derive(Drop)]
-struct Ran {
-    came: Result<(), CaseFault>,
-    given: Given,
-}
-
 /// Checks that were run, and whose results are not printed yet.
 #[derive(Drop)]
 struct Slow {
@@ -119,19 +113,12 @@ struct Slow {
     ran: Result<Vec<Ran>, AllocError>,
 }
 
-/// Runs a check, and prints nothing.
-fn ran_of<R: Machine>(alloc: Global, checks: &Checks<R>, case: &Case) -> Ran {
-    let mut given = Given::new(alloc);
-    let came = checks.give(case, &mut given);
-    Ran { came, given }
-}
-
 /// Runs checks, and prints nothing.
 fn all_ran<R: Machine>(rt: R, cases: &[Case]) -> Result<Vec<Ran>, AllocError> {
     let checks = Checks::new(rt);
     let mut ran = Vec::with_capacity(rt.alloc(), cases.len())?;
     for case in cases {
-        ran.push(ran_of(rt.alloc(), &checks, case))?;
+        ran.push(checks.run(rt.alloc(), case))?;
     }
     Ok(ran)
 }
@@ -151,13 +138,13 @@ fn start_slow<R: Machine>(rt: R, cases: Vec<Case>) -> Result<JoinHandle<Slow>, A
 }
 
 /// Prints the results of checks that were run, and returns whether all agree.
-fn tell_slow<R: Print>(rt: &R, slow: &Slow) -> Result<bool, TableFault> {
+fn tell_slow<R: Print + Eprint>(rt: &R, slow: &Slow) -> Result<bool, TableFault> {
     let Ok(ran) = &slow.ran else {
         return Err(TableFault::OutOfMemory);
     };
     let mut agree = true;
     for (case, ran) in slow.cases.iter().zip(ran.iter()) {
-        if !tell_check(rt, SLOW_CHECKS, case, ran.came, ran.given.as_str())? {
+        if !tell_check(rt, SLOW_CHECKS, case, ran)? {
             agree = false;
         }
     }
@@ -173,7 +160,7 @@ fn tell_slow<R: Print>(rt: &R, slow: &Slow) -> Result<bool, TableFault> {
 ///
 /// # Errors
 /// Any `TableFault`; the tables after it are not run.
-pub fn run<R: Machine + Files + Print>(rt: R) -> Result<bool, TableFault>
+pub fn run<R: Machine + Files + Print + Eprint>(rt: R) -> Result<bool, TableFault>
 where
     R::File: Read + Drop,
 {

@@ -14,8 +14,8 @@ use std::sync::atomic::Ordering::SeqCst;
 use std::thread;
 use std::time::Duration;
 
-/// How many turns to wait for a service to begin or to end: ten seconds.
-const TURNS: u32 = 1_000;
+/// How many turns to wait for a service to begin or to end: a minute, as the machine may be busy.
+const TURNS: u32 = 6_000;
 
 /// How often to look for free ports, if other programs take them first.
 const TRIES: u32 = 5;

@@ -10,6 +10,6 @@ mod steps;
 
 pub use answers::{View, push_heard};
 pub use peer::{Heard, Peer, TURN_MS, exchange};
-pub use peers::Peers;
+pub use peers::{Peers, push_came};
 pub use ports::Ports;
 pub use steps::{Progress, bytes_of, entries_in, number, push_line, request_of, split_word};

@@ -11,7 +11,7 @@ use std::time::Duration;
 pub const TURN_MS: u64 = 10;
 
 /// How long a write waits for its peer, in seconds.
-const WRITE_SECONDS: u64 = 10;
+const WRITE_SECONDS: u64 = 60;
 
 /// The most bytes in one read, and in one of many writes.
 const PIECE: usize = 16_384;

@@ -7,9 +7,9 @@ use crate::steps::{Progress, bytes_of, number, push_line, split_word};
 use case_tables::{CaseFault, Given, Part};
 use std::alloc::Global;
 
-/// How many turns to wait for something: ten seconds. A step can change this for the steps after
-/// it.
-const TURNS: u32 = 1_000;
+/// How many turns to wait for something: a minute, as the machine may be busy. A step can change this for the steps
+/// after it.
+const TURNS: u32 = 6_000;
 
 /// The number of turns in a second.
 const TURNS_A_SECOND: u32 = 100;
@@ -37,7 +37,7 @@ impl Named {
 }
 
 /// Adds what a peer has received.
-fn push_came(
+pub fn push_came(
     given: &mut Given,
     ports: &Ports,
     view: &View<'_>,
