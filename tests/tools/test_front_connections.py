@@ -1,11 +1,13 @@
 """Checks the connections of a front to its service: what the service is asked, that each caller gets its own answer,
 and what becomes of a caller if there is no descriptor for one."""
 import asyncio
+import errno
 import json
 import time
 from typing import List
+from unittest import mock
 
-from lambda_local.front.client import NoDescriptor
+from lambda_local.exchange.client import Client, NoDescriptor, Unreachable
 from lambda_local.front.tasks import begin_task
 from tests.library.cases import Case
 from tests.library.events_kit import invoke_path
@@ -70,6 +72,15 @@ class FrontConnections(Case):
                        [(503, "There are too many connections (ulimit -n)")] * 3)
             self.check("one line says so", sum("no file descriptor is left" in line for line in told.lines), 1)
             self.check("and all goes on", answer_to(front, STATS)[0], 200)
+
+    def test_a_connection_that_the_system_gives_up_is_none(self):
+        async def opened():
+            given_up = TimeoutError(errno.ETIMEDOUT, "Connection timed out")
+            with mock.patch.object(asyncio.get_running_loop(), "create_connection", side_effect=given_up):
+                await Client(1).connection()
+        with self.assertRaises(Unreachable) as caught:
+            asyncio.run(opened())
+        self.check("why is told", "Connection timed out" in str(caught.exception), shown=caught.exception)
 
     def test_a_task_that_ends_by_an_exception_is_told(self):
         """A task that ends by an exception is told; one that is cancelled is not."""

@@ -21,7 +21,7 @@ from lambda_local.from_template.messages import Fault as TemplateFault
 from lambda_local.front.events import in_json
 from lambda_local.front.handed import NotHanded, handed_of
 from lambda_local.front.payload import Unmappable, reply_of
-from lambda_local.history import comparison, reader, running, script
+from lambda_local.history import comparison, reader, script, trace
 from lambda_local.history.entries import Answer
 from lambda_local.history.shapes import NotTrace
 from lambda_local.http1 import request_head
@@ -126,7 +126,7 @@ def of_traces(data):
     life = Life(json.loads(HISTORY.split(b"\n")[1]))
     pieces = (data[at:at + 70] for at in range(0, len(data), 70))
     with contextlib.suppress(NotTrace):
-        for entry in reader.entries_of(running.lines_in((*pieces, b"\n")), len(life.environments)):
+        for entry in reader.entries_of(trace.lines_in((*pieces, b"\n")), len(life.environments)):
             assert isinstance(entry.own, (Answer, type(None)))
             for event in life.take(entry):
                 str(event)

@@ -18,7 +18,7 @@ from typing import Iterator, Tuple
 from unittest import mock
 from urllib.parse import urlsplit
 
-from lambda_local.front.client import MOST_IDLE
+from lambda_local.exchange.client import MOST_IDLE
 from lambda_local.service import RUNTIME, Service, ask, free_ports
 from tests.library.cases import Case
 from tests.library.chaos import state_of

@@ -10,8 +10,9 @@ import threading
 from typing import List, Tuple
 
 from lambda_local.history.entries import Answer, Call, Entry
-from lambda_local.history.running import Lost, Running
+from lambda_local.history.running import Running
 from lambda_local.history.shapes import NotTrace
+from lambda_local.history.trace import Lost
 from lambda_local.history.words import Word
 from lambda_local.rerun.record import parsed
 from lambda_local.service import Fault, Service, ask

@@ -1,15 +1,17 @@
 """Checks invocations of the type Event in the pytest plugin: retries, a record of what has failed, and what is left at
-the end. The program is LAMBDA_LOCAL_PROGRAM, else ./lambda_local."""
+the end; and that a runtime outlives what is no answer. The program is LAMBDA_LOCAL_PROGRAM, else ./lambda_local."""
 import contextlib
 import io
 import threading
 import time
-from typing import List
+from typing import Any, List
 
 from lambda_local.configuration import Members
+from lambda_local.in_process import Runtime
 from pytest_lambda_local import LambdaLocal
 from tests.library.cases import Case
 from tests.library.events_kit import Caller, invoke_path
+from tests.library.fake_trace import Fake
 from tests.tools.test_plugin import fault_of
 
 EVENT, TAIL = {"X-Amz-Invocation-Type": "Event"}, {"X-Amz-Log-Type": "Tail"}
@@ -21,7 +23,34 @@ def send(service, name, body=b"{}", headers=EVENT):
         return caller.ask("POST", invoke_path(name), body, headers)[0]
 
 
+class Owner:
+    """What a runtime asks of its test's services. All ends once its service was asked twice."""
+    maker = sandbox = None
+    runtimes: List[object] = []
+
+    def __init__(self, service: Fake) -> None:
+        self.service = service
+
+    def has_ended(self) -> bool:
+        return len(self.service.asked) > 1
+
+    def hold_init(self, *_: object) -> None:
+        pass
+
+
 class PluginEvents(Case):
+    def test_a_runtime_goes_on_after_an_answer_that_is_none(self) -> None:
+        service = Fake(b"nonsense\r\n\r\n", b"HTTP/1.1 500 No\r\nContent-Length: 0\r\n\r\n")
+        owner: Any = Owner(service)
+        runtime = Runtime(owner, "f", 1, service.port, lambda event: event, "128")
+        runtime.start()
+        runtime.join(30)
+        asked = list(service.asked)
+        while len(service.asked) < 2:  # (so that the service ends too)
+            runtime.environment.ask("GET", "invocation/next")
+        service.close()
+        self.check("it has asked again", asked, ["/2018-06-01/runtime/invocation/next"] * 2)
+
     def test_an_event_is_taken_retried_and_recorded(self):
         seen: List[object] = []
         records: List[Members] = []

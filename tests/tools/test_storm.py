@@ -1,19 +1,23 @@
 """Checks storms: that a seed makes the same trouble again whatever the timing, within its bounds; what callers get of
 each kind, of lambda_local up and of handlers in a test's process; and who is spared. The program is
 LAMBDA_LOCAL_PROGRAM, else ./lambda_local."""
+import asyncio
 import contextlib
 import io
 import json
 import re
 import subprocess
+import threading
 import time
 from typing import Any, List
+from unittest import mock
 
-from lambda_local.front.storm import root_of
+from lambda_local.front.storm import Gate, root_of
 from lambda_local.in_process import FunctionError, LambdaLocal
 from lambda_local.in_storm import InMaker
 from lambda_local.storm import INIT, KINDS, SPARED, THROTTLE, Course, Storm, storm_of
 from lambda_local.up.following import REST
+from lambda_local.up.troubles import Troubles
 from tests.library.cases import Case
 from tests.library.clock_kit import EVENT, INVOKE, posted
 from tests.library.events_kit import READY, READY_SECONDS
@@ -62,6 +66,44 @@ def told(up):
 def outcome(up, name="f", body=b"{}", headers={}):
     status, answer = posted(up.endpoint, INVOKE.format(name), body, headers)
     return status, answer.decode()
+
+
+async def held_by_two():
+    """Whether what came after a first timeout, an invocation and an Init, may go on: while that moves the clock and a
+    second one does, once one has, and once both have."""
+    moved = {one: asyncio.Event() for one in ("first", "second")}
+    watch: Any = mock.Mock(refreshed=mock.AsyncMock(), environment=lambda _: mock.Mock(is_bound=False))
+    watch.life.invocations, watch.clock = {}, mock.Mock(now=lambda: 0, ask_later=mock.AsyncMock())
+    troubles = Troubles([], watch, mock.Mock(), threading.Event())
+    gate = Gate(Storm(7), troubles, 0, mock.Mock())
+    troubles.still = gate.still
+
+    async def times_out(name):
+        invocation: Any = mock.Mock(is_over=False)
+        here: Any = mock.Mock()
+
+        async def move(*_):
+            await moved[name].wait()
+            invocation.is_over = True
+            return True
+        with mock.patch.object(troubles, "_move", move):
+            ending = asyncio.ensure_future(troubles._time_out_gently(mock.Mock(), here, invocation, 0))
+            await asyncio.sleep(0.1)
+        return ending
+    environment: Any = mock.Mock(stopping=threading.Event())
+    with mock.patch.object(troubles, "_timeout_of", lambda _: 900_000):
+        first = await times_out("first")
+        waiting = [asyncio.ensure_future(it) for it in (gate.may_be_sent(), troubles.holds(environment))]
+        second = await times_out("second")
+        seen = [[it.done() for it in waiting]]
+        for name, ending in (("first", first), ("second", second)):
+            moved[name].set()
+            await asyncio.wait_for(ending, 60)
+            await asyncio.wait(waiting, timeout=0.3 if name == "first" else 20)
+            seen.append([it.done() for it in waiting])
+    for it in waiting:
+        it.cancel()
+    return seen
 
 
 class Choices(Case):
@@ -204,6 +246,10 @@ class OfUp(Case):
         """They wait until an entry is taken, also while many come."""
         self.check("the longest rest", longest_rests("--storm", "7"), [REST])
 
+    def test_two_timeouts_at_once_hold_all_that_comes_until_both_have_moved_the_clock(self):
+        """One ends first: no invocation is sent and no Init begins before the other ends too, and both do then."""
+        self.check("two hold, one does, none does", asyncio.run(held_by_two()), [[False] * 2] * 2 + [[True] * 2])
+
     def test_faults_of_the_option_are_told(self):
         for words, wanted in ((["--storm", "x"], "--storm: invalid SEED[:RATE]"),
                               (["--storm", "7:2"], "--storm: invalid SEED[:RATE]"),
@@ -273,7 +319,7 @@ class OfTest(Case):
             maker = InMaker(service, ["f"])
             maker.sent = lambda: 1 + others
             for kind in ("cold", INIT):
-                maker.arrange("f", kind, lambda outcome: None)
+                asyncio.run(maker.arrange("f", kind, lambda outcome: None))
                 self.check(f"{kind}: {left} looks until it asks, {others} others", ended, wanted)
                 ended.clear()
 

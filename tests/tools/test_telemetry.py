@@ -4,9 +4,11 @@ import asyncio
 import json
 import random
 from typing import Dict, List, Tuple, Union
+from unittest import mock
 
 from lambda_local.configuration import Members
-from lambda_local.http1 import Malformed, ResponseReader
+from lambda_local.exchange.of_tasks import Wire
+from lambda_local.telemetry import sender
 from lambda_local.telemetry.conversation import Answer, Conversation, Ears, Exchange
 from lambda_local.telemetry.desk import Desk
 from lambda_local.telemetry.sender import NotTaken, OverHttp
@@ -26,6 +28,27 @@ OWN = b"PUT /2022-07-01/telemetry HTTP/1.1\r\nHost: a\r\nContent-Length: 4\r\n\r
 OK = b"HTTP/1.1 200 OK\r\nContent-Type: application/json\r\nContent-Length: 2\r\n\r\nOK"
 ANSWERS = (b"HTTP/1.1 200 OK\r\nA: 1\r\nContent-Length: 3\r\n\r\nabc",
            b"HTTP/1.1 202 Accepted\r\nContent-Length: 0\r\n\r\n")
+
+
+class Answering(asyncio.Transport):
+    """It gives this answer once something is written, and then ends."""
+
+    def __init__(self, wire, answer):
+        super().__init__()
+        self.wire, self.answer = wire, answer
+
+    def write(self, data):
+        while self.answer:
+            place = self.wire.get_buffer(-1)
+            here, self.answer = self.answer[:len(place)], self.answer[len(place):]
+            place[:len(here)] = here
+            self.wire.buffer_updated(len(here))
+        self.wire.eof_received()
+
+    def pause_reading(self):
+        pass
+
+    resume_reading = abort = pause_reading
 
 
 class Noted(Exchange):
@@ -237,29 +260,39 @@ class Telemetry(Case):
     def test_of_a_receivers_answer_only_its_status_is_read(self):
         """What of a receiver's answer is read, and how it counts."""
         async def answered(data, repeats):
-            """How an answer counts, and whether no more than some of it was read."""
-            reader = asyncio.StreamReader()
-            reader.feed_data(data * repeats)
-            reader.feed_eof()
-            found = ResponseReader()
-            found.method = "POST"
+            """How an answer counts, and whether much of it was left."""
+            receiver, wire = OverHttp(Destination("HTTP", 1)), Wire("localhost:1")
+            receiver.wire = wire
+            wire.connection_made(Answering(wire, data * repeats))
             try:
-                seen: object = await OverHttp(Destination("HTTP", 1))._answer(found, reader)
+                await receiver.send([b"{}"])
+                seen = "taken"
             except NotTaken as reason:
                 seen = str(reason)
-            except Malformed as fault:
-                seen = type(fault).__name__
-            return seen, len(await reader.read()) > len(data) * repeats / 2
+            return seen, len(wire.reader.buffer) > 64 << 10
         goes_on, length = b"HTTP/1.1 100 Continue\r\n\r\n", b"HTTP/1.1 200 OK\r\nContent-Length: "
-        none = "its answer has more than 65536 bytes and no status, other than 100"
         for name, data, repeats, wanted in (
-                ("200", length + b"0\r\n\r\n", 1, (200, False)),
-                ("500", b"HTTP/1.1 500 No\r\nContent-Length: 0\r\n\r\n", 1, (500, False)),
-                ("100 before 200", goes_on * 3 + length + b"2\r\n\r\nok", 1, (200, False)),
-                ("100 without end", goes_on, 20_000, (none, True)),
-                ("a body without end", length + b"900000\r\n\r\n" + bytes(900_000), 1, (200, True)),
-                ("a head that ends early", b"HTTP/1.1 200", 1, ("CutShort", False))):
+                ("200", length + b"0\r\n\r\n", 1, ("taken", False)),
+                ("500", b"HTTP/1.1 500 No\r\nContent-Length: 0\r\n\r\n", 1, ("it answers 500", False)),
+                ("100 before 200", goes_on * 3 + length + b"2\r\n\r\nok", 1, ("taken", False)),
+                ("100 without end", goes_on, 20_000, ("it has sent 1000 responses of 1xx and no other", True)),
+                ("a body without end", length + b"900000\r\n\r\n" + bytes(900_000), 1, ("taken", True)),
+                ("a head that ends early", b"HTTP/1.1 200", 1,
+                 ("its answer is not HTTP/1.1: the connection ends within a message", False))):
             self.check(f"an answer of {name}", asyncio.run(answered(data, repeats)), wanted)
+
+    def test_a_batch_that_a_receiver_is_silent_about_is_not_sent_anew_at_once(self):
+        async def sent():
+            """Why it is not taken, and whether another connection was made."""
+            receiver, wire = OverHttp(Destination("HTTP", 1)), Wire("localhost:1")
+            receiver.wire, receiver.is_kept = wire, True
+            wire.connection_made(mock.Mock(spec=asyncio.Transport))
+            with mock.patch.object(sender, "ACKNOWLEDGED_SECONDS", 0.1), \
+                    mock.patch.object(sender, "connected", side_effect=OSError) as again:
+                with self.assertRaises(NotTaken) as caught:
+                    await receiver.send([b"{}"])
+                return str(caught.exception), again.called
+        self.check("it is told", asyncio.run(sent()), ("it has not answered within 0.1 s", False))
 
     def test_a_desk_takes_subscriptions_in_init_alone(self):
         said: List[str] = []

@@ -295,8 +295,8 @@ class UpEdge(Case):
         resource.setrlimit(resource.RLIMIT_NOFILE, (3, limits[1]))
         try:
             trace = watch.following._trace
-            assert trace and trace.wire
-            watching.loop.call_soon_threadsafe(trace.wire.abort)
+            assert trace
+            watching.loop.call_soon_threadsafe(trace.close)
             self.check("without a descriptor it is lost", until(lambda: "descriptors" in watch.warnings, 60))
             time.sleep(1)
         finally:

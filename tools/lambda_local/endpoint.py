@@ -5,7 +5,8 @@ import os
 from typing import Dict, Mapping, Optional, Tuple
 from urllib.parse import urlsplit
 
-from . import exchange
+from .exchange import of_threads
+from .exchange.connection import TooLong, words_of
 from .program import Fault
 
 NOWHERE = "http://127.0.0.1:9000"
@@ -37,15 +38,12 @@ def asked(endpoint: Optional[str], method: str, target: str, body: bytes = b"", 
     """What the service answers."""
     host, port, path = address_of(endpoint)
     try:
-        with exchange.asked(port, method, path + target, body, headers, seconds, host) as answer:
-            content = bytearray()
-            for piece in answer.pieces():
-                content += piece
-                if len(content) > MOST_ANSWER:
-                    raise Fault(4, f"http://{host}:{port}: its answer has more than {MOST_ANSWER:,} bytes, so it is "
-                                   "none of lambda_local")
-            return answer.status, answer.headers, bytes(content)
+        with of_threads.asked(port, method, path + target, body, headers, seconds, host) as answer:
+            return answer.status, answer.headers, answer.whole(MOST_ANSWER)
+    except TooLong:
+        raise Fault(4, f"http://{host}:{port}: its answer has more than {MOST_ANSWER:,} bytes, so it is none of "
+                    "lambda_local") from None
     except OSError as fault:
-        reason = fault.strerror or str(fault) or type(fault).__name__
-        raise Fault(4, f"http://{host}:{port}: {reason}: start the service, for example by `lambda_local up UP.json`, "
-                    "and name the address that it prints by --endpoint or AWS_ENDPOINT_URL_LAMBDA") from None
+        raise Fault(4, f"http://{host}:{port}: {words_of(fault)}: start the service, for example by "
+                    "`lambda_local up UP.json`, and name the address that it prints by --endpoint or "
+                    "AWS_ENDPOINT_URL_LAMBDA") from None

@@ -9,7 +9,6 @@ invocation. Until the end, the process has the variables of a function, dummy cr
 client of Lambda calls the service, and no client of boto3 reaches AWS. `keep_credentials=True` lets them."""
 import contextlib
 import functools
-import http.client
 import json
 import os
 import sys
@@ -115,7 +114,7 @@ class Runtime(threading.Thread):
         """Handles invocations until the environment closes; it then begins anew."""
         try:
             while not self.owner.has_ended():
-                with contextlib.suppress(OSError, http.client.HTTPException):
+                with contextlib.suppress(OSError, self.code.WrongAnswer):
                     self.owner.hold_init(self.function, self.number)
                     self.is_new = True
                     if self.owner.maker and (order := self.owner.maker.holds(self.function, self.number)):
@@ -260,7 +259,7 @@ class LambdaLocal(Troubled):
             front.serve(self.service, weather=self.weather(storm, list(handlers)))
             self.front = front
             if (gate := front.gate) and self.maker:
-                self.maker.still, self.maker.sent = functools.partial(gate.still, front.loop), gate.unanswered
+                self.maker.still, self.maker.sent = functools.partial(gate.still_for, front.loop), gate.unanswered
         self.endpoint_url = self.service.endpoint_url
         self.sandbox = Sandbox(self.service, variables, keep_credentials, self.patches)
         for (_, memory), part in zip(parts, self.service.configuration["functions"]):

@@ -1,5 +1,6 @@
 """The trouble of a storm over handlers that run in this process: runtimes ask before each invocation, and before their
-first request, what they are to do."""
+first request, what they are to do. The service is asked, and waited for, by threads."""
+import asyncio
 import threading
 import time
 from typing import TYPE_CHECKING, Callable, ContextManager, Dict, Optional, Sequence
@@ -22,9 +23,9 @@ class InOrder(Ordered):
         super().__init__(function, kind, progress)
         self.owner = owner
 
-    def call_off(self, why: str) -> None:
+    async def call_off(self, why: str) -> None:
         if not self.owner.withdraw(self):
-            self.is_over.wait(ENDING_SECONDS)  # (a runtime has it)
+            await asyncio.to_thread(self.is_over.wait, ENDING_SECONDS)  # (a runtime has it)
         self.end(False, why=why)
 
 
@@ -41,11 +42,17 @@ class InMaker:
         names = [part["name"] for part in self.service.started().configuration["functions"]]
         return () if function not in names else KINDS if function in self.handlers else (THROTTLE,)
 
-    def working(self, function: str) -> int:
+    async def working(self, function: str) -> int:
+        return await asyncio.to_thread(self._working, function)
+
+    def _working(self, function: str) -> int:
         phases = self.service.phases()
         return sum(phases[number]["phase"] == BUSY for number in self.service.numbers_of(function))
 
-    def arrange(self, function: str, kind: str, progress: Progress) -> InOrder:
+    async def arrange(self, function: str, kind: str, progress: Progress) -> InOrder:
+        return await asyncio.to_thread(self._arrange, function, kind, progress)
+
+    def _arrange(self, function: str, kind: str, progress: Progress) -> InOrder:
         order = InOrder(self, function, kind, progress)
         with self.lock:
             self.orders[function] = order

@@ -1,7 +1,7 @@
 """Reads JSON of anyone: whatever the text is, it raises `NotJson` and nothing else. Want of memory is no fault of the
 text, and stays a MemoryError."""
 import json
-from typing import Union
+from typing import Any, Dict, Optional, Union
 
 DEEPEST = 100  # arrays and objects in one another
 LONGEST = 64 << 20  # bytes, or letters of a string
@@ -41,3 +41,12 @@ def read_json(given: Union[str, bytes], deepest: int = DEEPEST, longest: int = L
     if text.count("[") + text.count("{") > deepest and is_deeper(value, deepest):
         raise NotJson(f"it is nested too deep: {deepest} levels are the most")
     return value
+
+
+def members_of(given: Union[str, bytes], longest: int = LONGEST) -> Optional[Dict[str, Any]]:
+    """The members of an object in JSON; none if it is something else, such as what a function may post."""
+    try:
+        value = read_json(given, longest=longest)
+    except NotJson:
+        return None
+    return value if isinstance(value, dict) else None

@@ -4,7 +4,7 @@ import os
 import re
 from typing import Dict, Iterator, List, Optional, Tuple, Union
 
-from .json_reader import NotJson, read_json
+from .json_reader import members_of
 from .outgoing import header_value, is_for_the_system
 from .paths import bundled
 
@@ -17,15 +17,6 @@ PYTHON = re.compile(r'File "([^"]+)",? [Ll]ine (\d{1,9})')
 # Node "at run (file:///x/app.mjs:3:9)", Java "a.B.c(B.java:3)", Ruby "/x/app.rb:3:in `run'"
 OTHERS = re.compile(r"(?:\(|\bat |^)(?:file://)?([^()\s:]+\.\w+):(\d{1,9})")
 Frame = Union[str, Dict[str, object]]  # (Go has objects)
-
-
-def members_of(body: bytes) -> Optional[Dict[str, object]]:
-    """The members of a report in JSON; none if it is something else. A report is whatever a function posts."""
-    try:
-        found = read_json(body)
-    except NotJson:
-        return None
-    return found if isinstance(found, dict) else None
 
 
 def text_of(value: object) -> str:

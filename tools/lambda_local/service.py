@@ -18,7 +18,8 @@ import time
 from typing import AnyStr, Callable, Collection, Dict, Iterator, List, Mapping, Optional, TextIO, Tuple
 
 from .configuration import Members, explained, says
-from .exchange import Unanswered, ask as ask, asked
+from .exchange.connection import Unanswered
+from .exchange.of_threads import ask as ask, asked
 from .guard import GUARD
 from .history.comparison import compared
 from .history.script import Script

@@ -103,7 +103,7 @@ class NotMade(Exception):
 class Order(Protocol):
     """Trouble that waits for its invocation, or has it."""
 
-    def call_off(self, why: str) -> None:
+    async def call_off(self, why: str) -> None:
         """The invocation is over, or never came. Its progress has ended when this returns."""
 
 
@@ -121,15 +121,15 @@ class Ordered:
 
 
 class Maker(Protocol):
-    """Makes the trouble; each method may be called by any thread, and may wait."""
+    """Makes the trouble, for the loop of what sends invocations."""
 
     def kinds_of(self, function: str) -> Sequence[str]:
         """Those of KINDS that it can make; none for a function that there is not."""
 
-    def working(self, function: str) -> int:
+    async def working(self, function: str) -> int:
         """How many of the function's invocations a runtime has."""
 
-    def arrange(self, function: str, kind: str, progress: Progress) -> Order:
+    async def arrange(self, function: str, kind: str, progress: Progress) -> Order:
         """Has the next invocation of the function meet this, which is sent at once then. NotMade if that cannot be."""
 
 

@@ -24,7 +24,7 @@ from urllib.parse import quote, urlencode
 from .configuration import Members, is_whole
 from .endpoint import Answer, add_option, asked
 from .invoke import is_json, print_body, refusal
-from .json_reader import NotJson, read_json
+from .json_reader import members_of
 from .outgoing import tell
 from .program import Fault
 from .usage import parser_of
@@ -106,11 +106,8 @@ class Trouble:
 
     def members(self, answer: Answer) -> Members:
         """The object that an answer is; Fault if it is none."""
-        try:
-            found = read_json(answer[2])
-        except NotJson:
-            found = None
-        if not isinstance(found, dict):
+        found = members_of(answer[2])
+        if found is None:
             raise self.odd()
         return found
 
@@ -177,12 +174,7 @@ class Trouble:
         status, headers, body = self.wanted(
             self.ask("POST", PATHS["invoke"].format(self.name), payload.encode(), LONGEST_SECONDS), 200)
         print_body(body)
-        try:
-            report = read_json(body)
-        except NotJson:
-            report = None
-        has_come = headers.get("x-amz-function-error") and isinstance(report, dict) and (
-            report.get("errorType") == REPORTS[kind])
+        has_come = headers.get("x-amz-function-error") and (members_of(body) or {}).get("errorType") == REPORTS[kind]
         return 0 if has_come else 1
 
 

@@ -232,7 +232,16 @@ class Clock:
     def settle(self, seconds: float = ASK_SECONDS) -> None:
         """Waits until all that is due has been called, at most so long."""
         with self._changed:
-            self._changed.wait_for(lambda: self._is_closed or not self._calling and not self._has_due(), seconds)
+            self._changed.wait_for(self._is_settled, seconds)
+
+    def _is_settled(self) -> bool:
+        return self._is_closed or not self._calling and not self._has_due()
+
+    async def caught_up(self) -> None:
+        """Asks what it reads, and waits until what is due has been called; for a task, which a thread does it for."""
+        import asyncio  # (which takes a while)
+        await asyncio.to_thread(self.ask)
+        await asyncio.to_thread(self.settle)
 
     def _has_due(self) -> bool:
         while self._timers and self._timers[0].is_cancelled:

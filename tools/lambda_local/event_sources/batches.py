@@ -3,7 +3,7 @@ Guide, "Understanding retry behavior" of streams, and "Configuring partial batch
 Lambda"). It waits for nothing and asks nobody."""
 from typing import List, NamedTuple, Optional, Sequence, Tuple
 
-from ..json_reader import NotJson, read_json
+from ..json_reader import members_of
 from .members import FOREVER, Stream
 from .servers import Record
 
@@ -32,13 +32,9 @@ class After(NamedTuple):
 def failing_in(result: bytes, sequences: Sequence[str]) -> Optional[int]:
     """The place of the first record that a result says has failed: Lambda goes on with that one. None if all have
     succeeded; 0 if the result says it in a form that fails the whole batch."""
-    try:
-        value = read_json(result)
-    except NotJson:
+    given = (members_of(result) or {}).get("batchItemFailures")
+    if not given:
         return None
-    if not isinstance(value, dict) or not value.get("batchItemFailures"):
-        return None
-    given = value["batchItemFailures"]
     if not isinstance(given, list):
         return 0
     places = {sequence: place for place, sequence in enumerate(sequences)}

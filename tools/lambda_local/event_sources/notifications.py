@@ -2,7 +2,7 @@
 Amazon SNS notifications"; SNS Developer Guide, "Parsing message formats")."""
 from typing import Any, Dict, NamedTuple, Optional
 
-from ..json_reader import NotJson, read_json
+from ..json_reader import members_of
 
 LONGEST = 1 << 20  # bytes of a message (SNS has 256 KiB)
 NOTIFICATION, CONFIRMATION = "Notification", "SubscriptionConfirmation"
@@ -32,11 +32,8 @@ def read(text: object, subscription: str) -> "Optional[Notification | Confirmati
     """What a message of the queue is; none if it is neither."""
     if not isinstance(text, str):
         return None
-    try:
-        given = read_json(text, longest=LONGEST)
-    except NotJson:
-        return None
-    if not isinstance(given, dict):
+    given = members_of(text, LONGEST)
+    if given is None:
         return None
     if given.get("Type") == CONFIRMATION and texts_in(given, "Token"):
         return Confirmation(given["Token"])

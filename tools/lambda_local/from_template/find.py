@@ -2,7 +2,7 @@
 import os
 from typing import Iterator, List, NamedTuple, Optional
 
-from ..json_reader import NotJson, read_json
+from ..json_reader import members_of
 from .messages import Fault
 
 UP = "up.json"
@@ -69,10 +69,10 @@ def is_template(path: str) -> bool:
         return True
     try:
         with open(path, "rb") as file:
-            whole = read_json(file.read(LONGEST + 1), longest=LONGEST)
-    except (OSError, NotJson):
+            whole = members_of(file.read(LONGEST + 1), LONGEST) or {}
+    except OSError:
         return False  # (whoever reads an UP.json says what is wrong)
-    return isinstance(whole, dict) and ("Resources" in whole or "provider" in whole)
+    return "Resources" in whole or "provider" in whole
 
 
 def source_of(named: Optional[str]) -> Source:

@@ -9,9 +9,9 @@ from typing import Any, Dict, List, NamedTuple, Optional, Protocol, Tuple, Union
 
 from ..clock.followed import Clock
 from ..configuration import Members
+from ..exchange.client import Client
 from ..json_reader import NotJson, read_json
 from .authorizers import Authorizer, Source
-from .client import Client
 from .events import target_of
 from .http import LONGEST_BODY, Headers, Reply, Request, every, first
 from .payload import parameters_in

@@ -9,7 +9,7 @@ from ..clock.asked import time_of
 from ..configuration import Members
 from ..history.entries import request_identifier
 from ..http1 import Headers, first
-from ..json_reader import NotJson, read_json
+from ..json_reader import members_of
 
 NAMED = re.compile(r"(?:.*:)?function:([^:]+)(?::[^:]+)?|([^:]+)(?::[^:]+)?")
 PATH = re.compile(r"/2015-03-31/functions/([^/?]+)/invocations(?:\?.*)?")
@@ -105,11 +105,7 @@ def in_json(body: bytes) -> bytes:
 
 def message_in(report: bytes) -> str:
     """The beginning of the message that a function reported of its failure, else of the whole report."""
-    try:
-        value = read_json(report)
-    except NotJson:
-        value = None
-    said = value.get("errorMessage") if isinstance(value, dict) else None
+    said = (members_of(report) or {}).get("errorMessage")
     text = said if isinstance(said, str) else report.decode(errors="replace")
     return text.encode(errors="replace")[:MOST_MESSAGE].decode(errors="ignore")
 

@@ -8,11 +8,11 @@ import time
 from typing import Any, Callable, Dict, Iterator, List, Optional, Protocol, Sequence, Tuple
 
 from ..clock.followed import Clock
+from ..exchange.client import Client
 from ..outgoing import Log, several
 from ..service import Service
 from ..storm import Maker, Storm
 from ..streaming.streams import Streams
-from .client import Client
 from .descriptors import most_at_once
 from .events import Identifiers
 from .handler import BEGIN_SECONDS, Handler, Port
@@ -156,6 +156,7 @@ class Front(threading.Thread):
     def run(self) -> None:
         asyncio.set_event_loop(self.loop)
         self.loop.set_exception_handler(self.tell)
+        # (for what asks by a thread, as the plugin does: in `lambda_local up` nothing does)
         workers = concurrent.futures.ThreadPoolExecutor(thread_name_prefix="front")
         self.loop.set_default_executor(workers)
         for server in self.servers:

@@ -5,20 +5,20 @@ from typing import Any, Callable, Dict, List, Mapping, NamedTuple, Optional, Tup
 
 from ..clock.followed import Clock
 from ..configuration import Members
+from ..exchange.client import Client
+from ..exchange.connection import TooLong, Unanswered
 from ..outgoing import Log
 from ..streaming.streams import Streams
 from . import cors, response_stream
 from .alb import OfBalancer
 from .authorize import Asked, Authorizers, Refused
-from .client import Client
 from .events import Identifiers, target_of, trace_of
 from .formats import OfHttpApi, OfUrl, format_of, message
-from .http import LONGEST_BODY, NO_STAGE, Headers, Malformed, Reply, Request, TooLong, first
+from .http import LONGEST_BODY, NO_STAGE, Headers, Reply, Request, first
 from .payload import Unmappable
 from .rest_payload import Tell
 from .routes import Routes
 from .settings import BALANCER, Address, Integration, Target
-from .wire import Gone
 
 
 class Backend(NamedTuple):
@@ -74,7 +74,7 @@ class Gateway:
         except Refused as fault:
             self.say(backend, request, f"{fault.reply.status}, {fault}", level="warning")
             return fault.reply
-        except (Gone, Malformed):
+        except Unanswered:
             self.say(backend, request, "500, the service broke its connection off")
             return message(500, "Internal Server Error")
         event = backend.format.event(request, body, context, backend.parameters, tell)
@@ -82,7 +82,7 @@ class Gateway:
             return self.too_large(backend, request, "the event made of it", LONGEST_BODY)
         try:
             return await self.answer(request, backend, trace_of(request.headers), event, tell)
-        except (Gone, Malformed):
+        except Unanswered:
             self.say(backend, request, "502, the service broke its connection off")
             return backend.format.failure_reply()
 

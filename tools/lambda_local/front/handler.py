@@ -11,19 +11,20 @@ import threading
 import time
 from typing import Awaitable, Callable, Dict, List, Optional, Set, Tuple
 
-from ..history.running import NO_DESCRIPTOR
-from ..http1 import Malformed, Unwritable, chunk, last_chunk, request_head
-from ..json_reader import NotJson, read_json
+from ..exchange.client import Client, NoDescriptor
+from ..exchange.connection import NO_DESCRIPTOR, Fields, TooLong, Unanswered
+from ..exchange.of_tasks import Wire, connected
+from ..http1 import Unwritable
+from ..json_reader import members_of
 from ..outgoing import Log, several
-from .client import Client, NoDescriptor, ServiceWire
 from .descriptors import MOST
 from .errors import of_service
 from .handed import LONGEST_LINE, Handed, NotHanded, handed_of
-from .http import LONGEST_BODY, OF_CONNECTION, Answer, Pieces, Reply, Request, TooLong, first
+from .http import LONGEST_BODY, OF_CONNECTION, Pieces, Reply, Request, first
 from .tasks import begin_task
-from .wire import Gone
 
 REQUESTS = "/_local/requests/"
+NEXT = "GET", f"{REQUESTS}next"
 HERE = "/_local/handler"  # no route of the service: it has one while a handler is here, which answers it
 SPARE = 4  # connections that ask while nothing is to be done
 MOST_HELD = 64 << 20  # bytes of bodies; each connection that asks may get one more
@@ -47,7 +48,7 @@ class Refused(Exception):
     """The service does not take an answer: why."""
 
 
-class Unanswered(Exception):
+class Left(Exception):
     """The connection has ended before the answer to this request."""
 
 
@@ -57,8 +58,8 @@ class Handler:
 
     def __init__(self, service: int, ports: Dict[int, Port], log: Log, most: int = MOST) -> None:
         self.service, self.ports, self.log, self.most = service, ports, log, most
-        self.unread: Dict[ServiceWire, int] = {}  # bytes of answers, by the connections on which they wait
-        self.ahead: Set[ServiceWire] = set()  # connections that have asked for a request with their last answer
+        self.unread: Dict[Wire, int] = {}  # bytes of answers, by the connections on which they wait
+        self.ahead: Set[Wire] = set()  # connections that have asked for a request with their last answer
         self.tasks: "Set[asyncio.Task[None]]" = set()
         self.asking = self.held = 0  # connections that ask; bytes of the bodies of requests that are answered
         self.fewest = 0  # how many asked all the time since the last look
@@ -95,7 +96,7 @@ class Handler:
         try:
             while (await client.ask("GET", HERE))[0] == 404:
                 await asyncio.sleep(0.001)
-        except Gone:
+        except Unanswered:
             pass  # (it has ended: nothing is waited for)
         finally:
             client.close()
@@ -108,9 +109,9 @@ class Handler:
         answer a request it is counted as one that asks."""
         unanswered = ""
         while True:
-            wire: Optional[ServiceWire] = None
+            wire: Optional[Wire] = None
             try:
-                _, wire = await asyncio.get_running_loop().create_connection(ServiceWire, "127.0.0.1", self.service)
+                wire = await connected(self.service)
                 wire.transport.get_extra_info("socket").setsockopt(socket.SOL_SOCKET, socket.SO_SNDBUF, MOST_SENT)
                 if unanswered:
                     self.tell(f"{unanswered} gets 502: the service has closed the connection of its handler")
@@ -118,13 +119,11 @@ class Handler:
                 while await self.exchange(wire):
                     pass
                 return
-            except Unanswered as fault:
+            except Left as fault:
                 unanswered = str(fault)  # (told if the service does not end)
-            except (Gone, Malformed):
-                pass  # (the service ends, or closes what is idle)
             except NotHanded as fault:
                 self.tell(f"the service hands over what is no request: {fault}")
-            except OSError as fault:
+            except OSError as fault:  # (else the service ends, or closes what is idle)
                 if fault.errno in NO_DESCRIPTOR:
                     self.tell_shortage()
             except Exception as fault:
@@ -132,10 +131,10 @@ class Handler:
             finally:
                 if wire:
                     self.ahead.discard(wire)
-                    wire.abort()
+                    wire.close()
             await asyncio.sleep(PAUSE)
 
-    async def exchange(self, wire: ServiceWire) -> bool:
+    async def exchange(self, wire: Wire) -> bool:
         """Asks for a request and answers it. Whether the connection is needed further."""
         while self.held > MOST_HELD and wire not in self.ahead:
             room = asyncio.get_running_loop().create_future()
@@ -164,7 +163,7 @@ class Handler:
             return False
         return True
 
-    def asks_on(self, wire: ServiceWire, size: int) -> bool:
+    def asks_on(self, wire: Wire, size: int) -> bool:
         """Whether the connection asks for the next request with its answer to this one, whose body has so many bytes.
         (It is one that asks once that answer is taken, for which it may wait.)"""
         if self.asking + len(self.ahead) >= SPARE or self.held - size > MOST_HELD:
@@ -172,13 +171,10 @@ class Handler:
         self.ahead.add(wire)
         return True
 
-    def asked(self) -> bytes:
-        return request_head("GET", f"{REQUESTS}next", self.host())
-
-    async def next(self, wire: ServiceWire) -> Optional[Handed]:
+    async def next(self, wire: Wire) -> Optional[Handed]:
         """None if the service has ended."""
         if wire not in self.ahead:
-            wire.transport.write(self.asked())
+            wire.put(wire.request(*NEXT))
         self.ahead.discard(wire)
         status, body = await self.said(wire, "GET", LONGEST)
         if status == ENDED:
@@ -187,27 +183,23 @@ class Handler:
             raise NotHanded(f"it answers {status} {body[:200].decode(errors='replace')}")
         return handed_of(body)
 
-    def host(self) -> List[Tuple[str, str]]:
-        return [("Host", f"127.0.0.1:{self.service}")]
-
     @staticmethod
-    async def said(wire: ServiceWire, method: str, most: int = LONGEST_SAID) -> Tuple[int, bytes]:
-        """The status and body of the answer to what was sent last. Gone if a body that has begun does not come."""
-        answer: Answer = await Client.answer(wire, method)
+    async def said(wire: Wire, method: str, most: int = LONGEST_SAID) -> Tuple[int, bytes]:
+        """The status and body of the answer to what was sent last. Unanswered if a body that has begun does not come.
+        """
+        answer = await wire.answer(method)
         try:
-            body = await (answer.body.whole(most) if answer.body.is_here else
-                          asyncio.wait_for(answer.body.whole(most), BODY_SECONDS))
+            body = await (answer.whole(most) if answer.is_here else
+                          asyncio.wait_for(answer.whole(most), BODY_SECONDS))
         except (asyncio.TimeoutError, TooLong):
-            raise Gone from None
-        if answer.keeps:
-            wire.reader.next_message()
-        else:
-            wire.abort()  # (what is sent or read next is Gone)
+            raise Unanswered("a body does not come") from None
+        if not answer.keeps:
+            wire.close()  # (what is sent or read next is Unanswered)
         return answer.status, body
 
     # ---- an answer ---------------------------------------------------------------------------------------------------
 
-    async def answer(self, wire: ServiceWire, handed: Handed) -> None:
+    async def answer(self, wire: Wire, handed: Handed) -> None:
         request = handed.request
         what = f"{request.method} {request.path[:200]}"
         reply, is_told = await self.reply_to(handed, what), False
@@ -219,14 +211,14 @@ class Handler:
                     is_told = True
                     self.tell(f"{what} gets 502: {fault}")
                 if wire in self.ahead:
-                    raise Gone  # (what it would post now comes after the next request: its end is the answer)
-            wire.transport.write(self.posted(handed.number, "error", [("Content-Length", "0")]))
+                    raise Unanswered()  # (what it would post now comes after the next request: its end is the answer)
+            wire.put(self.posted(wire, handed, "error"))
             await self.said(wire, "POST")
-        except (Gone, Malformed):
+        except Unanswered:
             is_broken = wire.is_lost or wire.reader.ended or wire.reader.fault is not None
             if is_told or not is_broken:
                 raise  # (what is passed on breaks off, and its own line says why)
-            raise Unanswered(what) from None
+            raise Left(what) from None
         finally:
             if reply is not None and reply.pieces is not None:
                 await reply.pieces.aclose()
@@ -240,30 +232,30 @@ class Handler:
         except NoDescriptor:
             self.tell_shortage()
             return of_service(503, "There are too many connections (ulimit -n)")
-        except (Gone, Malformed):
+        except Unanswered:
             return None  # (the service has broken a connection off)
         except Exception as fault:
             self.tell(f"{what} cannot be answered: {fault!r}")
             return of_service(500, "Internal Server Error")
 
-    def posted(self, number: int, how: str, fields: List[Tuple[str, str]]) -> bytes:
+    @staticmethod
+    def posted(wire: Wire, handed: Handed, how: str, fields: Fields = (), length: Optional[int] = 0) -> bytes:
         """The head of a post."""
-        return request_head("POST", f"{REQUESTS}{number}/{how}", [*self.host(), *fields])
+        return wire.request("POST", f"{REQUESTS}{handed.number}/{how}", fields, length)
 
-    async def post(self, wire: ServiceWire, handed: Handed, reply: Reply) -> None:
-        """Refused if the service does not take it, Gone if the connection is broken, or has to be."""
+    async def post(self, wire: Wire, handed: Handed, reply: Reply) -> None:
+        """Refused if the service does not take it, Unanswered if the connection is broken, or has to be."""
         if reply.status == 205:  # (which has no content: RFC 9110, section 15.3.6)
             reply = reply._replace(body=b"", pieces=None)
         fields = [("Lambda-Local-Status", str(reply.status)),
                   *(("Lambda-Local-Header", f"{name}: {value}") for name, value in reply.headers
                     if name.lower() not in OWN_FIELDS)]
         length = len(reply.body) if reply.pieces is None else length_said(reply)
-        framing = ("Transfer-Encoding", "chunked") if length is None else ("Content-Length", str(length))
-        head = self.posted(handed.number, "response", [*fields, framing])
+        head = self.posted(wire, handed, "response", fields, length)
         if reply.pieces is None:
             is_plain = len(head) + len(reply.body) <= SHORT and len(fields) <= FEW and 200 <= reply.status <= 599
             asks_on = is_plain and self.asks_on(wire, len(handed.request.content))
-            await self.write(wire, head, reply.body + self.asked() if asks_on else reply.body)
+            await self.write(wire, head, reply.body + wire.request(*NEXT) if asks_on else reply.body)
             status, said = await self.said(wire, "POST")
         else:
             await wire.write(head)
@@ -273,7 +265,7 @@ class Handler:
         if status not in (202, OVER):
             raise Refused(f"the service answers {status}, {message_in(said)}")
 
-    async def write(self, wire: ServiceWire, head: bytes, body: bytes) -> None:
+    async def write(self, wire: Wire, head: bytes, body: bytes) -> None:
         """Of a body that its reader does not take, there is no copy but for a piece."""
         try:
             for begin in range(0, max(1, len(body)), PIECE):
@@ -289,7 +281,7 @@ class Handler:
             await asyncio.sleep(BETWEEN_LOOKS)
             self.break_off()
             if self.fewest > SPARE:
-                with contextlib.suppress(Gone, asyncio.TimeoutError):
+                with contextlib.suppress(Unanswered, asyncio.TimeoutError):
                     await asyncio.wait_for(self.end_spare(self.fewest - SPARE), BETWEEN_LOOKS)
 
     def break_off(self) -> None:
@@ -298,7 +290,7 @@ class Handler:
         for wire in sorted(self.unread, key=lambda wire: wire.full_since):
             if size > MOST_UNREAD and wire.untaken(now) >= SLOW_SECONDS:
                 size, count = size - self.unread.pop(wire), count + 1
-                wire.abort()
+                wire.close()
         if count and now - self.last_broken > BETWEEN_TELLS:
             self.last_broken = now
             self.tell(f"{several(count, 'answer')} broken off: more than {MOST_UNREAD >> 20} MiB of answers wait, "
@@ -311,37 +303,23 @@ class Handler:
             for _ in range(count):
                 await client.ask("GET", HERE)
 
-    async def said_of_pieces(self, wire: ServiceWire, pieces: Pieces, length: Optional[int]) -> Tuple[int, bytes]:
+    async def said_of_pieces(self, wire: Wire, pieces: Pieces, length: Optional[int]) -> Tuple[int, bytes]:
         """Sends a body as it comes. If the service answers before its end, it takes no more of it. What breaks off, or
         has another length than was said, breaks the connection off, and so the requester's response."""
         loop = asyncio.get_running_loop()
-        said, sent = loop.create_task(self.said(wire, "POST")), loop.create_task(self.send(wire, pieces, length))
+        said, sent = loop.create_task(self.said(wire, "POST")), loop.create_task(wire.send(pieces, length))
         try:
             await asyncio.wait({said, sent}, return_when=asyncio.FIRST_COMPLETED)
             if sent.done():
                 await sent
             else:
                 await asyncio.wait({said})
-                wire.abort()
+                wire.close()
             return await said
         finally:
             for task in (said, sent):
                 task.cancel()
             await asyncio.gather(said, sent, return_exceptions=True)
-
-    @staticmethod
-    async def send(wire: ServiceWire, pieces: Pieces, length: Optional[int]) -> None:
-        left = length
-        async for piece in pieces:
-            if left is not None and len(piece) > left:
-                raise Gone
-            if piece:
-                await wire.write(chunk(piece) if left is None else piece)
-                left = None if left is None else left - len(piece)
-        if left:
-            raise Gone
-        if left is None:
-            await wire.write(last_chunk())
 
     def tell_shortage(self) -> None:
         now = time.monotonic()
@@ -358,8 +336,5 @@ def length_said(reply: Reply) -> Optional[int]:
 
 def message_in(said: bytes) -> str:
     """What is wrong, as the service says it."""
-    with contextlib.suppress(NotJson):
-        value = read_json(said)
-        if isinstance(value, dict) and isinstance(value.get("errorMessage"), str):
-            return str(value["errorMessage"])
-    return said[:200].decode(errors="replace")
+    words = (members_of(said) or {}).get("errorMessage")
+    return words if isinstance(words, str) else said[:200].decode(errors="replace")

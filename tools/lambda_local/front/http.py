@@ -1,59 +1,16 @@
-"""Requests and answers of the front, and the bodies of the service's answers, which are read as they come."""
-import asyncio
+"""Requests and answers of the front."""
 import http
-from typing import AsyncIterator, List, NamedTuple, Optional, Protocol
+from typing import AsyncIterator, NamedTuple, Optional, Protocol
 
-from ..http1 import TOKEN, Data, Headers, Malformed, Request as Head, every, first
-from .wire import Wire
+from ..exchange.connection import TooLong
+from ..http1 import TOKEN, Headers, Request as Head, every, first
 
-__all__ = ["LONGEST_BODY", "OF_CONNECTION", "PHRASES", "TOKEN", "Answer", "Body", "Headers", "Malformed", "Reply",
-           "Request", "TooLong", "every", "first"]
+__all__ = ["LONGEST_BODY", "OF_CONNECTION", "PHRASES", "TOKEN", "Headers", "Reply", "Request", "every", "first"]
 
 # Of one connection alone (RFC 9110, section 7.6.1)
 OF_CONNECTION = {"connection", "keep-alive", "proxy-connection", "te", "trailer", "transfer-encoding", "upgrade"}
 LONGEST_BODY = 6 << 20  # bytes that the service takes, as Lambda does
 PHRASES = {**{status.value: status.phrase for status in http.HTTPStatus}, 413: "Payload Too Large", 414: "URI Too Long"}
-
-
-class TooLong(Exception):
-    """A body is longer than it may be."""
-
-
-class Body:
-    """A body as it comes. `length` is none for one in chunks, negative for one until the end of the connection."""
-
-    def __init__(self, wire: Wire, length: Optional[int]) -> None:
-        self.wire, self.length, self.is_read = wire, length, length == 0
-        if length == 0:
-            wire.reader.next_event()
-
-    @property
-    def is_here(self) -> bool:
-        """Whether all of it has come already."""
-        return self.is_read or self.length is not None and 0 <= self.length <= len(self.wire.reader.buffer)
-
-    async def pieces(self) -> AsyncIterator[bytes]:
-        """Each gives others their turn, so that a body in small chunks holds nobody up."""
-        if self.is_read:
-            return
-        while isinstance(event := await self.wire.event(), Data):
-            yield event.data
-            if self.length is None:
-                await asyncio.sleep(0)
-        self.is_read = True
-
-    async def whole(self, most: int) -> bytes:
-        """All of it; TooLong if it has more bytes than that."""
-        if self.length is not None and self.length > most:
-            raise TooLong
-        parts: List[bytes] = []
-        size = 0
-        async for piece in self.pieces():
-            size += len(piece)
-            if size > most:
-                raise TooLong
-            parts.append(piece)
-        return parts[0] if len(parts) == 1 else b"".join(parts)
 
 
 NO_STAGE = "$default"  # the stage of an HTTP API that is in no path
@@ -100,14 +57,6 @@ class Request(NamedTuple):
     def target(self) -> str:
         """Its path and query, in whichever form its target came."""
         return self.head.parts.origin_form
-
-
-class Answer(NamedTuple):
-    """An answer as it comes from the service."""
-    status: int
-    headers: Headers
-    body: Body
-    keeps: bool  # whether the connection can be used again, once the body has been read
 
 
 class Pieces(Protocol):

@@ -1,19 +1,19 @@
 """Invocations that the service hands over: asynchronous ones are taken here, and those whose caller wants their log, or
 names an alias, are asked of the service as plain ones."""
-import asyncio
 import json
-from typing import Callable, Optional, Set, Tuple
+from typing import Awaitable, Callable, Optional, Set, Tuple
 from urllib.parse import parse_qs
 
 from ..clock.asked import SETTLED
 from ..clock.followed import Clock
 from ..configuration import Members
+from ..exchange.client import Client
+from ..exchange.connection import TooLong
 from ..outgoing import Log
 from ..service import AGAIN
-from .client import Client
 from .errors import NO_ROUTE, NOT_FOUND, WRONG_TYPE, of_json, of_user, stop_reply, throttle_reply
 from .events import TYPE, Event, Identifiers, function_of, refuse, trace_of
-from .http import LONGEST_BODY, Reply, Request, TooLong, first
+from .http import LONGEST_BODY, Reply, Request, first
 from .names import unknown
 from .outbox import Outbox
 from .queue import Full, Queue
@@ -24,7 +24,7 @@ MOST_PAYLOAD = 1 << 20  # bytes of an event (Developer Guide, "Lambda quotas")
 MOST_TARGETS = 1000  # that are remembered
 SYNCHRONOUS = (None, "RequestResponse")
 TROUBLE = "/_local/trouble"
-Trouble = Callable[[str, str], Tuple[int, str]]  # for a function and a kind, a status and a sentence
+Trouble = Callable[[str, str], Awaitable[Tuple[int, str]]]  # for a function and a kind, a status and a sentence
 OF_ANSWER = ("content-type", "x-amz-executed-version", "x-amz-function-error", "x-amzn-errortype", "x-amzn-requestid")
 
 
@@ -81,18 +81,14 @@ class InvokePort:
         if sorted(query) != ["function", "kind"] or [len(values) for values in given] != [1, 1]:
             status, text = 400, "function and kind are there once each"
         else:
-            status, text = await asyncio.get_running_loop().run_in_executor(None, trouble, given[0][0], given[1][0])
+            status, text = await trouble(given[0][0], given[1][0])
         body = {"message": text} if status == 202 else {"errorMessage": text, "errorType": "InvalidTrouble"}
         return Reply(status, [("content-type", "application/json")], of_json(body))
 
     async def settled(self) -> Reply:
         """Once all that is due by the service's clock has begun here."""
-        await asyncio.get_running_loop().run_in_executor(None, self.catch_up)
+        await self.clock.caught_up()
         return Reply(204)
-
-    def catch_up(self) -> None:
-        self.clock.ask()
-        self.clock.settle()
 
     def tell(self, text: str) -> None:
         self.log("up", text, level="error", kind="http")

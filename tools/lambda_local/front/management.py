@@ -9,18 +9,18 @@ from datetime import datetime, timezone
 from typing import Any, Dict, List, Optional, Tuple
 from urllib.parse import parse_qs, quote
 
+from ..exchange.client import Client
+from ..exchange.connection import Unanswered
 from ..streaming.streams import Streams
 from ..variables import text_of
 from . import response_stream
 from .aliases import Aliases
-from .client import Client
 from .errors import WRONG_TYPE, of_service, of_user, refusal
 from .events import TYPE, function_of, target_of, trace_of
-from .http import LONGEST_BODY, Malformed, Reply, Request, first
+from .http import LONGEST_BODY, Reply, Request, first
 from .invoke import SYNCHRONOUS, InvokePort
 from .operations import HERE, OF_API, OperationCall, operation_of, sentence
 from .settings import Address, Settings
-from .wire import Gone
 
 MOST_ITEMS, DEFAULT_ITEMS = 10_000, 50  # of a page of ListFunctions
 
@@ -59,7 +59,7 @@ class Management:
             if operation.name == "InvokeWithResponseStream":
                 return await self.stream(request, target, identifier)
             return await self.of_function(operation.name, str(function_of(target_of(name))), identifier)
-        except (Gone, Malformed):
+        except Unanswered:
             return of_service(500, "The service breaks its connection off")
 
     @staticmethod

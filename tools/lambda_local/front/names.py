@@ -3,7 +3,7 @@ import re
 from typing import List, Optional, Tuple
 from urllib.parse import parse_qsl, quote, unquote
 
-from .client import Client
+from ..exchange.client import Client
 from .errors import MALFORMED_NAME, NOT_FOUND
 from .http import Headers, Reply
 

@@ -7,14 +7,14 @@ from typing import Callable, Deque, Dict, List, Mapping, Optional, Set, Union
 
 from ..clock.followed import Clock, Timer
 from ..configuration import Members
+from ..exchange.client import Client, Unreachable
+from ..exchange.connection import Unanswered
 from ..outgoing import Log
 from .asynchronous import Asynchronous, Receiver, Remote
-from .client import Client, Unreachable
 from .errors import is_stop
 from .events import Event, Identifiers, message_in, target_of
-from .http import Headers, Malformed, first
+from .http import Headers, first
 from .outbox import Outbox, attributes_of
-from .wire import Gone
 
 MOST_EVENTS, MOST_BYTES = 1000, 64 << 20  # that wait or run: payloads, and the results that records will have
 FIRST_PAUSE, LONGEST_PAUSE = 0.05, 5.0  # seconds, after a throttle; each further one in a row doubles it
@@ -175,7 +175,7 @@ class Queue:
         except Unreachable:
             lane.running, event.is_running = lane.running - 1, False
             return self.postpone(lane, event, "cannot be sent, since the service takes no connection")
-        except (Gone, Malformed):
+        except Unanswered:
             status, headers, body = None, [], b""
         except Exception as fault:  # (of the front's own)
             self.say(event, f"could not be sent: {fault!r}", "error", "fault")

@@ -3,12 +3,13 @@ All is asked of the service in words of its own, and its answers go on as they c
 import contextlib
 from typing import AsyncIterator, Callable
 
+from ..exchange.client import Client
+from ..exchange.connection import Answer
 from ..service import AGAIN
 from .aliases import Aliases
-from .client import Client
 from .errors import of_user
 from .events import TRACE, TYPE
-from .http import LONGEST_BODY, Answer, Headers, Reply, Request, first
+from .http import LONGEST_BODY, Headers, Reply, Request, first
 from .origins import FROM_PAGE, PAGE_ADVICE, is_from_page
 from .storm import Gate
 from .tail import LOG_TYPE
@@ -43,8 +44,8 @@ class StormPort:
         async with contextlib.AsyncExitStack() as stack:
             answer = await stack.enter_async_context(client.exchange(
                 request.method, request.target, headers_to_send(request.headers), len(payload), payload, is_again))
-            if answer.body.is_here:
-                return Reply(answer.status, answer.headers, await answer.body.whole(answer.body.length or 0))
+            if answer.is_here:
+                return Reply(answer.status, answer.headers, await answer.whole())
             reply = Reply(answer.status, answer.headers, pieces=Passed(answer, stack.pop_all()))
         return reply
 
@@ -62,7 +63,7 @@ class Passed:
         self.answer, self.stack = answer, stack
 
     async def __aiter__(self) -> AsyncIterator[bytes]:
-        async for piece in self.answer.body.pieces():
+        async for piece in self.answer.pieces():
             yield piece
 
     async def aclose(self) -> None:

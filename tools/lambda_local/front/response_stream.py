@@ -4,14 +4,14 @@ import asyncio
 import contextlib
 from typing import Any, AsyncIterator, Callable, List, NamedTuple, Optional, Set, Tuple, Union
 
-from ..json_reader import NotJson, read_json
+from ..exchange.client import Client
+from ..exchange.connection import Unanswered
+from ..json_reader import members_of
 from ..streaming import frames, prelude
 from ..streaming.streams import Fault, Stream, Streams
-from .client import Client
-from .http import Headers, Malformed, Reply, Request, first
+from .http import Headers, Reply, Request, first
 from .payload import Unmappable, cookies_in, headers_in, status_in
 from .names import refusal_by_service
-from .wire import Gone
 
 Whole = Tuple[int, Headers, bytes]
 TRACE = "X-Amzn-Trace-Id"
@@ -27,11 +27,7 @@ class Start(NamedTuple):
 
 def fault_of(result: bytes) -> Fault:
     """What the service answers for a function that has failed."""
-    try:
-        report = read_json(result)
-    except NotJson:
-        report = None
-    kind = report.get("errorType") if isinstance(report, dict) else None
+    kind = (members_of(result) or {}).get("errorType")
     return Fault(kind if isinstance(kind, str) and kind else "Unhandled", result.decode(errors="replace"))
 
 
@@ -92,7 +88,7 @@ class Invocation:
         if self.stream is not None:
             self.stream.leave()
         self.answer.cancel()
-        with contextlib.suppress(asyncio.CancelledError, Gone, Malformed):
+        with contextlib.suppress(asyncio.CancelledError, Unanswered):
             await self.answer
 
 
@@ -124,7 +120,7 @@ async def url_pieces(stream: Stream, beginning: bytes, pieces: AsyncIterator[byt
     async for piece in pieces:
         yield piece
     if stream.fault is not None:
-        raise Gone
+        raise Unanswered("the response breaks off")
 
 
 async def url_reply(invocation: Invocation, stream: Stream) -> Reply:

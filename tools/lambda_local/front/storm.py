@@ -6,13 +6,14 @@ import json
 import re
 import threading
 from collections import OrderedDict
-from typing import AsyncIterator, Callable, Dict, Iterator, Optional, Sequence, Tuple, TypeVar
+from typing import AsyncIterator, Dict, Iterator, Optional, Sequence, Tuple
 
+from ..exchange.client import Client
+from ..exchange.connection import Answer
 from ..outgoing import Log
 from ..storm import THROTTLE, WORDS, Course, Maker, NotMade, Order, Outcome, Storm, Tally
-from .client import Client
 from .events import TRACE, TYPE, function_of, target_of
-from .http import Answer, first
+from .http import first
 
 MAKE_SECONDS = 10.0  # as long others of a function wait for one that is to meet trouble
 LOOK_SECONDS = 0.005  # between two looks
@@ -20,12 +21,7 @@ MOST_ROOTS = 10_000  # that are remembered
 ROOT = re.compile(r"(?:^|;)\s*Root=([^;]+)")
 RESERVATION = re.compile(r"/2017-10-31/functions/([^/?]+)/concurrency")
 CONCURRENCY = "/{}/functions/{}/concurrency"
-Given = TypeVar("Given")
 Fields = Sequence[Tuple[str, str]]
-
-
-async def in_thread(call: Callable[..., Given], *given: object) -> Given:
-    return await asyncio.get_running_loop().run_in_executor(None, call, *given)
 
 
 def root_of(headers: Fields) -> Optional[str]:
@@ -70,6 +66,7 @@ class Gate:
         self.roots: "OrderedDict[str, None]" = OrderedDict()  # of those that had trouble
         self.sent = 0  # invocations that were not answered yet
         self.opened: Optional[asyncio.Event] = None  # not set while none may be sent
+        self.stills = 0  # that last
 
     def unanswered(self) -> int:
         """How many invocations were sent and not answered yet."""
@@ -152,7 +149,7 @@ class Gate:
         """Once all that was sent before it has reached a runtime."""
         loop = asyncio.get_running_loop()
         end = loop.time() + MAKE_SECONDS
-        while trouble.lane.sent - 1 > await in_thread(self.maker.working, trouble.function):
+        while trouble.lane.sent - 1 > await self.maker.working(trouble.function):
             if loop.time() > end:
                 raise NotMade("earlier invocations still wait for a runtime")
             await asyncio.sleep(LOOK_SECONDS)
@@ -162,7 +159,7 @@ class Gate:
         def progress(outcome: Optional[Outcome]) -> None:
             with contextlib.suppress(RuntimeError):  # (the loop has ended)
                 loop.call_soon_threadsafe(self.progress, trouble, outcome)
-        trouble.order = await in_thread(self.maker.arrange, trouble.function, trouble.kind, progress)
+        trouble.order = await self.maker.arrange(trouble.function, trouble.kind, progress)
 
     async def throttle(self, trouble: Trouble) -> None:
         status, _, body = await self.beside.ask("GET", CONCURRENCY.format("2019-09-30", trouble.function))
@@ -195,7 +192,7 @@ class Gate:
                 trouble.is_reserved = False
                 await self.reserve(trouble.function, trouble.reserved)
             if trouble.order and not trouble.is_over:
-                await in_thread(trouble.order.call_off, outcome.why)
+                await trouble.order.call_off(outcome.why)
         finally:
             self.over(trouble, trouble.outcome or outcome)
 
@@ -226,25 +223,36 @@ class Gate:
     # ---- for what moves the clock ------------------------------------------------------------------------------------
 
     @contextlib.contextmanager
-    def still(self, loop: asyncio.AbstractEventLoop) -> Iterator[None]:
-        """While this lasts no invocation is sent. Any thread may ask for it but the loop's own."""
-        is_closed = threading.Event()
+    def still(self) -> Iterator[None]:
+        """While this lasts no invocation is sent. For the loop."""
+        self.close()
+        try:
+            yield
+        finally:
+            self.open_again()
 
-        def close() -> None:
-            self.opened = asyncio.Event()
-            is_closed.set()
+    def close(self) -> None:
+        self.stills += 1
+        self.opened = self.opened or asyncio.Event()
 
-        def open_again() -> None:
-            if self.opened is not None:
-                self.opened.set()
+    def open_again(self) -> None:
+        self.stills -= 1
+        if self.opened and not self.stills:
+            self.opened.set()
             self.opened = None
-        loop.call_soon_threadsafe(close)
+
+    @contextlib.contextmanager
+    def still_for(self, loop: asyncio.AbstractEventLoop) -> Iterator[None]:
+        """The same for a thread."""
+        is_closed = threading.Event()
+        loop.call_soon_threadsafe(self.close)
+        loop.call_soon_threadsafe(is_closed.set)
         try:
             is_closed.wait(MAKE_SECONDS)
             yield
         finally:
             with contextlib.suppress(RuntimeError):  # (the loop has ended)
-                loop.call_soon_threadsafe(open_again)
+                loop.call_soon_threadsafe(self.open_again)
 
 
 class StormyClient(Client):

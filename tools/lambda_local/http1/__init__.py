@@ -9,13 +9,12 @@
 It takes what `hyper` takes, which the service reads by, and refuses what `hyper` refuses, with the same status, and
 besides more than 16 KiB of leading zeros and blanks around the sizes of a body's chunks. It raises `Malformed` and
 nothing else, whatever comes. All of it is linear in the bytes that come, in whichever pieces."""
-from .events import (CLOSED, NEED_DATA, PAUSED, Data, EndOfMessage, Event, Limits, Malformed, Request, Response,
-                     Unwritable)
+from .events import CLOSED, NEED_DATA, PAUSED, Data, EndOfMessage, Event, Malformed, Request, Response, Unwritable
 from .reader import CutShort, Reader, RequestReader, ResponseReader
 from .syntax import TOKEN, Headers, Target, every, first, is_field_value, is_token, target_of
 from .writer import chunk, last_chunk, request_head, response_head
 
-__all__ = ["CLOSED", "NEED_DATA", "PAUSED", "TOKEN", "CutShort", "Data", "EndOfMessage", "Event", "Headers", "Limits",
+__all__ = ["CLOSED", "NEED_DATA", "PAUSED", "TOKEN", "CutShort", "Data", "EndOfMessage", "Event", "Headers",
            "Malformed", "Reader", "Request", "RequestReader", "Response", "ResponseReader", "Target", "Unwritable",
            "chunk", "every", "first", "is_field_value", "is_token", "last_chunk", "request_head", "response_head",
            "target_of"]

@@ -9,8 +9,7 @@ BEGUN_LINE = re.compile(rb"(?:[0-9A-Fa-f]+[ \t]*(?:;[\t -~\x80-\xff]*)?\r?)?")
 PLAIN_LINE = re.compile(rb"([1-9A-Fa-f][0-9A-Fa-f]{0,7})\r\n")
 MOST_DIGITS = 16  # without leading zeros
 AT_ONCE = 128 << 10  # bytes of a body that are read before others have their turn
-SMALL = 16  # bytes of a chunk; of these a run is read at once
-LEAST_RUN = 4
+MOST_EXTENSIONS = 16 << 10  # bytes, of all chunks of a body
 LEAST_MEAN = 64  # bytes between two CR LF, if chunks are read all at once
 
 
@@ -18,8 +17,8 @@ class Chunks:
     """The position in such a body. `extensions` is how many bytes of extensions, blanks and leading zeros are still
     taken."""
 
-    def __init__(self, extensions: int) -> None:
-        self.extensions = extensions
+    def __init__(self) -> None:
+        self.extensions = MOST_EXTENSIONS
         self.left: Optional[int] = None  # bytes of the present chunk that are still to come; none before its size
         self.is_over = False  # the last chunk has come, and the trailers follow
 
@@ -47,16 +46,12 @@ class Chunks:
     @staticmethod
     def _plain(text: bytes, at: int, parts: List[bytes]) -> int:
         """Takes the whole chunks from here on whose lines are nothing but a size. Returns the place after them."""
-        last = 0
         while line := PLAIN_LINE.match(text, at):
             size, start = int(line[1], 16), line.end()
             if text[start + size:start + size + 2] != b"\r\n":
                 break
             parts.append(text[start:start + size])
-            width, at = start + size + 2 - at, start + size + 2
-            if size == last and size <= SMALL:
-                at = run_of_equal(text, at, width, size, parts)
-            last = size
+            at = start + size + 2
         return at
 
     def _size(self, text: bytes, at: int, is_cut: bool) -> int:
@@ -107,21 +102,3 @@ def all_at_once(text: bytes, at: int, parts: List[bytes]) -> int:
         return at
     parts += data
     return len(text) - len(b"\r\n".join(pieces[count:]))
-
-
-def run_of_equal(text: bytes, at: int, width: int, size: int, parts: List[bytes]) -> int:
-    """Takes chunks that have the same line as the one before this place, which was small. Returns the place after them.
-    They are taken as columns, each time four times as many, and compared with what such chunks are: so a body in chunks
-    of one byte costs a few nanoseconds a byte."""
-    unit, content, wanted = text[at - width:at], width - size - 2, LEAST_RUN
-    while (count := min(wanted, (len(text) - at) // width)) >= LEAST_RUN:
-        end = at + count * width
-        made, data = bytearray(unit * count), bytearray(count * size)
-        for place in range(size):
-            column = text[at + content + place:end:width]
-            made[content + place::width] = data[place::size] = column
-        if made != text[at:end]:
-            break
-        parts.append(bytes(data))
-        at, wanted = end, 4 * wanted
-    return at

@@ -4,21 +4,12 @@ from typing import NamedTuple, Optional, Union
 
 from .syntax import Headers, Malformed, Target
 
-__all__ = ["CLOSED", "NEED_DATA", "PAUSED", "Data", "EndOfMessage", "Event", "Limits", "Malformed", "Request",
-           "Response", "Unwritable"]
+__all__ = ["CLOSED", "NEED_DATA", "PAUSED", "Data", "EndOfMessage", "Event", "Malformed", "Request", "Response",
+           "Unwritable"]
 
 
 class Unwritable(ValueError):
     """A name, a value or a line that cannot be in a head."""
-
-
-class Limits(NamedTuple):
-    """The service's (docs/formats.md): bytes of a head, of the extensions of all chunks of a body, and of its trailers;
-    and how many fields a head, or the trailers, may have."""
-    head: int = 64 << 10
-    fields: int = 100
-    extensions: int = 16 << 10
-    trailers: int = 16 << 10
 
 
 class Request(NamedTuple):

@@ -1,14 +1,16 @@
 """Readers of requests and of responses: a buffer, and what is expected next in it."""
 import re
-from typing import Callable, List, Optional
+from typing import Callable, List, Optional, Union
 
 from .chunks import Chunks
-from .events import CLOSED, NEED_DATA, PAUSED, Data, EndOfMessage, Event, Limits, Malformed, Request, Response
+from .events import CLOSED, NEED_DATA, PAUSED, Data, EndOfMessage, Event, Malformed, Request, Response
 from .framing import UNTIL_CLOSE, of_request, of_response
 from .syntax import (BEGUN_FIELD, BEGUN_REQUEST_LINE, BEGUN_STATUS_LINE, ONE_FIELD, ONE_REQUEST_LINE, ONE_STATUS_LINE,
                      REQUEST_LINE, STATUS_LINE, fields_of, is_utf8, target_of)
 
 PIECE = 256 << 10  # bytes of a body that are given at once
+# The service's (docs/formats.md): bytes of a head and of a body's trailers, and how many fields each of them may have.
+MOST_HEAD, MOST_TRAILERS, MOST_FIELDS = 64 << 10, 16 << 10, 100
 LOOKED_AT = 4 << 10  # bytes of a line that has not ended; so a slow peer costs no more than its bytes
 END = re.compile(rb"\n\r?\n")
 BARE = "each line of a head must end with CR LF"
@@ -20,17 +22,17 @@ class Reader:
     begun_line = BEGUN_REQUEST_LINE
     status_of_faults: Optional[int] = None  # that of all, if it is one
 
-    def __init__(self, limits: Limits = Limits()) -> None:
-        self.limits, self.buffer, self.ended = limits, bytearray(), False
+    def __init__(self) -> None:
+        self.buffer, self.ended = bytearray(), False
         self.fault: Optional[Malformed] = None
         self._step: Callable[[], Event] = self._head
         # bytes of the head in which its end is not; those of its lines that are whole; of the empty lines before it
         self._seen = self._lines = self._blank = 0
         self._fields, self._is_bare = 0, False  # how many of these lines there are; whether an empty one has no CR
         self._left = 0  # of a body with a length
-        self._chunks = Chunks(limits.extensions)
+        self._chunks = Chunks()
 
-    def receive(self, data: bytes) -> None:
+    def receive(self, data: Union[bytes, memoryview]) -> None:
         """Takes bytes as they come; none say that the peer has ended its side."""
         self.buffer += data
         self.ended = self.ended or not data
@@ -66,7 +68,7 @@ class Reader:
 
     def _head(self) -> Event:
         self._skip_empty_lines()
-        most = self.limits.head - self._blank
+        most = MOST_HEAD - self._blank
         end_of_head = END.search(self.buffer, max(0, self._seen - 2), max(0, most))
         if end_of_head and self._is_bare:
             raise Malformed(400, BARE)
@@ -99,8 +101,8 @@ class Reader:
                 raise Malformed(400, "what came is not a line of a head")
             self._fields += not is_first
             self._lines = end
-        if self._fields > self.limits.fields:
-            raise Malformed(431, f"there are more than {self.limits.fields} fields")
+        if self._fields > MOST_FIELDS:
+            raise Malformed(431, f"there are more than {MOST_FIELDS} fields")
         line = self.buffer[self._lines:self._lines + LOOKED_AT].decode("latin-1")
         pattern = self.begun_line if has_first_line and not self._lines else BEGUN_FIELD
         if len(line) < LOOKED_AT and not pattern.fullmatch(line) and line != "\r":
@@ -120,7 +122,7 @@ class Reader:
     def _body(self, length: Optional[int]) -> None:
         """What follows a head."""
         if length is None:
-            self._chunks, self._step = Chunks(self.limits.extensions), self._chunked
+            self._chunks, self._step = Chunks(), self._chunked
         elif length == UNTIL_CLOSE:
             self._step = self._until_close
         else:
@@ -151,14 +153,14 @@ class Reader:
         return self._trailers()
 
     def _trailers(self) -> Event:
-        most = self.limits.trailers
+        most = MOST_TRAILERS
         if self.buffer[:1] in (b"\r", b"\n"):
             end = 2 if len(self.buffer) > 1 or self.buffer == b"\n" else 0
         else:
             end_of_trailers = END.search(self.buffer, max(0, self._seen - 2), most)
             end = end_of_trailers.end() if end_of_trailers else 0
         if end:
-            return self._end(fields_of(self._take(end).decode("latin-1"), 0, self.limits.fields))
+            return self._end(fields_of(self._take(end).decode("latin-1"), 0, MOST_FIELDS))
         if len(self.buffer) >= most:
             raise Malformed(431, "the trailers are too long")
         self._look_at(False)
@@ -206,7 +208,7 @@ class RequestReader(Reader):
             raise Malformed(400, BARE if is_bare else "a request begins with METHOD TARGET HTTP/1.1")
         method, target, version = line.groups()
         parts = target_of(target)
-        headers = fields_of(text, line.end(), self.limits.fields)
+        headers = fields_of(text, line.end(), MOST_FIELDS)
         length, keeps_alive, expects_continue = of_request(method, version, headers)
         self._body(length)
         return Request(method, target, parts, version, headers, length, keeps_alive, expects_continue)
@@ -217,8 +219,8 @@ class ResponseReader(Reader):
     begun_line = BEGUN_STATUS_LINE
     status_of_faults = 502  # (a gateway that got an invalid response: RFC 9110, section 15.6.3)
 
-    def __init__(self, limits: Limits = Limits()) -> None:
-        super().__init__(limits)
+    def __init__(self) -> None:
+        super().__init__()
         self.method = "GET"
 
     def _is_first_line(self, line: str) -> bool:
@@ -229,7 +231,7 @@ class ResponseReader(Reader):
         if not line:
             raise Malformed(502, "a response begins with HTTP/1.1 STATUS REASON")
         version, status, reason = line[1], int(line[2]), line[3] or ""
-        headers = fields_of(text, line.end(), self.limits.fields)
+        headers = fields_of(text, line.end(), MOST_FIELDS)
         if status == 101:
             raise Malformed(502, "a response switches protocols unasked")
         length, keeps_alive = of_response(self.method, status, version, headers)

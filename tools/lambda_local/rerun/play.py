@@ -4,7 +4,7 @@ import time
 from typing import Callable, List, Mapping, NamedTuple, Optional, Sequence, Tuple
 from urllib.parse import quote
 
-from ..exchange import Answer, sent
+from ..exchange.of_threads import sent
 from ..program import Fault
 from .record import Invocation
 
@@ -51,7 +51,7 @@ class Attempt(threading.Thread):
         headers = {} if self.invocation.trace is None else {"X-Amzn-Trace-Id": self.invocation.trace}
         with sent(self.port, "POST", path, self.invocation.payload, headers, self.timeout) as connection:
             self.is_sent.set()
-            answer = Answer(connection, "POST")
+            answer = connection.answered("POST")
             return answer.status, answer.headers.get("x-amzn-requestid"), answer.whole()
 
 

@@ -41,7 +41,6 @@ class Beside:
     divides = False  # whether the lines of invocations are divided by it
     marker: Optional[Marker] = None  # by which, if it is so by marks
 
-
     def __init__(self, port: int):
         self.port = port
 

@@ -5,7 +5,7 @@ import uuid
 from typing import Callable, List, Optional
 
 from ..http1 import Headers, Malformed, Request, Response, first
-from ..json_reader import NotJson, read_json
+from ..json_reader import members_of
 from ..service import EXTENSION, RUNTIME
 from ..streaming.streams import ERROR_TYPE, Stream, Streams
 from .conversation import Answer, Ears, Exchange
@@ -73,20 +73,12 @@ class Short(Exchange):
     def is_done(self, *statuses: int) -> bool:
         return self.reply is not None and self.reply.status in statuses
 
-    @staticmethod
-    def members(body: bytes) -> "dict[str, object]":
-        try:
-            found = read_json(body, longest=SHORT)
-        except NotJson:
-            return {}
-        return found if isinstance(found, dict) else {}
-
 
 class Registration(Short):
     def all_came(self) -> None:
         if self.reply is None or self.reply.status != 200:
             return
-        events = self.members(bytes(self.body)).get("events")
+        events = (members_of(bytes(self.body), SHORT) or {}).get("events")
         names = [event for event in events if isinstance(event, str)] if isinstance(events, list) else []
         self.desk.registers(identifier_of(self.reply.headers), first(self.head.headers, NAME) or "", names)
 
@@ -110,7 +102,7 @@ class ExtensionPoll(Short):
         self.lost()
         if not self.is_done(200):
             return
-        event = self.members(bytes(self.content))
+        event = members_of(bytes(self.content), SHORT) or {}
         if event.get("eventType") == "INVOKE":
             self.deliver(str(event.get("requestId")))
         elif event.get("eventType") == "SHUTDOWN":

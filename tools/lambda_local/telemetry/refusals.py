@@ -6,7 +6,7 @@ import re
 from typing import Callable, Dict, NamedTuple, Optional
 
 from ..http1 import CutShort, Malformed, Request, Response, first
-from ..json_reader import NotJson, read_json
+from ..json_reader import members_of
 from ..service import EXTENSION, RUNTIME
 from .subscription import LOGS, TELEMETRY
 
@@ -117,11 +117,7 @@ class Refusals:
 
 def type_of(body: bytes) -> str:
     """The service's type of a refusal; nothing if the body has none."""
-    try:
-        found = read_json(body[:SHORT])
-    except NotJson:
-        return ""
-    value = found.get("errorType") if isinstance(found, dict) else None
+    value = (members_of(body[:SHORT]) or {}).get("errorType")
     return value if isinstance(value, str) else ""
 
 

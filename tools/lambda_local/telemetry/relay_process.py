@@ -6,7 +6,6 @@ they had written by then is before it, and what they write for the invocation af
 What the service refuses of them is told as it is by other proxies. `relay` has the tool's side: the socket whose number
 is the argument has messages in JSON, some with a descriptor, and closes when the tool ends, however that ends."""
 import asyncio
-import contextlib
 import json
 import os
 import resource
@@ -16,7 +15,7 @@ from collections import deque
 from typing import Awaitable, Deque, Dict, List, Optional
 
 from ..http1 import Malformed, Request, Response, first
-from ..json_reader import NotJson, read_json
+from ..json_reader import members_of
 from .conversation import Ears, Exchange
 from .proxy import Proxy
 from .refusals import Refusals
@@ -99,10 +98,9 @@ class EventPoll(Exchange):
     def all_came(self) -> None:
         if self.status != 200 or not self.holds:
             return
-        with contextlib.suppress(NotJson):
-            event = read_json(bytes(self.content), longest=SHORT)
-            if isinstance(event, dict) and event.get("eventType") == "INVOKE":
-                self.waits = self.ears.given(str(event.get("requestId")).lower())
+        event = members_of(bytes(self.content), SHORT) or {}
+        if event.get("eventType") == "INVOKE":
+            self.waits = self.ears.given(str(event.get("requestId")).lower())
 
 
 class Marking(Ears):

@@ -2,16 +2,17 @@
 or wrong costs nothing but the room of its own buffer. A batch that was not taken is sent again, so none is lost while
 there is room, and one may come twice."""
 import asyncio
+import contextlib
 import time
 from typing import Callable, List, Optional, Tuple
 
+from ..exchange.connection import LOCAL, NotAnswer, TooLong
+from ..exchange.of_tasks import Wire, connected
 from ..front.tasks import begin_task
-from ..http1 import NEED_DATA, Data, EndOfMessage, Malformed, Response, ResponseReader, request_head
 from .buffer import Buffer
 from .schema import array_of, lines_of
 from .subscription import Destination
 
-HERE = "127.0.0.1"  # a receiver is an extension's own, on this machine's loopback
 ACKNOWLEDGED_SECONDS = 60.0  # for an answer
 LONGEST_ANSWER = 64 << 10  # bytes
 FIRST_PAUSE, LONGEST_PAUSE = 0.05, 2.0  # seconds, before a batch is sent again
@@ -23,27 +24,29 @@ class NotTaken(Exception):
     """Why a receiver has not taken a batch."""
 
 
-class Connection:
-    """One connection to a receiver, made when there is something to send."""
+class Receiver:
+    """A receiver, and a connection to it, made when there is something to send."""
+    is_kept = False  # whether it can be used again
 
     def __init__(self, destination: Destination):
         self.destination = destination
-        self.streams: Optional[Streams] = None
 
     async def send(self, events: List[bytes]) -> None:
         """Raises NotTaken; the next time, a new connection is made."""
         try:
-            was_kept = self.streams is not None
+            was_kept, self.is_kept = self.is_kept, False
             try:
                 await self._send(events)
-            except (OSError, EOFError) as fault:
+            except asyncio.TimeoutError:  # (from Python 3.11 on an OSError)
+                raise
+            except (OSError, EOFError):
                 self.close()
                 if not was_kept:
-                    raise NotTaken(str(fault) or type(fault).__name__) from None
+                    raise
                 await self._send(events)  # (it had closed a connection that was not used)
         except asyncio.TimeoutError:
             raise NotTaken(f"it has not answered within {ACKNOWLEDGED_SECONDS:g} s") from None
-        except Malformed as fault:
+        except NotAnswer as fault:
             raise NotTaken(f"its answer is not HTTP/1.1: {fault}") from None
         except (OSError, EOFError) as fault:
             raise NotTaken(str(fault) or type(fault).__name__) from None
@@ -51,67 +54,47 @@ class Connection:
             if not self.is_kept:
                 self.close()
 
-    is_kept = False
-
     async def _send(self, events: List[bytes]) -> None:
         raise NotImplementedError
 
-    async def _opened(self) -> Streams:
-        self.is_kept = False
-        if self.streams is None:
-            self.streams = await asyncio.open_connection(HERE, self.destination.port)
-        return self.streams
-
     def close(self) -> None:
-        if self.streams is not None:
-            self.streams[1].transport.abort()
-            self.streams = None
+        raise NotImplementedError
 
 
-class OverHttp(Connection):
+class OverHttp(Receiver):
+    wire: Optional[Wire] = None
+
     async def _send(self, events: List[bytes]) -> None:
         await asyncio.wait_for(self._ask(array_of(events)), ACKNOWLEDGED_SECONDS)
 
     async def _ask(self, body: bytes) -> None:
+        """Of an answer that is longer no more is read: it counts by its head."""
         to = self.destination
-        reader, writer = await self._opened()
-        writer.write(request_head(to.method, to.target, [
-            ("Host", f"{to.host}:{to.port}"), ("Content-Type", "application/json"),
-            ("Content-Length", str(len(body)))]) + body)
-        await writer.drain()
-        answer = ResponseReader()
-        answer.method = to.method
-        status = await self._answer(answer, reader)
-        if not 200 <= status < 300:
-            raise NotTaken(f"it answers {status}")
+        if self.wire is None:
+            self.wire = await connected(to.port)
+        await self.wire.write(self.wire.request(to.method, to.target, [
+            ("Host", f"{to.host}:{to.port}"), ("Content-Type", "application/json")], len(body)) + body)
+        answer = await self.wire.answer(to.method)
+        with contextlib.suppress(TooLong):
+            await answer.whole(LONGEST_ANSWER)
+        self.is_kept = answer.keeps and self.wire.is_silent()
+        if not 200 <= answer.status < 300:
+            raise NotTaken(f"it answers {answer.status}")
 
-    async def _answer(self, answer: ResponseReader, reader: asyncio.StreamReader) -> int:
-        """Its status. Of an answer that is longer no more is read: it counts by its head, if that has come."""
-        status, keeps, size = 0, False, 0
-        while True:
-            event = answer.next_event()
-            if isinstance(event, Response):
-                status, keeps = event.status, event.keeps_alive
-            elif isinstance(event, EndOfMessage):
-                self.is_kept = keeps and not answer.buffer
-                return status
-            elif event is NEED_DATA and size > LONGEST_ANSWER:
-                break
-            elif event is NEED_DATA:
-                size += len(data := await reader.read(LONGEST_ANSWER))
-                answer.receive(data)
-            elif not isinstance(event, Data):
-                raise EOFError("it has closed the connection")
-        if status < 200:
-            raise NotTaken(f"its answer has more than {LONGEST_ANSWER} bytes and no status, other than {status}")
-        return status
+    def close(self) -> None:
+        if self.wire is not None:
+            self.wire.close()
+            self.wire = None
 
 
-class OverTcp(Connection):
+class OverTcp(Receiver):
     """There is no answer: what the system has taken has been sent. So a receiver may take its time."""
+    streams: Optional[Streams] = None
 
     async def _send(self, events: List[bytes]) -> None:
-        reader, writer = await self._opened()
+        if self.streams is None:
+            self.streams = await asyncio.open_connection(LOCAL, self.destination.port)
+        reader, writer = self.streams
         if reader.at_eof():
             raise EOFError("it has closed the connection")
         writer.transport.set_write_buffer_limits(high=0)
@@ -121,8 +104,13 @@ class OverTcp(Connection):
             raise EOFError("it has closed the connection")
         self.is_kept = True
 
+    def close(self) -> None:
+        if self.streams is not None:
+            self.streams[1].transport.abort()
+            self.streams = None
 
-def connection_to(destination: Destination) -> Connection:
+
+def receiver_at(destination: Destination) -> Receiver:
     return OverTcp(destination) if destination.protocol == "TCP" else OverHttp(destination)
 
 
@@ -131,7 +119,7 @@ class Sender:
 
     def __init__(self, destination: Destination, buffer: Buffer, tell: Callable[[str], None]):
         self.buffer, self.tell = buffer, tell
-        self.connection = connection_to(destination)
+        self.receiver = receiver_at(destination)
         self.is_hurried = self.is_ended = self.is_woken = False
         self.is_idle = True  # nothing waits, and so no time is running
         self.task: Optional["asyncio.Task[None]"] = None
@@ -193,7 +181,7 @@ class Sender:
                     await asyncio.sleep(LONGEST_PAUSE)
                     pause = LONGEST_PAUSE
         finally:
-            self.connection.close()
+            self.receiver.close()
 
     def _tell_first(self, pause: float, what: str) -> None:
         """(of several in a row)"""
@@ -215,5 +203,5 @@ class Sender:
 
     async def _send_one(self) -> None:
         batch = self.buffer.batch()
-        await self.connection.send(batch)
+        await self.receiver.send(batch)
         self.buffer.taken(len(batch), time.monotonic())

@@ -6,11 +6,13 @@ from datetime import datetime, timezone
 from typing import Callable, Optional, Tuple
 from urllib.parse import urlsplit
 
-from ..exchange import asked
+from ..exchange.connection import words_of
+from ..exchange.of_threads import asked
 from ..history.opening import Configuration, read_configuration
-from ..history.running import Lost, Running, lines_in
+from ..history.running import Running
 from ..history.script import FORM_2
 from ..history.shapes import NotTrace
+from ..history.trace import Lost, lines_in
 from ..outgoing import tell
 from ..program import Fault
 from .live_page import fragment
@@ -114,10 +116,6 @@ class Live:
         self.ended.set()
         self.running.close()
         self.thread.join(SILENCE)
-
-
-def words_of(fault: BaseException) -> str:
-    return getattr(fault, "strerror", None) or str(fault) or type(fault).__name__
 
 
 def say(words: str) -> None:

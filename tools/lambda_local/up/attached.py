@@ -4,16 +4,16 @@ Nothing is asked of a runtime, nor for an invocation. Node says on standard erro
 that was started; from then on the system is asked at each look whether a client is connected to it. Python's runtime
 notices that pydevd is imported, on which debugpy and PyCharm rest; from then on it has a file beside the clock's while
 a client is attached (examples/runtime.py)."""
-import asyncio
 import contextlib
 import functools
 import os
 import re
 from typing import Callable, Dict, Iterable, List, NamedTuple, Set
 
-from ..clock.followed import Clock
+from ..clock.asked import PAUSE, RESUME
 from .environments import Environment
 from .invocation_lines import Line, Printed
+from .loop_clock import LoopClock
 from .programs import language_of
 
 LISTENS = re.compile(r"Debugger listening on ws://\S+:([0-9]{1,5})/[0-9a-f-]{36}")
@@ -42,7 +42,7 @@ def clients_of(port: int, pid: int) -> Set[str]:
 class Attached:
     """The debuggers of a run. `look` is called again and again, by one task."""
 
-    def __init__(self, environments: Iterable[Environment], printed: Dict[int, Printed], clock: Clock,
+    def __init__(self, environments: Iterable[Environment], printed: Dict[int, Printed], clock: LoopClock,
                  clock_file: str, say: Callable[[str, str, str], None]) -> None:
         """`say` gets a name, a line and its level."""
         self.clock, self.clock_file, self.say = clock, clock_file, say
@@ -64,11 +64,10 @@ class Attached:
         attached = {one for one in self.environments if self._is_inspected(one) or self._pid_of(one) in marked}
         fresh = sorted(attached - self.attached, key=lambda one: one.number)
         was_held, self.attached = bool(self.attached), attached
-        loop = asyncio.get_running_loop()
         if attached and not was_held:
-            await loop.run_in_executor(None, self._hold, fresh[0])
+            await self._hold(fresh[0])
         elif was_held and not attached:
-            await loop.run_in_executor(None, self._let_go)
+            await self._let_go()
 
     @staticmethod
     def _pid_of(environment: Environment) -> int:
@@ -102,19 +101,19 @@ class Attached:
 
     # ---- the clock ---------------------------------------------------------------------------------------------------
 
-    def _hold(self, environment: Environment) -> None:
-        self.clock.ask()
+    async def _hold(self, environment: Environment) -> None:
+        await self.clock.ask_later()
         was_paused = self.clock.is_paused
         if not was_paused:
-            self.clock.pause()
+            await self.clock.set_later(PAUSE)
         self.holds = self.clock.is_paused and not was_paused
         what = ("the clock is paused until it detaches" if self.holds
                 else "the clock is paused already, and stays so" if was_paused
                 else "its timeout is as it is, since the service's clock cannot be paused")
         self.say(environment.name, f"a debugger has attached: {what}", "info" if self.clock.is_paused else "warning")
 
-    def _let_go(self) -> None:
+    async def _let_go(self) -> None:
         if self.holds:
             self.holds = False
-            self.clock.resume()
+            await self.clock.set_later(RESUME)
             self.say("up", "no debugger is attached any more: the clock goes on", "info")

@@ -6,9 +6,9 @@ import threading
 import time
 from typing import Iterable, List, Optional, Set
 
+from ..exchange.of_tasks import ask
 from ..service import Service
 from ..telemetry.sidecars import Sidecars
-from .asking import ask
 from .environments import Environment
 from .log import Log
 from .watch import Watch

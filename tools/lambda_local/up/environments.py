@@ -10,12 +10,12 @@ import threading
 import time
 from typing import Awaitable, Callable, Dict, List, Optional, Tuple
 
+from ..exchange.of_tasks import Wire, answered, ask, sent
 from ..life import Generation
 from ..reports import kind_in
 from ..service import EXTENSION, RUNTIME, Fault, Service
 from ..telemetry.sidecars import Sidecars
 from . import surroundings, unseen
-from .asking import Asked, ask, asked
 from .bell import Bell, first_of
 from .due import due
 from .invocation_lines import Printed
@@ -115,7 +115,7 @@ class Environment:
         self.identifier = await self.register()
         if self.identifier is None:
             return False
-        waiting = await asked(self.port, "GET", EXTENSION + "event/next", headers=self.me())
+        waiting = await sent(self.port, "GET", EXTENSION + "event/next", headers=self.me())
         try:
             if is_to_fail:
                 return await self.fail()
@@ -213,7 +213,7 @@ class Environment:
         self.runtime = runtime
         return runtime
 
-    async def attend(self, waiting: Asked) -> bool:
+    async def attend(self, waiting: Wire) -> bool:
         """Until the service says that the environment closes, or a process ends."""
         runtime = self.runtime
         assert runtime is not None
@@ -249,7 +249,7 @@ class Environment:
         await self.ended_by(reason_of(await runtime.status()), "Runtime.ExitError", str(self.identifier))
         return await self.close(self.in_shutdown())
 
-    async def extension_exited(self, process: Process, waiting: Asked) -> bool:
+    async def extension_exited(self, process: Process, waiting: Wire) -> bool:
         """It is reported in its own name, so that its shutdown isn't waited for, and the service says that all
         closes."""
         name = next(name for name, other in self.extensions if other is process)
@@ -279,8 +279,8 @@ class Environment:
 
     # ---- its end -----------------------------------------------------------------------------------------------------
 
-    async def shut_down(self, waiting: Asked) -> bool:
-        status, _, body = await waiting.answer()
+    async def shut_down(self, waiting: Wire) -> bool:
+        status, _, body = await answered(waiting, "GET")
         if status != 200:
             await self.end()
             return True

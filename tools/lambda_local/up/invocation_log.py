@@ -10,7 +10,8 @@ from typing import Any, Callable, Dict, Iterator, List, Mapping, NamedTuple, Opt
 
 from ..history.words import Word
 from ..life import Ended, Event
-from ..reports import members_of, text_of
+from ..json_reader import members_of
+from ..reports import text_of
 from .invocation_lines import Line, Printed, Settled
 
 MOST_TAIL = 4096  # bytes

@@ -1,13 +1,16 @@
 """The service's clock, whose timers the loop of lambda_local up calls, and which its tasks ask."""
 import asyncio
+import contextlib
 import heapq
 import time
 from typing import Optional, Tuple
 
 from ..clock.asked import SHOW
 from ..clock.followed import ASK_SECONDS, Clock, Tell, Timer
-from .asking import ask
+from ..exchange.of_tasks import ask
 from .bell import Bell, call_soon
+
+STEP = 0.002  # seconds between two looks of one who waits for what is due
 
 
 class LoopClock(Clock):
@@ -61,6 +64,18 @@ class LoopClock(Clock):
         except OSError:
             pass
         return self._unanswered()
+
+    async def caught_up(self) -> None:
+        await self.ask_later()
+        end = time.monotonic() + ASK_SECONDS
+        while not self._is_settled() and time.monotonic() < end:
+            await asyncio.sleep(STEP)
+
+    async def set_later(self, request: Tuple[str, str]) -> None:
+        """Pauses it, or lets it go on."""
+        with contextlib.suppress(OSError):  # (it has ended)
+            await ask(self.port, *request, seconds=ASK_SECONDS)
+        await self.ask_later()
 
     async def reached_later(self, moment: int) -> bool:
         """As `reached`, for a task."""

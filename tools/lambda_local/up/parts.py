@@ -170,7 +170,7 @@ class Parts:
         troubles = self.troubles
         troubles.look_after(self.environments)
         if gate := self.front.gate:
-            troubles.still, troubles.sent = functools.partial(gate.still, self.loop), gate.unanswered
+            troubles.still, troubles.sent = gate.still, gate.unanswered
         self.front.port.trouble = troubles.order
         self.watch.give(troubles.take, Begun, Ended, Throttled)
         self.closer.environments += self.environments

@@ -9,7 +9,7 @@ from typing import Any, Dict, Iterator, List, NamedTuple, Optional
 from urllib.parse import urlsplit
 
 from ..clock.followed import Clock
-from ..json_reader import NotJson, read_json
+from ..json_reader import members_of
 from ..other_server import ANSWER_SECONDS, POLL_SECONDS, Asking, NoClient, client_of, one_line
 from ..outgoing import several
 from ..service import AGAIN, ask
@@ -60,13 +60,9 @@ def record_of(message: Dict[str, Any], arn: str, region: str) -> Dict[str, Any]:
 def failures_in(result: bytes, identifiers: List[str]) -> Optional[List[str]]:
     """The messages that a result says have failed; none if it says so in a form that fails the whole batch (Developer
     Guide, "Implementing partial batch responses"). A result that says nothing of it is a success."""
-    try:
-        value = read_json(result)
-    except NotJson:
+    given = (members_of(result) or {}).get("batchItemFailures")
+    if not given:
         return []
-    if not isinstance(value, dict) or not value.get("batchItemFailures"):
-        return []
-    given = value["batchItemFailures"]
     if not isinstance(given, list):
         return None
     failed = [str(one.get("itemIdentifier")) if isinstance(one, dict) else "" for one in given]

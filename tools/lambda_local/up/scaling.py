@@ -3,8 +3,8 @@ while without work."""
 from typing import Dict, Iterable, Tuple
 
 from .. import life
+from ..exchange.of_tasks import ask
 from ..service import Service
-from .asking import ask
 from .environments import Environment
 from .watch import Watch
 

@@ -8,7 +8,7 @@ from typing import Any, Dict, List, NamedTuple, Optional
 from urllib.parse import urlsplit
 
 from ..clock.followed import Clock
-from .asking import ask
+from ..exchange.of_tasks import ask
 from .log import Log
 from .sources import Schedule, schedules_of
 

@@ -7,7 +7,7 @@ import signal
 import time
 from typing import Callable, List, Optional, Sequence, Tuple, TypeVar
 
-from ..exchange import Unanswered
+from ..exchange.connection import Unanswered
 from ..guard_process import end_all_below
 from ..outgoing import written
 from ..reports import Report
@@ -146,7 +146,7 @@ class Session(Parts):
 
     def run_command(self) -> int:
         variables = {**of_callers(self.service, self.options.keep_credentials), **self.front.variables()}
-        self.command = Run(self.options.command, variables, self.happened.set)
+        self.command = Run(self.options.command, variables, self.loop, self.happened.set)
         self.wait()
         if not self.command.is_over() and self.signal_number == signal.SIGINT:
             self.say("waiting up to 10 s for the command to end: press Ctrl-C again to kill it")

@@ -11,9 +11,10 @@ import time
 from typing import Callable, ContextManager, Dict, Iterable, Iterator, List, Optional, Sequence, Set, Tuple
 
 from ..clock.asked import advance
+from ..exchange.of_tasks import ask
+from ..front.tasks import begin_task
 from ..history.words import BUSY, CLOSING, IDLE, STARTING
 from ..life import Begun, Ended, Event, Invocation, Throttled
-from ..service import ask
 from ..storm import COLD, CRASH, INIT, KINDS, THROTTLE, TIMEOUT, NotMade, Ordered, Progress
 from .environments import Environment
 from .log import Log
@@ -50,26 +51,29 @@ class Order(Ordered):
         self.until = time.monotonic() + (STORM_SECONDS if is_gentle else WAIT_SECONDS)
         self.stopped: List[Environment] = []
 
-    def call_off(self, why: str) -> None:
-        self.owner.watch.refresh()  # (the invocation may have come)
+    async def call_off(self, why: str) -> None:
+        await self.owner.watch.refreshed()  # (the invocation may have come)
         if self.owner.withdraw(self):
             self.end(False, why=why)
-        self.is_over.wait(ENDING_SECONDS)
+        end = time.monotonic() + ENDING_SECONDS
+        while not self.is_over.is_set() and time.monotonic() < end:
+            await asyncio.sleep(REST)
         self.end(False, why=why)
 
 
 class Troubles:
     """The orders of a run: at most one for each function at a time. `take`, `look` and `holds` are called by the watch,
-    by the looks and by environments, the others by the front."""
+    by the looks and by environments, the others by the front: all in one loop."""
 
     def __init__(self, functions: Iterable[Function], watch: Watch, log: Log, stopping: threading.Event) -> None:
-        self.watch, self.log, self.stopping, self.lock = watch, log, stopping, threading.Lock()
+        self.watch, self.log, self.stopping = watch, log, stopping
         self.orders: Dict[str, Order] = {}
         self.functions = {function.name: function for function in functions}
         self.environments: Dict[str, List[Environment]] = {name: [] for name, function in self.functions.items()
                                                            if function.command}
         self.beginning: Set[Environment] = set()  # whose Init may have begun
-        self.is_moving = False  # the clock, by this
+        self.moving = 0  # how many move the clock
+        self.timeouts: "Set[asyncio.Task[None]]" = set()
         self.still: Callable[[], ContextManager[object]] = contextlib.nullcontext  # while it lasts no invocation comes
         self.sent: Callable[[], int] = lambda: 0  # invocations without an answer, as far as whoever sends them knows
 
@@ -80,14 +84,14 @@ class Troubles:
 
     # ---- what is asked -----------------------------------------------------------------------------------------------
 
-    def order(self, function: str, kind: str) -> Tuple[int, str]:
+    async def order(self, function: str, kind: str) -> Tuple[int, str]:
         """By a request: a status, and a sentence."""
         if kind not in ASKED_FOR:
             return 400, f"kind is {', '.join(ASKED_FOR[:-1])} or {ASKED_FOR[-1]}"
         if function not in self.environments:
             return 404, "there is no such function whose runtime lambda_local up has started"
         try:
-            self._arrange(Order(self, function, kind, lambda outcome: None, False))
+            await self._arrange(Order(self, function, kind, lambda outcome: None, False))
         except NotMade as why:
             return 409, str(why)
         return 202, "the next invocation is awaited"
@@ -95,23 +99,23 @@ class Troubles:
     def kinds_of(self, function: str) -> Sequence[str]:
         return KINDS if function in self.environments else (THROTTLE,) if function in self.functions else ()
 
-    def working(self, function: str) -> int:
-        self.watch.refresh()
+    async def working(self, function: str) -> int:
+        await self.watch.refreshed()
         return self._held(function)
 
     def _held(self, function: str) -> int:
         return sum(invocation.function == function and invocation.delivered is not None
-                   for invocation in list(self.watch.life.invocations.values()))
+                   for invocation in self.watch.life.invocations.values())
 
-    def arrange(self, function: str, kind: str, progress: Progress) -> Order:
+    async def arrange(self, function: str, kind: str, progress: Progress) -> Order:
         """For a storm, whose invocation comes at once."""
         order = Order(self, function, kind, progress, True)
         if kind in (CRASH, TIMEOUT):
-            self._warm(function)
-        self._arrange(order)
+            await self._warm(function)
+        await self._arrange(order)
         return order
 
-    def _warm(self, function: str) -> None:
+    async def _warm(self, function: str) -> None:
         """Sees to it that an environment of the function is idle."""
         end = time.monotonic() + ENDING_SECONDS
         while not self._in(function, IDLE):
@@ -120,24 +124,23 @@ class Troubles:
             fresh = [one for one in self.environments[function] if one.is_extra and not one.is_started]
             if fresh and not self._in(function, STARTING, CLOSING, started=True):
                 fresh[0].begin("the storm is to find one")
-            time.sleep(REST)
+            await asyncio.sleep(REST)
 
-    def _arrange(self, order: Order) -> None:
+    async def _arrange(self, order: Order) -> None:
         self.watch.life.tells_begun = True
-        self.watch.refresh()
-        with self.lock:
-            if order.function in self.orders:
-                raise NotMade("such an invocation is awaited already")
-            idle = self._in(order.function, IDLE)
-            if order.kind in (CRASH, TIMEOUT):
-                # (one that works now may be idle once the invocation comes, which is at once for a storm)
-                those = self.environments[order.function] if order.is_gentle and idle else idle
-                order.stopped = [environment for environment in those if signalled(environment, signal.SIGSTOP)]
-                if not order.stopped:
-                    raise NotMade("it has no idle environment: wait until one is ready")
-            self.orders[order.function] = order
+        await self.watch.refreshed()
+        if order.function in self.orders:
+            raise NotMade("such an invocation is awaited already")
+        idle = self._in(order.function, IDLE)
+        if order.kind in (CRASH, TIMEOUT):
+            # (one that works now may be idle once the invocation comes, which is at once for a storm)
+            those = self.environments[order.function] if order.is_gentle and idle else idle
+            order.stopped = [environment for environment in those if signalled(environment, signal.SIGSTOP)]
+            if not order.stopped:
+                raise NotMade("it has no idle environment: wait until one is ready")
+        self.orders[order.function] = order
         if order.kind in (COLD, INIT):
-            self._start_anew(order)
+            await self._start_anew(order)
 
     def _in(self, function: str, *phases: str, started: bool = False) -> List[Environment]:
         """Those of the function's environments that are in one of these phases."""
@@ -148,7 +151,7 @@ class Troubles:
     def _is_bound(self, function: str) -> bool:
         return any(self.watch.environment(one.number).is_bound for one in self.environments[function])
 
-    def _start_anew(self, order: Order) -> None:
+    async def _start_anew(self, order: Order) -> None:
         """Ends the idle environments of the function, and waits until their next generation is held."""
         end = time.monotonic() + ENDING_SECONDS
         try:
@@ -158,13 +161,13 @@ class Troubles:
                 if not is_to_end and not self._is_about_to_ask(order.function):
                     break
                 for environment in idle:
-                    ask(self.watch.service.port, "POST", f"/_local/env/{environment.number}/spindown")
+                    await ask(self.watch.service.port, "POST", f"/_local/env/{environment.number}/spindown")
                 if time.monotonic() > end or self.stopping.is_set():
                     if not is_to_end:
                         break  # (an extension works on, after the answer)
                     raise NotMade("its environments do not end")
-                time.sleep(REST)
-                self.watch.refresh()
+                await asyncio.sleep(REST)
+                await self.watch.refreshed()
         except (OSError, NotMade) as fault:
             self.withdraw(order)
             raise NotMade(told(fault) if not isinstance(fault, NotMade) else str(fault)) from None
@@ -177,10 +180,9 @@ class Troubles:
 
     def withdraw(self, order: Order) -> bool:
         """Whether it was still waiting; what it has stopped goes on."""
-        with self.lock:
-            if self.orders.get(order.function) is not order:
-                return False
-            del self.orders[order.function]
+        if self.orders.get(order.function) is not order:
+            return False
+        del self.orders[order.function]
         self._let_go(order, None)
         return True
 
@@ -199,16 +201,13 @@ class Troubles:
             if order := self._popped(event.invocation.function):
                 self._let_go(order, None)
                 order.end(order.kind == INIT, event.invocation.identifier, "its Init has failed")
-        elif isinstance(event, Throttled) and event.function in self.orders:
+        elif isinstance(event, Throttled):
             if order := self._popped(event.function):
                 self._let_go(order, None)
                 order.end(False, why=f"it was throttled, {event.reason}")
 
     def _popped(self, function: str) -> Optional[Order]:
-        if not self.orders:
-            return None
-        with self.lock:
-            return self.orders.pop(function, None)
+        return self.orders.pop(function, None)
 
     def _begun(self, order: Order, event: Begun) -> None:
         order.progress(None)
@@ -223,16 +222,17 @@ class Troubles:
         if order.kind == CRASH:
             signalled(here, signal.SIGKILL)
             return order.end(True, request)
-        target = self._time_out_gently if order.is_gentle else self._time_out
-        threading.Thread(target=target, args=(order, here, event.invocation, event.moment), daemon=True,
-                         name=f"timeout of {here.name}").start()
+        time_out = self._time_out_gently if order.is_gentle else self._time_out
+        task = begin_task(time_out(order, here, event.invocation, event.moment), f"the timeout of {here.name}",
+                          self._tell)
+        self.timeouts.add(task)
+        task.add_done_callback(self.timeouts.discard)
 
     def look(self) -> None:
         """Gives up what no invocation has come for."""
         now = time.monotonic()
-        with self.lock:
-            late = [order for order in self.orders.values() if order.until < now and not (
-                order.kind in (COLD, INIT) and self._is_bound(order.function))]
+        late = [order for order in self.orders.values() if order.until < now and not (
+            order.kind in (COLD, INIT) and self._is_bound(order.function))]
         for order in late:
             if self.withdraw(order):
                 seconds = STORM_SECONDS if order.is_gentle else WAIT_SECONDS
@@ -242,57 +242,59 @@ class Troubles:
 
     # ---- a timeout ---------------------------------------------------------------------------------------------------
 
-    def _move(self, milliseconds: int, name: str) -> bool:
+    async def _move(self, milliseconds: int, name: str) -> bool:
         """Moves the clock; whether it was moved."""
         try:
-            status, _, body = ask(self.watch.service.port, *advance(milliseconds))
+            status, _, body = await ask(self.watch.service.port, *advance(milliseconds))
             why = "" if status == 200 else f"{status} {body[:200].decode(errors='replace')}"
         except OSError as fault:
             why = told(fault)
         if why:
-            self.log("up", f"trouble: {name} does not time out: {why}", level="error", kind="trouble")
-        self.watch.clock.ask()
+            self._tell(f"{name} does not time out: {why}")
+        await self.watch.clock.ask_later()
         return not why
+
+    def _tell(self, text: str) -> None:
+        self.log("up", f"trouble: {text}", level="error", kind="trouble")
 
     def _timeout_of(self, function: str) -> int:
         """In milliseconds."""
         return 1000 * int(self.functions[function].part.get("timeout", 3))
 
-    def _time_out(self, order: Order, here: Environment, invocation: Invocation, begun: int) -> None:
-        has_moved = self._move(self._timeout_of(order.function), here.name)
+    async def _time_out(self, order: Order, here: Environment, invocation: Invocation, begun: int) -> None:
+        has_moved = await self._move(self._timeout_of(order.function), here.name)
         order.end(has_moved, invocation.identifier, "the clock is not moved")
 
-    def _time_out_gently(self, order: Order, here: Environment, invocation: Invocation, begun: int) -> None:
+    async def _time_out_gently(self, order: Order, here: Environment, invocation: Invocation, begun: int) -> None:
         """The clock moves to the deadline once no other invocation loses more than half of its time by it and no Init
         goes on; till then it comes nearer by itself."""
         deadline, end = begun + self._timeout_of(order.function), time.monotonic() + STORM_SECONDS
         while not invocation.is_over and not self.stopping.is_set():
-            if time.monotonic() > end and not self.watch.clock.reached(deadline - INIT_MS):
+            if time.monotonic() > end and not await self.watch.clock.reached_later(deadline - INIT_MS):
                 signalled(here, signal.SIGCONT)
                 return order.end(False, invocation.identifier, "others would have run out of time too")
             if self._spares(deadline, invocation):
                 with self.still(), self._moving():
-                    self.watch.refresh()
+                    await self.watch.refreshed()
                     left = deadline - self.watch.clock.now()
-                    if left > 0 and self._spares(deadline, invocation) and not self._move(left, here.name):
+                    if left > 0 and self._spares(deadline, invocation) and not await self._move(left, here.name):
                         signalled(here, signal.SIGCONT)
                         return order.end(False, invocation.identifier, "the clock is not moved")
-                self.watch.refresh()
-            time.sleep(4 * REST)
+                await self.watch.refreshed()
+            await asyncio.sleep(4 * REST)
         order.end(not self.stopping.is_set(), invocation.identifier, "the run has ended")
 
     @contextlib.contextmanager
     def _moving(self) -> Iterator[None]:
         """While this lasts no Init begins."""
-        with self.lock:
-            self.is_moving = True
+        self.moving += 1
         try:
             yield
         finally:
-            self.is_moving = False
+            self.moving -= 1
 
     def _spares(self, deadline: int, but: Invocation) -> bool:
-        invocations = list(self.watch.life.invocations.values())
+        invocations = self.watch.life.invocations.values()
         others = [one for one in invocations if one is not but]
         if self.sent() > len(invocations):
             return False  # (one is on its way)
@@ -304,10 +306,9 @@ class Troubles:
 
     def _beginning(self) -> Set[str]:
         """The functions of which an environment is in its Init."""
-        with self.lock:
-            self.beginning = {one for one in self.beginning if one.is_started and not self.watch.environment(
-                one.number).generation.is_ready}
-            return {one.function.name for one in self.beginning}
+        self.beginning = {one for one in self.beginning if one.is_started and not self.watch.environment(
+            one.number).generation.is_ready}
+        return {one.function.name for one in self.beginning}
 
     # ---- a new environment -------------------------------------------------------------------------------------------
 
@@ -316,14 +317,13 @@ class Troubles:
         it is bound to this environment, and is to find an Init that fails."""
         fails = False
         while not environment.stopping.is_set():
-            with self.lock:
-                order = self.orders.get(environment.function.name)
-                is_held = order is not None and order.kind in (COLD, INIT)
-                is_bound = self.watch.environment(environment.number).is_bound
-                self.beginning.discard(environment)  # (that was the generation before)
-                if not self.is_moving and (is_bound or not is_held):
-                    fails = order is not None and order.kind == INIT and is_bound
-                    self.beginning.add(environment)
-                    break
+            order = self.orders.get(environment.function.name)
+            is_held = order is not None and order.kind in (COLD, INIT)
+            is_bound = self.watch.environment(environment.number).is_bound
+            self.beginning.discard(environment)  # (that was the generation before)
+            if not self.moving and (is_bound or not is_held):
+                fails = order is not None and order.kind == INIT and is_bound
+                self.beginning.add(environment)
+                break
             await asyncio.sleep(REST)
         return fails

@@ -3,16 +3,18 @@ themselves."""
 import asyncio
 import concurrent.futures
 import contextlib
+import json
 from typing import Awaitable, Callable, Dict, List, Optional, Set, Type
 
+from ..exchange.connection import Unanswered
+from ..exchange.of_tasks import Answered, ask
 from ..history.entries import Entry
-from ..history.running import Lost, NoDescriptor
 from ..history.shapes import NotTrace
 from ..history.short import Taken, kind_of
+from ..history.trace import Lost, NoDescriptor
 from ..history.words import FAILURES
 from ..life import KINDS, Begun, Closes, Ended, Environment, Event, Generation, Life, Reporter, Throttled
 from ..service import Service
-from .asking import Answered, entries_of
 from .bell import Bell, call_soon, called, done_within, first_of, settle
 from .following import Following
 from .lines import Lines
@@ -171,11 +173,19 @@ class Watch:
             await self.news(seconds=rest)
 
     async def refreshed(self) -> None:
-        """Waits until what the service has by now was taken, which is a moment after it was read. If it does not
-        answer, that is as it was."""
+        """Waits until what the service has by now was taken, of which it is asked, since a trace does not say whether
+        there is more. If it does not answer, that is as it was."""
         with contextlib.suppress(OSError):
-            count = await entries_of(self.service.port)
+            count = await self._entries()
             await self.comes(lambda: self.taken >= count, UP_TO_DATE)
+
+    async def _entries(self) -> int:
+        """How many entries the service's history has by now. OSError if it does not say so."""
+        status, _, body = await ask(self.service.port, "GET", "/_local/stats")
+        try:
+            return int(json.loads(body)["entries"])
+        except (ValueError, KeyError, TypeError):
+            raise Unanswered(f"GET /_local/stats: {status}") from None
 
     def refresh(self) -> None:
         """The same for a thread, while the loop runs."""
