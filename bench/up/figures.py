@@ -28,7 +28,7 @@ class Table:
     def __init__(self, has_before):
         self.has_before = has_before
         columns = ["runtime", "callers", "payload", "way", "rate", "p50, µs", "p99, µs",
-                   "CPU µs: up and its relay", "service", "runtime", "rate, to bare"]
+                   "CPU µs: up and its relay", "CPU µs: service", "CPU µs: runtime", "rate, to bare"]
         if has_before:
             columns += ["rate, to before", "p50, to before", "CPU of up and its relay, to before", "all CPU, to before"]
         self.line(columns)

@@ -199,6 +199,7 @@ class Up(Measured):
         self.processes = groups
         if not groups["service"] or not groups["runtime"]:
             raise Trouble(f"the processes of up of {self.checkout} are not known: {groups}")
+
     def end(self):
         if self.process.poll() is None:
             self.process.stdin.close()

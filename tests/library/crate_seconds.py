@@ -62,7 +62,7 @@ class Proofs:
     once more at the end, with those of its tests."""
 
     def __init__(self, root: str, command: int) -> None:
-        self.root, self.sums = root, {it: sum_of(root, it) for it in uses(root)}
+        self.sums = sums_of(root)
         self.proved: Set[str] = set()
         self.follower = Follower(command)
         self.follower.start()
@@ -81,9 +81,7 @@ class Proofs:
     def end(self) -> Costs:
         self.follower.end()
         self.keep(self.proved)
-        known = read()
-        names = {it: f"{it} {self.sums[it]}" for it in self.sums}
-        seconds = {it: known[name] for it, name in names.items() if name in known}
+        seconds = known(self.sums)
         return Costs(seconds, [it for it in seconds if it not in self.proved])
 
 
@@ -107,6 +105,10 @@ def sum_of(root: str, crate: str) -> str:
     return found.hexdigest()[:16]
 
 
+def sums_of(root: str) -> Dict[str, str]:
+    return {it: sum_of(root, it) for it in uses(root)}
+
+
 def sources_of(folder: str) -> Iterator[str]:
     for part in SOURCES:
         for at, _, names in os.walk(os.path.join(folder, part)):
@@ -118,10 +120,17 @@ def of_machine() -> str:
     return os.path.join(records.folder(), "CRATES")
 
 
-def read() -> Dict[str, int]:
-    """The seconds of each `CRATE SUM`; lines that another program has written there are passed over."""
-    lines = map(LINE.fullmatch, records.text_of(of_machine()).splitlines())
+def read(path: str = "") -> Dict[str, int]:
+    """The seconds of each `CRATE SUM`, by this machine's table or another; lines that another program has written there
+    are passed over."""
+    lines = map(LINE.fullmatch, records.text_of(path or of_machine()).splitlines())
     return {f"{it[1]} {it[2]}": int(it[3]) for it in lines if it}
+
+
+def known(sums: Dict[str, str], path: str = "") -> Dict[str, int]:
+    """The seconds of each of these crates, if that table has them for sources with its sum."""
+    table = read(path)
+    return {crate: table[f"{crate} {it}"] for crate, it in sums.items() if f"{crate} {it}" in table}
 
 
 def note(found: Dict[str, float]) -> None:

@@ -8,15 +8,14 @@ import re
 import shutil
 import subprocess
 
-from tests.library import edits, refusals, speeds
+from tests.library import edits, ratios, refusals, speeds
 from tests.library.gate_record import CRATES, MARK, SCRATCH, line_of, seconds_of, with_costs
 from tests.library.page_facts import pages_of, text_of
 from tests.library.refusals import git
 
-MEASURED = re.compile(r"^<!-- measured at ([0-9a-f]{7,40}) -->$", re.M)
 SOURCES = ("src", "specs", "proofs")
-# For a release, an edit is tried again after so many commits that changed what it stands on, and figures are measured
-# after so many that changed sources of crates: that takes a machine that does little else.
+# For a release, an edit was tried at most so many commits ago that changed what it stands on, and figures were measured
+# at most so many ago that changed sources of crates. (docs/checks.md tells both.)
 OLDEST, OLDEST_FIGURES = 30, 100
 
 
@@ -115,13 +114,21 @@ def changes_since(root, commit):
     return int(git(root, "rev-list", "--count", f"{commit}..HEAD", "--", *sources) or 0)
 
 
-def ages(root):
-    """The figures that nothing counts anew: their page and part, and the commit at which they were measured."""
+def parts_of(root):
+    """Each page with its parts and their titles."""
     for page in pages_of(root):
         for part in re.split(r"^(?=## )", text_of(root, page), flags=re.M):
-            title = part.split("\n")[0].strip("# ")
-            for commit in MEASURED.findall(part) if title != speeds.PART else ():
-                yield f"{page}: {title}", commit
+            yield page, part.split("\n")[0].strip("# "), part
+
+
+def ages(root):
+    """The figures that are held to an age: their page and part, and the commit at which they were measured, on the page
+    or by a gate. Instructions are counted anew, and some stay with their commits."""
+    anew = ratios.measured_at(root, text_of(root, ratios.PAGE), ratios.known(root))
+    for page, title, part in parts_of(root):
+        if page != ratios.PAGE or title not in (speeds.PART, *ratios.STAYING):
+            for commit in ratios.MARK.findall(part):
+                yield f"{page}: {title}", anew.get(title, commit) if page == ratios.PAGE else commit
 
 
 def too_old(root, oldest=OLDEST, oldest_figures=OLDEST_FIGURES):
@@ -137,7 +144,7 @@ def too_old(root, oldest=OLDEST, oldest_figures=OLDEST_FIGURES):
         changes = changes_since(root, commit)
         yield f"{name}: its age", "" if changes <= oldest_figures else (
             f"measured at {commit}: {changes} commits since changed sources of crates, and {oldest_figures} are the "
-            f"most; bench/ renews it")
+            f"most; bench/ renews it, and tests/figures measures the ratios of docs/speed.md")
 
 
 def old_edits(root, oldest):
@@ -157,6 +164,25 @@ def untwinned(root):
         place = edits.function_of(edit).replace("::", "/")
         if place and not edits.has_twin(edit) and glob.glob(f"{root}/crates/{crate}/proofs/**/{place}", recursive=True):
             yield f"{name}: {place.split('/')[-1]} has a proof of its own, and the edit no line `same`"
+
+
+def mismeasured(root):
+    """What is wrong with the table of sections that were measured."""
+    try:
+        ratios.read(os.path.join(root, ratios.NOTED))
+    except ValueError as fault:
+        yield str(fault).replace(f"{root}/", "")
+
+
+def ratios_of_page(_root, text):
+    yield from ratios.faults(text)
+
+
+def limits(_root, text):
+    """The page tells the greatest ages at which there is a release, and no others."""
+    told = [int(it) for it in re.findall(r"more than (\d+) (?:such )?commits", text)]
+    if {*told} != {OLDEST, OLDEST_FIGURES}:
+        yield f"says more than {' and '.join(map(str, told))} commits, and these are {OLDEST} and {OLDEST_FIGURES}"
 
 
 def misnoted(root):
@@ -197,16 +223,22 @@ def unmeasured(root, page, text):
         return
     for part in re.split(r"^(?=## )", text, flags=re.M)[1:]:
         title = part.split("\n")[0]
-        if re.search(r"^\|.*\d", part, re.M) and not MEASURED.search(part):
+        if re.search(r"^\|.*\d", part, re.M) and not ratios.MARK.search(part):
             yield f"{title!r} has figures, and not the line <!-- measured at COMMIT -->"
     if git(root, "rev-parse", "--is-shallow-repository") == "false":
-        for commit in MEASURED.findall(text):
+        for commit in ratios.MARK.findall(text):
             if not is_known(root, commit):
                 yield f"measured at {commit}, which git does not know"
 
 
 def ages_of_figures(root):
-    for page in pages_of(root):
-        for part in re.split(r"^(?=## )", text_of(root, page), flags=re.M):
-            for commit in MEASURED.findall(part):
-                yield f"{page}, {part.split(chr(10))[0].strip('# ')}: measured at {age(root, commit)}"
+    """How old all figures are, and what the last gate that has measured them since has found."""
+    table = ratios.known(root)
+    anew = ratios.measured_at(root, text_of(root, ratios.PAGE), table)
+    for page, title, part in parts_of(root):
+        for commit in ratios.MARK.findall(part):
+            yield f"{page}, {title}: measured at {age(root, commit)}"
+        it = table.get(title)
+        if page == ratios.PAGE and it and it.commit == anew[title]:
+            yield (f"{page}, {title}: {it.inside} of {it.ratios} ratios were in their brackets when a gate measured "
+                   f"them, at {age(root, it.commit)}")

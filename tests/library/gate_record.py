@@ -6,14 +6,13 @@ import subprocess
 import time
 from typing import Dict, Iterator, List
 
-from crate_list import uses
-from tests.library import records, refusals
+from tests.library import crate_seconds, ratios, records, refusals
 from tests.library.crate_seconds import Costs
 
 PROGRAM = os.path.join("crates", "lambda_local", "out", "lambda_local")
 SCRATCH = os.path.join(".ci", "LAST_FROM_SCRATCH")
 CRATES = os.path.join(".ci", "CRATE_SECONDS")
-OF_CRATES = ("commit", "day", "kit", "processors", "crate_seconds", "earlier_crates")  # what that has of a record
+OF_GATE = ("commit", "day", "kit", "processors")  # what that has of a record, beside the seconds
 COSTS = os.path.join("docs", "proof_costs.md")
 MARK = f"<!-- of {CRATES} -->\n"
 NONE = "No gate has recorded those of all crates yet.\n"
@@ -44,9 +43,7 @@ def lines_of(root: str, minutes: float, cpu_minutes: float, costs: Costs, passed
     yield f"minutes {minutes:.0f}"
     yield f"cpu_minutes {cpu_minutes:.0f}"
     yield f"call_model_seconds {costs.seconds.get('call_model', 0)}"
-    yield f"crate_seconds {', '.join(f'{crate} {seconds}' for crate, seconds in costs.seconds.items())}"
-    if costs.earlier:
-        yield f"earlier_crates {', '.join(costs.earlier)}"
+    yield from lines_of_costs(costs)
     yield f"gate {passed} passed, 0 failed"
 
 
@@ -65,13 +62,24 @@ def seconds_of(record: str) -> Dict[str, int]:
     return {crate: int(seconds) for crate, seconds in pairs}
 
 
+def earlier_of(record: str) -> List[str]:
+    """Those of them that other runs proved."""
+    return [it for it in line_of(record, "earlier_crates").split(", ") if it]
+
+
+def lines_of_costs(costs: Costs) -> Iterator[str]:
+    yield f"crate_seconds {', '.join(f'{crate} {seconds}' for crate, seconds in costs.seconds.items())}"
+    if costs.earlier:
+        yield f"earlier_crates {', '.join(costs.earlier)}"
+
+
 def costs_of(record: str) -> str:
-    """The CPU seconds of each crate as a page has them, the most expensive first, with their sum, and what earlier runs
+    """The CPU seconds of each crate as a page has them, the most expensive first, with their sum, and what other runs
     proved of it; nothing if the record has none."""
-    found, earlier = seconds_of(record), [it for it in line_of(record, "earlier_crates").split(", ") if it]
+    found, earlier = seconds_of(record), earlier_of(record)
     ordered = sorted(found, key=lambda it: -found[it])
     whose = "all crates" if len(earlier) == len(found) else ", ".join(f"`{it}`" for it in earlier)
-    of_earlier = (f"; {sum(found[it] for it in earlier) / 60:.0f} of them in earlier runs on that machine, which "
+    of_earlier = (f"; {sum(found[it] for it in earlier) / 60:.0f} of them in other runs on that machine, which "
                   f"proved {whose}") if earlier else ""
     return (f"{', '.join(f'`{it}` {found[it]}' for it in ordered)}: {sum(found.values()) / 60:.0f} CPU minutes in all, "
             f"in the gate at {line_of(record, 'commit')}{of_earlier}.\n") if found else ""
@@ -87,27 +95,53 @@ def with_costs(page: str, record: str) -> str:
 
 def is_newer(root: str, record: str, own: str) -> bool:
     """Whether a record is of a later commit than the tree's own, of those that HEAD continues."""
-    new, old = (refusals.place(root, line_of(it, "commit").replace("-dirty", "")) for it in (record, own))
-    return new > old
+    return place_of(root, record) > place_of(root, own)
+
+
+def place_of(root: str, record: str) -> int:
+    return refusals.place(root, line_of(record, "commit").replace("-dirty", ""))
+
+
+def keep_costs(root: str, gate: str, table: str) -> str:
+    """Brings into the tree what the proof of each of its crates cost, by the record of a gate, and by what runs on that
+    machine have kept of the same sources since. Tells that, or of which crates neither has it."""
+    commit, sums, found = line_of(gate, "commit"), crate_seconds.sums_of(root), seconds_of(gate)
+    if not refusals.git(root, "diff", "--name-only", commit.replace("-dirty", ""), "--", "crates"):
+        found = {**crate_seconds.known(sums, table), **found}
+    unknown = [it for it in sums if it not in found]
+    if unknown:
+        return (f"{CRATES} stays as it is: for the gate at {commit} no run has kept the CPU seconds of "
+                f"{', '.join(unknown)} (tests/gate --anew NAME .. keeps them)")
+    others = [it for it in sums if it not in seconds_of(gate) or it in earlier_of(gate)]
+    costs = "".join(f"{it} {line_of(gate, it)}\n" for it in OF_GATE if line_of(gate, it)) + "".join(
+        f"{it}\n" for it in lines_of_costs(Costs({it: found[it] for it in sums}, others)))
+    records.write(os.path.join(root, CRATES), costs)
+    page = records.text_of(os.path.join(root, COSTS))
+    records.write(os.path.join(root, COSTS), with_costs(page, costs))
+    return f"{CRATES} and {COSTS}: the gate at {commit}"
 
 
 def keep_in_tree(root: str, folder: str) -> Iterator[str]:
     """Brings into the tree what gates have left in a folder, if it is newer; tells what it changed."""
-    if not any(os.path.exists(os.path.join(folder, it)) for it in ("GATE", "FROM_SCRATCH", "REFUSED")):
+    if not any(os.path.exists(os.path.join(folder, it)) for it in ("GATE", "FROM_SCRATCH", "REFUSED", "MEASURED")):
         raise ValueError(f"no gate has left anything in {folder}")
     scratch, gate = (records.text_of(os.path.join(folder, it)) for it in ("FROM_SCRATCH", "GATE"))
     if is_newer(root, scratch, records.text_of(os.path.join(root, SCRATCH))):
         records.write(os.path.join(root, SCRATCH), scratch)
         yield f"{SCRATCH}: the gate at {line_of(scratch, 'commit')}"
-    if {*seconds_of(gate)} == {*uses(root)} and is_newer(root, gate, records.text_of(os.path.join(root, CRATES))):
-        costs = "".join(f"{it} {line_of(gate, it)}\n" for it in OF_CRATES if line_of(gate, it))
-        records.write(os.path.join(root, CRATES), costs)
-        page = records.text_of(os.path.join(root, COSTS))
-        records.write(os.path.join(root, COSTS), with_costs(page, costs))
-        yield f"{CRATES} and {COSTS}: the gate at {line_of(gate, 'commit')}"
+    for name, record in (("FROM_SCRATCH", scratch), ("GATE", gate)):
+        if record and not place_of(root, record):
+            yield f"{name} is passed over: it is of {line_of(record, 'commit')}, which HEAD does not continue"
+    if is_newer(root, gate, records.text_of(os.path.join(root, CRATES))):
+        yield keep_costs(root, gate, os.path.join(folder, "CRATES"))
     before = refusals.read(os.path.join(root, refusals.NOTED))
     after = refusals.known(root, os.path.join(folder, "REFUSED"))
     if before != after:
         records.write(os.path.join(root, refusals.NOTED), refusals.text_of(after))
         renewed = sum(before.get(name) != it for name, it in after.items())
         yield f"{refusals.NOTED}: {renewed} edits and twins are noted anew"
+    old = ratios.read(os.path.join(root, ratios.NOTED))
+    new = ratios.known(root, os.path.join(folder, "MEASURED"))
+    if old != new:
+        records.write(os.path.join(root, ratios.NOTED), ratios.text_of(new))
+        yield f"{ratios.NOTED}: {', '.join(title for title, it in new.items() if old.get(title) != it)}"

@@ -9,6 +9,7 @@ import sys
 from crate_list import below, uses
 from jobs import jobs_here
 from tests.library.checkout import ROOT
+from tests.library.crate_seconds import Proofs
 
 FOLDERS = ("tables", "bench")
 ENDINGS = {".rs": ".rt", ".proof": ".antt"}
@@ -55,10 +56,17 @@ def make(root, crate, with_proofs=True):
 
 
 def prove(root, crate):
-    """Proves and builds a crate's program there, taking what `rt ci` has kept on this machine; its path."""
-    ran = subprocess.run(["rt", "ci"], cwd=root, env={**os.environ, "RT_JOBS": str(jobs_here())},
-                         stdin=subprocess.DEVNULL, stdout=subprocess.PIPE, stderr=subprocess.STDOUT, text=True)
+    """Proves and builds a crate's program there, taking what `rt ci` has kept on this machine, and keeping what each
+    proof costs; its path."""
+    with subprocess.Popen(["rt", "ci"], cwd=root, env={**os.environ, "RT_JOBS": str(jobs_here())},
+                          stdin=subprocess.DEVNULL, stdout=subprocess.PIPE, stderr=subprocess.STDOUT, text=True) as ran:
+        assert ran.stdout
+        proofs, said = Proofs(root, ran.pid), ""
+        for line in ran.stdout:
+            proofs.read(line.rstrip("\n"))
+            said += line
+    proofs.end()
     program = f"{root}/crates/{crate}/out/{crate}"
     if not os.access(program, os.X_OK):
-        sys.exit(f"{crate} is not built:\n{ran.stdout[-2000:]}")
+        sys.exit(f"{crate} is not built:\n{said[-2000:]}")
     return program

@@ -1,10 +1,9 @@
 """Checks what a gate keeps of a run: the CPU seconds of each crate, and which of them earlier runs proved; and what of
 that comes into the tree. In small repositories, with commands in place of the prover."""
 import contextlib
-import importlib.machinery
-import importlib.util
 import io
 import os
+import shlex
 import signal
 import subprocess
 import sys
@@ -14,12 +13,14 @@ from typing import Dict, List
 from unittest import mock
 
 from tests import ROOT
-from tests.library import crate_seconds, evidence, gate_record, records, refusals
+from tests.library import crate_seconds, evidence, gate_record, records, refusals, second_root
 from tests.library.cases import Case
+from tests.library.checkout import module_of
 from tests.library.crate_seconds import Costs
 from tests.library.trees import commit, write
 
 BUSY = "import os, time\nit = os.fork()\nwhile time.process_time() < 0.5: pass\nit and os.wait()\ntime.sleep(1)"
+PASSED_OVER = " is passed over: it is of 0123456789, which HEAD does not continue"
 PROVES = [sys.executable, "-c", BUSY, "--crate-name"]
 
 
@@ -108,7 +109,7 @@ class GateRecord(Case):
                        (143, False))
 
     def gate(self, *words: str) -> "subprocess.CompletedProcess[str]":
-        return subprocess.run([f"{ROOT}/tests/gate", *words], stdout=subprocess.PIPE, text=True, timeout=60,
+        return subprocess.run([f"{ROOT}/tests/gate", *words], stdout=subprocess.PIPE, text=True, timeout=600,
                               env={**os.environ, **self.variables})
 
     def test_the_words_of_the_gate_are_those_of_the_proofs(self) -> None:
@@ -118,12 +119,18 @@ class GateRecord(Case):
             ran = self.gate(*words)
             self.check(f"{words}", (ran.stdout, ran.returncode), (f"ci {' '.join(words)}\n", 0))
 
+    def test_what_a_root_of_tables_proves_is_kept(self) -> None:
+        proves, program = shlex.join([*PROVES, "arn_ids"]), "crates/checks/out/checks"
+        write(f"{self.room}/bin/rt", f'#!/bin/sh\n{proves}; echo "rt: arn_ids proved"; install -D "$0" {program}\n'
+              .encode(), 0o755)
+        second_root.make(f"{self.room}/root", "checks")
+        with mock.patch.dict(os.environ, PATH=f"{self.room}/bin:{os.environ['PATH']}"):
+            made = second_root.prove(f"{self.room}/root", "checks")
+        self.check("its program", made, f"{self.room}/root/{program}")
+        self.check("what it proved", [*crate_seconds.read()], [f"arn_ids {crate_seconds.sum_of(ROOT, 'arn_ids')}"])
+
     def test_a_gate_keeps_what_its_proofs_cost(self) -> None:
-        loader = importlib.machinery.SourceFileLoader("gate", os.path.join(ROOT, "tests", "gate"))
-        spec = importlib.util.spec_from_loader("gate", loader)
-        assert spec
-        gate = importlib.util.module_from_spec(spec)
-        loader.exec_module(gate)
+        gate = module_of("tests", "gate")
         crate_seconds.note({f"arn_ids {crate_seconds.sum_of(ROOT, 'arn_ids')}": 7})
         self.addCleanup(signal.signal, signal.SIGTERM, signal.getsignal(signal.SIGTERM))
         for ended, whole, status in (("3 passed, 0 failed", "8 passed, 0 failed", 0),
@@ -159,7 +166,8 @@ class GateRecord(Case):
         second = self.change(gate_record.SCRATCH, f"commit {first}\ngate 1 passed, 0 failed\n")
         for at, wanted in ((second, True), (first, False), ("0123456789", False)):
             told = self.kept("FROM_SCRATCH", f"commit {at}\nprogram 1\ngate 2 passed, 0 failed\n")
-            self.check(f"a record of {at} is kept", told, [f"{gate_record.SCRATCH}: the gate at {at}"] * wanted)
+            self.check(f"a record of {at} is kept", told, [f"{gate_record.SCRATCH}: the gate at {at}"] * wanted
+                       + [f"FROM_SCRATCH{PASSED_OVER}"] * (at not in (first, second)))
         self.check("the newest stands there", gate_record.line_of(self.text(gate_record.SCRATCH), "commit"), second)
 
     def kept(self, name: str, record: str) -> List[str]:
@@ -173,22 +181,38 @@ class GateRecord(Case):
         first = self.change("page.md", "first")
         second = self.change("page.md", "second")
         told = f"{gate_record.CRATES} and {gate_record.COSTS}: the gate at {second}"
-        for what, at, costs, wanted in (("one is not known", second, "b 620", []),
+        unknown = (f"{gate_record.CRATES} stays as it is: for the gate at {second} no run has kept the CPU seconds of "
+                   "a (tests/gate --anew NAME .. keeps them)")
+        for what, at, costs, wanted in (("one is not known", second, "b 620", [unknown]),
                                         ("all are", second, "a 5, b 620", [told]),
                                         ("an earlier gate", first, "a 6, b 600", []),
-                                        ("one of another history", "0123456789", "a 6, b 600", [])):
+                                        ("one of another history", "0123456789", "a 6, b 600",
+                                         [f"GATE{PASSED_OVER}"])):
             record = f"commit {at}\nday 2026-12-01\nminutes 9\ncrate_seconds {costs}\nearlier_crates b\n"
             self.check(what, self.kept("GATE", record), wanted)
         self.check("they are kept", self.text(gate_record.CRATES),
                    f"commit {second}\nday 2026-12-01\ncrate_seconds a 5, b 620\nearlier_crates b\n")
         page = self.text(gate_record.COSTS)
         self.check("the page has them", page, f"# Costs\n{gate_record.MARK}`b` 620, `a` 5: 10 CPU minutes in all, in "
-                   f"the gate at {second}; 10 of them in earlier runs on that machine, which proved `b`.\n\nmore\n")
+                   f"the gate at {second}; 10 of them in other runs on that machine, which proved `b`.\n\nmore\n")
         self.check("and may not tell otherwise", [len([*evidence.costs(self.root, page.replace("620", figure))])
                                                   for figure in ("620", "610")], [0, 1])
         self.check("their age is told", evidence.age_of_costs(self.root),
                    f"10 CPU minutes of all crates were recorded at {second}, 0 commits ago, 0 of which changed sources "
                    "of crates")
+
+    def test_a_run_after_the_gate_completes_its_costs(self) -> None:
+        self.repository()
+        at = self.change("page.md", "first")
+        crate_seconds.note({f"{it} {crate_seconds.sum_of(self.root, it)}": 5 for it in "ab"})
+        record = f"commit {at}\ncrate_seconds b 620\n"
+        write(f"{self.root}/crates/b/src/lib.rt", b"another")
+        self.check("not if crates have changed since", "no run has kept the CPU seconds of a " in "".join(
+            self.kept("GATE", record)))
+        write(f"{self.root}/crates/b/src/lib.rt", b"b")
+        self.kept("GATE", record)
+        self.check("by what it proved", self.text(gate_record.CRATES),
+                   f"commit {at}\ncrate_seconds a 5, b 620\nearlier_crates a\n")
 
     def test_what_a_page_says_of_costs(self) -> None:
         record = "commit 1\ncrate_seconds a 5, b 620, c 30\ngate 1 passed, 0 failed\n"

@@ -1,8 +1,6 @@
 """Checks how the gate judges must-fail edits, which it tries anew and what it keeps: by what the prover prints, in
 small repositories, and with commands in place of the prover."""
 import contextlib
-import importlib.machinery
-import importlib.util
 import io
 import os
 import tempfile
@@ -10,9 +8,9 @@ import unittest
 from typing import Dict, List
 from unittest import mock
 
-from tests import ROOT
 from tests.library import edits, evidence, gate_record, refusals, trials
 from tests.library.cases import Case
+from tests.library.checkout import module_of
 from tests.library.trees import commit, write
 
 NAMES_ALONE = ["./proofs/set/waiting/Answers.antt:7:23: error: `returns`: `c` has no field `then-is_awaited`",
@@ -195,11 +193,7 @@ const LEAST: u32 = 1;
         self.check("a folder without records", str(caught.exception), f"no gate has left anything in {self.room}")
 
     def test_what_a_gate_tries_beside_its_own(self) -> None:
-        loader = importlib.machinery.SourceFileLoader("gate_of_edits", os.path.join(ROOT, "tests", "must_fail", "gate"))
-        spec = importlib.util.spec_from_loader("gate_of_edits", loader)
-        assert spec
-        gate = importlib.util.module_from_spec(spec)
-        loader.exec_module(gate)
+        gate = module_of("tests", "must_fail", "gate")
         repository(self.root)
         made = {"a/e": trials.Trial("", 5), "b/e": trials.Trial("still proved", 5), "b/e same": trials.Trial("no", 5),
                 "c/e": trials.Trial("no verdict", 5, False)}

@@ -7,7 +7,7 @@ ghost use Rattle.arn_ids.specs.declared.config.Config.{Config};
 ghost use Rattle.call_types.specs.Within.{IsWithin, is_body};
 
 use crate::made::{Made, made_since, now};
-use account_lock::{Account, Bell, Desk, Identity};
+use account_lock::{Account, AtOnce, Bell, Desk, Identity};
 use arn_ids::Checked;
 use bytes::Bytes;
 use call_model::Call;
@@ -126,7 +126,7 @@ fn work<S: Identity>(
         for part in 0..3 {
             let call = call(alloc, env, part, turn)?;
             if account
-                .submit(rt, &mut tally, &mut token, 0, call, Some(Quiet))
+                .submit(rt, &mut tally, &mut token, 0, call, Some(Quiet), &AtOnce)
                 .is_ok()
             {
                 taken = taken.saturating_add(1);
