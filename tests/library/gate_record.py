@@ -79,10 +79,10 @@ def costs_of(record: str) -> str:
     found, earlier = seconds_of(record), earlier_of(record)
     ordered = sorted(found, key=lambda it: -found[it])
     whose = "all crates" if len(earlier) == len(found) else ", ".join(f"`{it}`" for it in earlier)
-    of_earlier = (f"; {sum(found[it] for it in earlier) / 60:.0f} of them in other runs on that machine, which "
-                  f"proved {whose}") if earlier else ""
+    of_earlier = (f"; {sum(found[it] for it in earlier) / 60:.0f} of them in other runs on that machine than its "
+                  f"gate, which proved {whose}") if earlier else ""
     return (f"{', '.join(f'`{it}` {found[it]}' for it in ordered)}: {sum(found.values()) / 60:.0f} CPU minutes in all, "
-            f"in the gate at {line_of(record, 'commit')}{of_earlier}.\n") if found else ""
+            f"at {line_of(record, 'commit')}{of_earlier}.\n") if found else ""
 
 
 def with_costs(page: str, record: str) -> str:
@@ -102,6 +102,13 @@ def place_of(root: str, record: str) -> int:
     return refusals.place(root, line_of(record, "commit").replace("-dirty", ""))
 
 
+def present(root: str) -> str:
+    """A record of the tree as it is, of which no gate on this machine tells."""
+    return (f"commit {refusals.git(root, 'rev-parse', '--short=8', 'HEAD')}\n"
+            f"day {time.strftime('%Y-%m-%d', time.gmtime())}\nkit {told(root, ['rt', 'version'])}\n"
+            f"processors {len(os.sched_getaffinity(0))}\n")
+
+
 def keep_costs(root: str, gate: str, table: str) -> str:
     """Brings into the tree what the proof of each of its crates cost, by the record of a gate, and by what runs on that
     machine have kept of the same sources since. Tells that, or of which crates neither has it."""
@@ -110,7 +117,7 @@ def keep_costs(root: str, gate: str, table: str) -> str:
         found = {**crate_seconds.known(sums, table), **found}
     unknown = [it for it in sums if it not in found]
     if unknown:
-        return (f"{CRATES} stays as it is: for the gate at {commit} no run has kept the CPU seconds of "
+        return (f"{CRATES} stays as it is: at {commit} no run has kept the CPU seconds of "
                 f"{', '.join(unknown)} (tests/gate --anew NAME .. keeps them)")
     others = [it for it in sums if it not in seconds_of(gate) or it in earlier_of(gate)]
     costs = "".join(f"{it} {line_of(gate, it)}\n" for it in OF_GATE if line_of(gate, it)) + "".join(
@@ -118,12 +125,12 @@ def keep_costs(root: str, gate: str, table: str) -> str:
     records.write(os.path.join(root, CRATES), costs)
     page = records.text_of(os.path.join(root, COSTS))
     records.write(os.path.join(root, COSTS), with_costs(page, costs))
-    return f"{CRATES} and {COSTS}: the gate at {commit}"
+    return f"{CRATES} and {COSTS}: those at {commit}"
 
 
 def keep_in_tree(root: str, folder: str) -> Iterator[str]:
     """Brings into the tree what gates have left in a folder, if it is newer; tells what it changed."""
-    if not any(os.path.exists(os.path.join(folder, it)) for it in ("GATE", "FROM_SCRATCH", "REFUSED", "MEASURED")):
+    if not any(os.path.exists(os.path.join(folder, it)) for it in ("GATE", "FROM_SCRATCH", "REFUSED", "MEASURED", "CRATES")):
         raise ValueError(f"no gate has left anything in {folder}")
     scratch, gate = (records.text_of(os.path.join(folder, it)) for it in ("FROM_SCRATCH", "GATE"))
     if is_newer(root, scratch, records.text_of(os.path.join(root, SCRATCH))):
@@ -132,8 +139,11 @@ def keep_in_tree(root: str, folder: str) -> Iterator[str]:
     for name, record in (("FROM_SCRATCH", scratch), ("GATE", gate)):
         if record and not place_of(root, record):
             yield f"{name} is passed over: it is of {line_of(record, 'commit')}, which HEAD does not continue"
+    table = os.path.join(folder, "CRATES")
+    if not place_of(root, gate) and crate_seconds.known(crate_seconds.sums_of(root), table):
+        gate = present(root)
     if is_newer(root, gate, records.text_of(os.path.join(root, CRATES))):
-        yield keep_costs(root, gate, os.path.join(folder, "CRATES"))
+        yield keep_costs(root, gate, table)
     before = refusals.read(os.path.join(root, refusals.NOTED))
     after = refusals.known(root, os.path.join(folder, "REFUSED"))
     if before != after:

@@ -180,8 +180,8 @@ class GateRecord(Case):
         self.check("none are told of", "there is no .ci/CRATE_SECONDS yet" in evidence.age_of_costs(self.root))
         first = self.change("page.md", "first")
         second = self.change("page.md", "second")
-        told = f"{gate_record.CRATES} and {gate_record.COSTS}: the gate at {second}"
-        unknown = (f"{gate_record.CRATES} stays as it is: for the gate at {second} no run has kept the CPU seconds of "
+        told = f"{gate_record.CRATES} and {gate_record.COSTS}: those at {second}"
+        unknown = (f"{gate_record.CRATES} stays as it is: at {second} no run has kept the CPU seconds of "
                    "a (tests/gate --anew NAME .. keeps them)")
         for what, at, costs, wanted in (("one is not known", second, "b 620", [unknown]),
                                         ("all are", second, "a 5, b 620", [told]),
@@ -193,8 +193,8 @@ class GateRecord(Case):
         self.check("they are kept", self.text(gate_record.CRATES),
                    f"commit {second}\nday 2026-12-01\ncrate_seconds a 5, b 620\nearlier_crates b\n")
         page = self.text(gate_record.COSTS)
-        self.check("the page has them", page, f"# Costs\n{gate_record.MARK}`b` 620, `a` 5: 10 CPU minutes in all, in "
-                   f"the gate at {second}; 10 of them in other runs on that machine, which proved `b`.\n\nmore\n")
+        self.check("the page has them", page, f"# Costs\n{gate_record.MARK}`b` 620, `a` 5: 10 CPU minutes in all, at "
+                   f"{second}; 10 of them in other runs on that machine than its gate, which proved `b`.\n\nmore\n")
         self.check("and may not tell otherwise", [len([*evidence.costs(self.root, page.replace("620", figure))])
                                                   for figure in ("620", "610")], [0, 1])
         self.check("their age is told", evidence.age_of_costs(self.root),
@@ -214,11 +214,22 @@ class GateRecord(Case):
         self.check("by what it proved", self.text(gate_record.CRATES),
                    f"commit {at}\ncrate_seconds a 5, b 620\nearlier_crates a\n")
 
+    def test_no_gate_is_needed_for_the_costs(self) -> None:
+        self.repository()
+        at = self.change("page.md", "first")
+        for crate, wanted in (("a", f"{gate_record.CRATES} stays as it is: at {at} no run has kept the CPU seconds of b "
+                                    "(tests/gate --anew NAME .. keeps them)"),
+                              ("b", f"{gate_record.CRATES} and {gate_record.COSTS}: those at {at}")):
+            crate_seconds.note({f"{crate} {crate_seconds.sum_of(self.root, crate)}": 5})
+            self.check(crate, [*gate_record.keep_in_tree(self.root, records.folder())], [wanted])
+        self.check("they are kept", self.text(gate_record.CRATES).splitlines()[-2:],
+                   ["crate_seconds a 5, b 5", "earlier_crates a, b"])
+
     def test_what_a_page_says_of_costs(self) -> None:
         record = "commit 1\ncrate_seconds a 5, b 620, c 30\ngate 1 passed, 0 failed\n"
         page = f"# Costs\n{gate_record.MARK}`a` 1\n\nmore\n"
         self.check("the most expensive first", gate_record.with_costs(page, record), f"# Costs\n{gate_record.MARK}"
-                   "`b` 620, `c` 30, `a` 5: 11 CPU minutes in all, in the gate at 1.\n\nmore\n")
+                   "`b` 620, `c` 30, `a` 5: 11 CPU minutes in all, at 1.\n\nmore\n")
         self.check("all of earlier runs", "which proved all crates." in gate_record.with_costs(
             page, record + "earlier_crates a, b, c\n"))
         self.check("it stays without them", gate_record.with_costs(page, "commit 1\n"), page)
