@@ -11,6 +11,7 @@ from typing import Any
 from unittest import mock
 
 from lambda_local import endpoint
+from lambda_local.exchange import connection, of_threads
 from lambda_local.in_process import LambdaLocal
 from lambda_local.program import Fault
 from lambda_local.trouble import Trouble as Asking, parser
@@ -167,6 +168,8 @@ class Trouble(Case):
                 self.check("an answer that is too long", fault_of("cold", server), (
                     4, f"http://127.0.0.1:{server.server_port}: its answer has more than 19 bytes, so it is none of "
                        "lambda_local"))
+            with mock.patch.object(connection, "MOST_WHOLE", 19), self.assertRaisesRegex(OSError, "more than 19 bytes"):
+                of_threads.ask(server.server_port, "GET", "/")
             server.cut = 3
             self.check("one that is cut short", fault_of("cold", server)[1].partition(": start")[0],
                        f"http://127.0.0.1:{server.server_port}: the connection ends within a message")

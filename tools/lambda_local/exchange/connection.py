@@ -2,7 +2,6 @@
 have. It is written once for threads and for tasks: it waits by `more` and `write` alone, in which a thread blocks
 (`of_threads`) and a task gives others their turn (`of_tasks`)."""
 import errno
-import sys
 from typing import AsyncIterable, AsyncIterator, List, Optional, Sequence, Tuple
 
 from ..http1 import (CLOSED, NEED_DATA, PAUSED, Data, Event, Malformed, Response, ResponseReader, chunk,
@@ -11,6 +10,7 @@ from ..http1 import (CLOSED, NEED_DATA, PAUSED, Data, Event, Malformed, Response
 LOCAL = "127.0.0.1"
 NO_DESCRIPTOR = (errno.EMFILE, errno.ENFILE)
 MOST_INTERIM = 1000  # responses of 1xx before an answer
+MOST_WHOLE = 1 << 30  # bytes of a body that is read whole, where no other limit is given
 Fields = Sequence[Tuple[str, str]]
 
 
@@ -73,23 +73,25 @@ class Answer:
             if self.length is None:
                 await self.connection.turn()
 
-    async def whole(self, most: int = sys.maxsize) -> bytes:
-        """All of its body; TooLong if it has more bytes than that."""
+    async def whole(self, most: Optional[int] = None) -> bytes:
+        """All of its body; TooLong if it has more bytes than that. Unanswered if none is given, and it has too many."""
+        fault = Unanswered(f"it has more than {MOST_WHOLE} bytes") if most is None else TooLong()
+        most = MOST_WHOLE if most is None else most
         if self.length is not None and self.length > most:
-            raise TooLong
+            raise fault
         parts: List[bytes] = []
         size = 0
         async for piece in self.pieces():
             size += len(piece)
             if size > most:
-                raise TooLong
+                raise fault
             parts.append(piece)
         return parts[0] if len(parts) == 1 else b"".join(parts)
 
 
 class Connection:
-    """`host` is what requests name, HOST:PORT. What waits raises Unanswered if the connection breaks, or if nothing
-    comes for `silence` seconds."""
+    """`host` is what requests name, HOST:PORT. What waits raises OSError if the connection breaks, and that is Unanswered
+    if the peer has ended it, or if nothing comes for `silence` seconds."""
 
     def __init__(self, host: str, silence: Optional[float] = None) -> None:
         self.host, self.silence = host, silence

@@ -2,8 +2,7 @@
 which takes longer to import than a command has. A thread blocks in each of its steps."""
 import contextlib
 import socket
-import sys
-from typing import Coroutine, Dict, Iterator, Mapping, Tuple, TypeVar, Union, cast
+from typing import Coroutine, Dict, Iterator, Mapping, Optional, Tuple, TypeVar, Union, cast
 
 from .connection import LOCAL, Answer, Connection, Silent
 
@@ -69,8 +68,8 @@ class Answered:
         while piece := done(self._answer.piece()):
             yield piece
 
-    def whole(self, most: int = sys.maxsize) -> bytes:
-        """All of its body; TooLong if it has more bytes than that."""
+    def whole(self, most: Optional[int] = None) -> bytes:
+        """All of its body, as `Answer.whole` has it."""
         return done(self._answer.whole(most))
 
 
