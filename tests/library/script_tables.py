@@ -13,6 +13,7 @@ GROUPS: Dict[str, Tuple[str, ...]] = {
     "sockets": ("sockets",)}
 # Those of scripts, which lambda_local itself reads.
 SCRIPTS = ("replays", "traces")
+SECONDS = 600  # for one of them, on a machine that is busy
 
 
 class Case(NamedTuple):
@@ -97,7 +98,10 @@ def status_of(case):
 
 def fault_of(program, case, words=("replay",)):
     """What is wrong with what this program makes of a case; nothing if it gives what is wanted."""
-    ran = subprocess.run([program, *words], input=case.script, stdout=subprocess.PIPE, stderr=subprocess.PIPE,
-                         timeout=60)
+    try:
+        ran = subprocess.run([program, *words], input=case.script, stdout=subprocess.PIPE, stderr=subprocess.PIPE,
+                             timeout=SECONDS)
+    except subprocess.TimeoutExpired:
+        return f"has not ended after {SECONDS} s"
     seen = ran.stdout.decode() + (f"{ran.stderr.decode().strip()}, status {ran.returncode}\n" if ran.returncode else "")
     return "" if seen == case.gives else f"gives {seen!r}, wanted {case.gives!r}"
