@@ -12,10 +12,10 @@ import time
 from typing import Any, List
 from unittest import mock
 
-from lambda_local.front.storm import Gate, root_of
+from lambda_local.front.storm import Gate, Trouble, root_of
 from lambda_local.in_process import FunctionError, LambdaLocal
 from lambda_local.in_storm import InMaker
-from lambda_local.storm import INIT, KINDS, SPARED, THROTTLE, Course, Storm, storm_of
+from lambda_local.storm import INIT, KINDS, SPARED, THROTTLE, TIMEOUT, Course, Ordered, Storm, storm_of
 from lambda_local.up.following import REST
 from lambda_local.up.troubles import Troubles
 from tests.library.cases import Case
@@ -104,6 +104,24 @@ async def held_by_two():
     for it in waiting:
         it.cancel()
     return seen
+
+
+async def come_with_the_answer():
+    """What is told of trouble that has come about in the turn in which its invocation's answer ends."""
+    lines = []
+
+    class AtOnce(Ordered):
+        async def call_off(self, why):
+            self.end(True, "its-request")
+
+    async def arrange(function, kind, progress):
+        return AtOnce(function, kind, progress)
+    maker: Any = mock.Mock(kinds_of=lambda _: KINDS, working=mock.AsyncMock(return_value=0), arrange=arrange)
+    gate = Gate(Storm(7, 1.0), maker, 0, lambda _, text, **members: lines.append((text, members["made"])))
+    lane = gate.lane_of("f")
+    async with gate.troubled(Trouble("f", 1, TIMEOUT, lane)):
+        pass
+    return lines
 
 
 class Choices(Case):
@@ -249,6 +267,10 @@ class OfUp(Case):
     def test_two_timeouts_at_once_hold_all_that_comes_until_both_have_moved_the_clock(self):
         """One ends first: no invocation is sent and no Init begins before the other ends too, and both do then."""
         self.check("two hold, one does, none does", asyncio.run(held_by_two()), [[False] * 2] * 2 + [[True] * 2])
+
+    def test_trouble_that_comes_with_the_answer_has_come(self):
+        self.check("it is told once, as what came", asyncio.run(come_with_the_answer()),
+                   [("storm 7: f #1, its-request: timeout", True)])
 
     def test_faults_of_the_option_are_told(self):
         for words, wanted in ((["--storm", "x"], "--storm: invalid SEED[:RATE]"),

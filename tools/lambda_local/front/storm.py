@@ -193,6 +193,7 @@ class Gate:
                 await self.reserve(trouble.function, trouble.reserved)
             if trouble.order and not trouble.is_over:
                 await trouble.order.call_off(outcome.why)
+                await asyncio.sleep(0)  # (what has become of it is told in a turn of its own, which comes first)
         finally:
             self.over(trouble, trouble.outcome or outcome)
 
