@@ -130,7 +130,8 @@ def keep_costs(root: str, gate: str, table: str) -> str:
 
 def keep_in_tree(root: str, folder: str) -> Iterator[str]:
     """Brings into the tree what gates have left in a folder, if it is newer; tells what it changed."""
-    if not any(os.path.exists(os.path.join(folder, it)) for it in ("GATE", "FROM_SCRATCH", "REFUSED", "MEASURED", "CRATES")):
+    if not any(os.path.exists(os.path.join(folder, it)) for it in (
+            "GATE", "FROM_SCRATCH", "REFUSED", "MEASURED", "CRATES")):
         raise ValueError(f"no gate has left anything in {folder}")
     scratch, gate = (records.text_of(os.path.join(folder, it)) for it in ("FROM_SCRATCH", "GATE"))
     if is_newer(root, scratch, records.text_of(os.path.join(root, SCRATCH))):

@@ -217,8 +217,8 @@ class GateRecord(Case):
     def test_no_gate_is_needed_for_the_costs(self) -> None:
         self.repository()
         at = self.change("page.md", "first")
-        for crate, wanted in (("a", f"{gate_record.CRATES} stays as it is: at {at} no run has kept the CPU seconds of b "
-                                    "(tests/gate --anew NAME .. keeps them)"),
+        for crate, wanted in (("a", f"{gate_record.CRATES} stays as it is: at {at} no run has kept the CPU seconds of "
+                                    "b (tests/gate --anew NAME .. keeps them)"),
                               ("b", f"{gate_record.CRATES} and {gate_record.COSTS}: those at {at}")):
             crate_seconds.note({f"{crate} {crate_seconds.sum_of(self.root, crate)}": 5})
             self.check(crate, [*gate_record.keep_in_tree(self.root, records.folder())], [wanted])
