@@ -90,8 +90,8 @@ class Answer:
 
 
 class Connection:
-    """`host` is what requests name, HOST:PORT. What waits raises OSError if the connection breaks; that is Unanswered if
-    the peer has ended it, or if nothing comes for `silence` seconds."""
+    """`host` is what requests name, HOST:PORT. What waits raises OSError if the connection breaks; that is Unanswered
+    if the peer has ended it, or if nothing comes for `silence` seconds."""
 
     def __init__(self, host: str, silence: Optional[float] = None) -> None:
         self.host, self.silence = host, silence
